@@ -1,4 +1,4 @@
--- What programs make, on small ones.
+-- Worked by hand: what small programs store, submit and reclaim.
 use Rattle.std.proofs.Common.{◌≡◌, ℕ, List, [], ◌∷◌, refl, arith, lit≤, lit<}
 use Rattle.std.proofs.lemmas.List.Elements.{All-nil, All-cons}
 use Rattle.app_program.specs.declared.program.ProgramLine.{ProgramLine}
@@ -30,7 +30,7 @@ fits_its_heap = record {
   few = lit≤ tt;
 }
 
--- ---- a client that spins between two calls, and gives back what it doesn't have
+-- ---- a client that spins between two calls, and reclaims blocks that it doesn't have
 
 abbrev two_calls : List ProgramLine
 two_calls = Store 2 7 ∷ Submit 0 2 ∷ Spin 2 3 5 6 ∷ Reclaim 9 ∷ Submit 1 4 ∷ Spin 0 3 8 8 ∷ []
@@ -44,7 +44,7 @@ each_behind_its_stores = refl
 one_back : reclaims_of two_calls ≡ 9 ∷ []
 one_back = refl
 
--- a client doesn't reply, and word 0 is nobody's
+-- a client doesn't reply, and word 0 is reserved
 no_reply_of_a_client : IsClientProgram 64 (Reply 2 ∷ []) → ⊥
 no_reply_of_a_client p = p.each 0 (Reply 2) (omega arith)
 

@@ -1,9 +1,10 @@
-//! Programs of applications, as data: the lines that a client does once, and a server for each request that it is
-//! delivered; what they store, submit and give back, in order; and which programs a client and a server may have for a
-//! heap of so many words.
+//! Programs of applications, as data. A client executes the lines of its program once, a server once for each
+//! delivered request. The definitions give what a program stores, submits and reclaims, in order, and which
+//! programs a client and a server may have for a heap of a given size.
 //!
-//! The crate has types and definitions alone, and stands on `mrpc_table`. Who reads a program keeps to what the
-//! definitions allow (a plan promises it), and who runs one finds what it has to do by the same definitions.
+//! The crate has types and definitions alone, and uses `mrpc_table`. Readers of programs accept only what the
+//! definitions allow, as plans guarantee, and the applications that execute a program follow the same
+//! definitions.
 #![tactic(auto)]
 
 mod program;

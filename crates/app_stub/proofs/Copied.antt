@@ -1,4 +1,4 @@
--- What a copy comes to for an echo.
+-- The outcome of a copy, for an echo.
 use Rattle.std.proofs.Common.{◌≡◌, ◌≢◌, ℕ, ◌<◌, ◌≤◌, ◌==◌, ◌&&◌, true, false, List, Option, Some, None, IfSome}
 use Rattle.std.proofs.Common.{MatchOption, refl, ap, sym, subst, ◌∙◌, length, arith, nat_lt}
 use Rattle.std.proofs.lemmas.Bool.Decides.{nat_tests}

@@ -1,4 +1,4 @@
--- What an echo makes of one request, on a small one.
+-- Worked by hand: what an echo does for one small request.
 use Rattle.std.proofs.Common.{◌≡◌, ℕ, ◌+◌, ◌<◌, ◌≤◌, [], ◌∷◌, false, codes, refl, arith, lit≤, lit<}
 use Rattle.std.proofs.lemmas.List.Elements.{All-from_recursion}
 use Rattle.mrpc_table.specs.Node.{Node, no_fields, field, one, number}
@@ -101,7 +101,7 @@ stands = record {
   few = lit≤ tt;
 }
 
--- it is replied to from the first slice, behind one store
+-- its reply is in the first slice, after one store
 abbrev done : Done
 done = record {
   copies = copy ∷ [];

@@ -1,4 +1,4 @@
--- What an echo did, one notice further.
+-- What an echo did, after one more notice.
 use Rattle.std.proofs.Common.{◌≡◌, ℕ, ◌+◌, List, [], ◌∷◌, ◌++◌, Some, None, refl, ap, sym, ◌∙◌, subst, length, length-append, append-nil, map, flat_map}
 use Rattle.std.proofs.lemmas.List.{map-append}
 use Rattle.std.proofs.lemmas.List.Concat.{flat_map-cons}
@@ -38,7 +38,7 @@ loads_further copies copy old new before more =
     ∙ ap (λ xs. flat_map loads_in copies ++ xs) (sym (flat_map-cons loads_in copy [] ∙ append-nil (loads_in copy)))
     ∙ sym (flat_map-append loads_in copies (copy ∷ []))
 
--- a notice that is not replied to
+-- a notice without a reply
 pub echoed_alone : (e : Echo) (notices : List Descriptor) (d : Descriptor) (stores : List (ℕ × ℕ)) (calls : List Submission)
     (old new : Reading)
     → Echoed e notices stores calls old → CopiesTo e d old new None → Echoed e (notices ++ d ∷ []) stores calls new
@@ -62,7 +62,7 @@ echoed_alone e notices d stores calls old new before (made copy is_copied of no_
       loaded = loads_further before.done.copies copy _ _ before.loaded loads;
     }
 
--- a notice that is replied to
+-- a notice with a reply
 pub echoed_reply : (e : Echo) (notices : List Descriptor) (d : Descriptor) (tree : Node)
     (stores more : List (ℕ × ℕ)) (calls all : List Submission) (old new : Reading)
     → Echoed e notices stores calls old → CopiesTo e d old new (Some tree)

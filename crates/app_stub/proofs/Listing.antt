@@ -1,4 +1,4 @@
--- Lists that programs determine, one line more.
+-- Lists that programs determine, after one more line.
 use Rattle.std.proofs.Common.{◌≡◌, ℕ, zero, suc, ◌+◌, ◌*◌, ◌<◌, ◌≤◌, List, [], ◌∷◌, ◌++◌, refl, ap, sym, ◌∙◌, length}
 use Rattle.std.proofs.Common.{take, get_or, arith, length-append, append_assoc, append-nil, zero-add, add-zero}
 use Rattle.std.proofs.Common.{add-one, flat_map}
@@ -25,7 +25,7 @@ pub length-spun : (n : ℕ) (a b : ℕ × ℕ) → length (spun n a b) ≡ 2 * n
 length-spun zero a b = refl
 length-spun (suc n) a b = omega (arith, length-spun n a b)
 
--- ---- one line more
+-- ---- one more line
 
 more_of : {X A : Type 0} (f : X → List A) (xs : List X) (i : ℕ) (d : X) → i < length xs
     → flat_map f (take (i + 1) xs) ≡ flat_map f (take i xs) ++ f (get_or xs i d)
@@ -59,7 +59,7 @@ submits_more : (made : ℕ) (lines : List ProgramLine) (i : ℕ) (d : ProgramLin
 submits_more made lines i d below =
     ap (submits_of made) (take_more lines i d below) ∙ submits_of-snoc made (take i lines) (get_or lines i d)
 
--- what a client submitted, one line further
+-- what a client submitted, after one more line
 pub submits_further : (lines : List ProgramLine) (i : ℕ) (d : ProgramLine) (stores : List (ℕ × ℕ)) (old new : List Submission)
     → i < length lines → stores ≡ stores_of (take i lines) → old ≡ submits_of 0 (take i lines)
     → new ≡ old ++ line_submits (length stores) (get_or lines i d) → new ≡ submits_of 0 (take (i + 1) lines)

@@ -1,10 +1,10 @@
--- Slices lie in the heap, and those of near replies apart.
+-- Slices are in the heap, and the slices of nearby replies are disjoint.
 use Rattle.std.proofs.Common.{◌≡◌, ℕ, ◌+◌, ◌-◌, ◌*◌, ◌/◌, ◌%◌, ◌<◌, ◌≤◌, ◌⊎◌, inl, inr, arith}
 use Rattle.std.proofs.Math.Nat.{mul-div-le, mul-le-mul_left, mul-le-mul_right}
 use Rattle.std.proofs.lemmas.Bool.{cases_lt, cases_order}
 use Rattle.app_stub.specs.Echoing.{IsInSlice, slice_at, slice_words}
 
--- the slices of so many words fill no more than there are
+-- slices of this size fill no more words than there are
 pub slice_fits : (words m k : ℕ) → 0 < m → (k % m) * (words / m) + words / m ≤ words
 slice_fits words m k some =
     let below : k % m + 1 ≤ m = omega arith in
@@ -12,7 +12,7 @@ slice_fits words m k some =
     let all = mul-div-le words m in
     omega (arith, most, all)
 
--- numbers that are fewer than m apart leave different rests
+-- numbers fewer than m apart have different remainders
 pub rests_differ : (i j m : ℕ) → i < j → j < i + m → i % m ≡ j % m → ⊥
 rests_differ i j m less near same = by_order (cases_lt (i / m) (j / m))
   where
@@ -27,7 +27,7 @@ rests_differ i j m less near same = by_order (cases_lt (i / m) (j / m))
         let some : 0 < m = omega (arith, less, near) in
         omega (arith, h, some, same, less, near)
 
--- slices of different numbers have no common place
+-- slices with different numbers have no place in common
 pieces_apart : (words a b place : ℕ) → a < b → place < 2 + a * words + words → 2 + b * words ≤ place → ⊥
 pieces_apart words a b place less below from =
     let less' : a + 1 ≤ b = omega (arith, less) in

@@ -1,4 +1,4 @@
--- What a server makes of its notices, on a small program.
+-- Worked by hand: what a server does for its notices, on a small program.
 use Rattle.std.proofs.Common.{◌≡◌, ℕ, List, [], ◌∷◌, false, refl}
 use Rattle.descriptor_ring.specs.declared.descriptor.Descriptor.{Descriptor}
 use Rattle.descriptor_ring.specs.Heaps.{no_heap}
@@ -25,7 +25,7 @@ notice kind method number = record {
   note = record { heap = no_heap; stores = []; last = false };
 }
 
--- two requests, a reply, and a request of the number 0
+-- two requests, a reply, and a request with number 0
 abbrev four_notices : List Descriptor
 four_notices = notice 1 0 1 ∷ notice 2 0 4 ∷ notice 1 0 0 ∷ notice 1 3 2 ∷ []
 

@@ -1,4 +1,4 @@
--- What a server makes of notices, one notice more.
+-- What a server does for notices, after one more notice.
 use Rattle.std.proofs.Common.{◌≡◌, ℕ, ◌+◌, ◌*◌, ◌≤◌, List, [], ◌∷◌, ◌++◌, ap, sym, ◌∙◌, length, arith, length-append}
 use Rattle.std.proofs.Common.{append_assoc, append-nil, zero-add}
 use Rattle.std.proofs.lemmas.List.Concat.{flat_map-cons}
@@ -31,7 +31,7 @@ all_served_replies-snoc lines made (x ∷ notices) d =
     (served_replies lines (next + length (all_served_stores lines notices) + last) d))
     ∙ ap (λ n. (served_replies lines next x ++ all_served_replies lines next notices) ++ served_replies lines n d) counted
 
--- what a server stored, one notice further
+-- what a server stored, after one more notice
 pub stores_further : (lines : List ProgramLine) (notices all : List Descriptor) (d : Descriptor) (old new : List (ℕ × ℕ))
     → all ≡ notices ++ d ∷ [] → old ≡ all_served_stores lines notices → new ≡ old ++ served_stores lines d
     → new ≡ all_served_stores lines all

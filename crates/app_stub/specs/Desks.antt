@@ -1,4 +1,4 @@
--- The code's own: what an echo works with, between two notices, and what its parts make of one.
+-- The code's own: the state of an echo between two notices, and what a notice makes of its parts.
 use Rattle.std.specs.Prelude.{◌≡◌, ℕ, ◌*◌, ◌≤◌, List, [], ◌∷◌, ◌++◌, length, map, Option, None, true, false, MatchOption}
 use Rattle.mrpc_table.specs.Calls.{message_of}
 use Rattle.mrpc_table.specs.Node.{Node}
@@ -21,7 +21,7 @@ use Rattle.app_program.specs.Programs.{Submission}
 abbrev pub echo_of : Table → Desk → Echo
 echo_of T desk = record { table = T; heap = desk.writer.heap.words; receive = desk.reader.heap.words; ring = desk.ring }
 
--- a desk, beside the sender of its replies
+-- a desk, together with the sender of its replies
 pub record IsDesk (desk : Desk) (sender : Sending) : Type 0 where
   pub heap_of : sender.heap ≡ desk.writer.heap
   pub least_heap : MIN_HEAP ≤ desk.writer.heap.words
@@ -43,7 +43,7 @@ pub record IsNewDesk (desk : Desk) (delivery : Delivery) (outgoing : Outgoing) :
   pub taken : delivery.notices.taken ≡ []
   pub numbers : delivery.blocks.taken ≡ []
 
--- what a notice was copied to: the tree by which it is replied to, if it is
+-- the copy of a notice's request: the tree of the reply, if there is one
 pub data CopiesTo (e : Echo) (d : Descriptor) (old new : Reading) (tree : Option Node) : Type 0 where
   left : is_copied e.table d ≡ false → tree ≡ None → map word_of new.loads ≡ map word_of old.loads
       → ((calls : List CallLoads) → Fresh calls old.known → Fresh calls new.known)
@@ -55,7 +55,7 @@ pub data CopiesTo (e : Echo) (d : Descriptor) (old new : Reading) (tree : Option
       → ((calls : List CallLoads) → Fresh calls old.known → Fresh (calls ++ copy.loads ∷ []) new.known)
       → CopiesTo e d old new tree
 
--- the tree was placed in the next slice, and a reply was sent behind these stores
+-- the tree was placed in the next slice, and a reply was sent after these stores
 pub record PlacedReply (e : Echo) (method number : ℕ) (tree : Node) (old new : List (ℕ × ℕ) × List Submission) : Type 0 where
   pub placed : Placed
   pub stands : StandsIn e.table e.heap (message_of e.table method Reply) tree (slice_at e.heap e.ring (length old.1))

@@ -16,11 +16,11 @@ use Rattle.app_stub.specs.Serving.{is_request, reply_to}
 
 -- ---- slices
 
--- the words of each slice of a heap, which has two more of them than its ring holds calls
+-- the size of each slice in words; there are two slices more than the ring holds calls
 abbrev pub slice_words : (heap ring : ℕ) → ℕ
 slice_words heap ring = (heap - 2) / (ring + 2)
 
--- where the slice of a reply begins, behind so many replies: they are used in turn
+-- the first place of a reply's slice, given the number of replies before it; slices are used in turn
 abbrev pub slice_at : (heap ring replies : ℕ) → ℕ
 slice_at heap ring replies = 2 + (replies % (ring + 2)) * slice_words heap ring
 
@@ -31,20 +31,19 @@ pub record IsInSlice (heap ring replies place : ℕ) : Type 0 where
 
 -- ---- one notice
 
--- an echo: the table, the words of its heap and of the heap where its messages are delivered, and how many calls its
--- ring holds
+-- an echo: the table, the words of its own heap and of its receive heap, and the capacity of its ring
 pub record Echo : Type 0 where
   pub table : Table
   pub heap : ℕ
   pub receive : ℕ
   pub ring : ℕ
 
--- a copy of a request: its loads, which are behind so many stores, and what they come to
+-- a copy of a request: its loads, with the number of stores before them, and its outcome
 pub record Copying : Type 0 where
   pub loads : CallLoads
   pub outcome : Outcome
 
--- whether a notice tells of a request of a method that the table has: each of these is copied
+-- whether a notice is of a request of a method that the table has: each of these is copied
 abbrev pub is_copied : Table → Descriptor → Bool
 is_copied T d = is_request d && nat_lt d.method (length T.methods)
 
@@ -53,34 +52,34 @@ pub record IsCopyOf (e : Echo) (d : Descriptor) (copy : Copying) : Type 0 where
   pub comes : ComesTo e.table e.receive (message_of e.table d.method Request) d.addr MAX_LOADS copy.loads.loads copy.outcome
   pub after : copy.loads.after ≡ d.stores
 
--- a request of a method and a number, whose copy is this tree, has a reply: its number isn't 0, the method's input is
--- its output, and the tree fits a slice
+-- a request whose copy is this tree has a reply: its number isn't 0, the method's input is its output, and the
+-- tree fits into a slice
 pub record HasReply (e : Echo) (method number : ℕ) (tree : Node) : Type 0 where
   pub numbered : 1 ≤ number
   pub types : message_of e.table method Request ≡ message_of e.table method Reply
   pub fits : tree_words e.table (message_of e.table method Reply) tree ≤ slice_words e.heap e.ring
 
--- a request has a reply by its copy, which is this tree
+-- a request has a reply, since its copy is this tree
 pub record IsReplied (e : Echo) (d : Descriptor) (copy : Copying) (tree : Node) : Type 0 where
   pub comes_to : copy.outcome ≡ copied tree
   pub has : HasReply e d.method d.number tree
 
--- what an echo did: the copies that it made, its stores, and its replies, in order
+-- what an echo did: its copies, its stores, and its replies, in order
 pub record Done : Type 0 where
   pub copies : List Copying
   pub stores : List (ℕ × ℕ)
   pub calls : List Submission
 
--- what an echo does for a notice, behind what it did before
+-- what an echo does for a notice, after what it did before
 pub data Echoes (e : Echo) (d : Descriptor) (old new : Done) : Type 0 where
-  -- a reply, or a request of no method of the table: nothing
+  -- a notice of a reply, or of a method that the table lacks: nothing
   nothing : is_copied e.table d ≡ false → new ≡ old → Echoes e d old new
   -- a copy, and no reply
   only_copy : (copy : Copying)
       → is_copied e.table d ≡ true → IsCopyOf e d copy → ((tree : Node) → IsReplied e d copy tree → ⊥)
       → new ≡ record { copies = old.copies ++ copy ∷ []; stores = old.stores; calls = old.calls }
       → Echoes e d old new
-  -- a copy, whose tree is placed in the next slice, and a reply behind these stores
+  -- a copy, whose tree is placed in the next slice, and a reply after these stores
   replies : (copy : Copying) (tree : Node) (placed : Placed)
       → is_copied e.table d ≡ true → IsCopyOf e d copy → IsReplied e d copy tree
       → StandsIn e.table e.heap (message_of e.table d.method Reply) tree (slice_at e.heap e.ring (length old.calls))
@@ -93,7 +92,7 @@ pub data Echoes (e : Echo) (d : Descriptor) (old new : Done) : Type 0 where
       }
       → Echoes e d old new
 
--- what an echo did for some notices, one behind the other
+-- what an echo did for some notices, in order
 abbrev pub AllEchoes : Echo → List Descriptor → Done → Done → Type 0
 AllEchoes e [] old new = new ≡ old
 AllEchoes e (d ∷ notices) old new = (next : Done) × Echoes e d old next × AllEchoes e notices next new
@@ -101,8 +100,8 @@ AllEchoes e (d ∷ notices) old new = (next : Done) × Echoes e d old next × Al
 abbrev pub none_done : Done
 none_done = record { copies = []; stores = []; calls = [] }
 
--- an echo that took these notices made these stores and these replies, and its reader the loads of its copies and no
--- others, which are fresh for what the reader knows
+-- an echo that took these notices made these stores and these replies. Its reader made the loads of its copies
+-- and no others, and they are fresh for what the reader knows.
 pub record Echoed (e : Echo) (notices : List Descriptor) (stores : List (ℕ × ℕ)) (calls : List Submission)
     (reader : Reading) : Type 0 where
   pub done : Done

@@ -1,4 +1,4 @@
--- The port of an application, and what it leaves.
+-- The port of an application, and its state after the application ended.
 use Rattle.std.specs.Prelude.{◌≡◌, ℕ, List, [], IsTrue, map, true}
 use Rattle.descriptor_ring.specs.Rings.{RingId}
 use Rattle.app_stub.specs.declared.port.AppEnd.{AppEnd}
@@ -7,7 +7,7 @@ use Rattle.app_stub.specs.declared.port.AppSent.{AppSent}
 use Rattle.app_program.specs.Programs.{Submission}
 use Rattle.app_stub.specs.Serving.{submission_of}
 
--- a port at which nothing has happened: its rings are of its heaps
+-- an unused port: its rings belong to its heaps
 pub record IsNew {F : Type 0} (port : AppPort F) : Type 0 where
   pub calls : port.sender.heap ≡ port.writer.heap
   pub capacity : port.capacity ≡ port.sender.capacity
@@ -19,7 +19,7 @@ pub record IsNew {F : Type 0} (port : AppPort F) : Type 0 where
   pub numbers : port.blocks.taken ≡ []
   pub reclaimed : port.reclaims.sent ≡ []
 
--- what was left at a port: it is of the port's heaps and rings, and its note is the last of the writer
+-- the end of an application belongs to the port's heaps and rings, and its note is the writer's last
 pub record IsOfPort {F : Type 0} (port : AppPort F) (end : AppEnd) : Type 0 where
   pub heap : end.note.heap ≡ port.writer.heap
   pub last : end.note.last ≡ true
@@ -28,7 +28,7 @@ pub record IsOfPort {F : Type 0} (port : AppPort F) (end : AppEnd) : Type 0 wher
   pub notices_heap : end.notices.heap ≡ port.notices.heap
   pub blocks : end.blocks.ring ≡ port.blocks.ring
 
--- what the senders of two rings left: these calls and these blocks, all that were sent
+-- the final state of two senders: these calls and these blocks are all that were sent
 pub record HasSent (ring numbers : RingId) (submissions : List Submission) (blocks : List ℕ) (sent : AppSent)
     : Type 0 where
   pub calls_ring : sent.calls.ring ≡ ring
@@ -36,7 +36,7 @@ pub record HasSent (ring numbers : RingId) (submissions : List Submission) (bloc
   pub reclaims_ring : sent.reclaims.ring ≡ numbers
   pub reclaims : sent.reclaims.items ≡ blocks
 
--- the application took its notices, and the numbers of its blocks, to the closing of their rings
+-- the application took all notices and all block numbers, up to the closing of their rings
 pub record TookAll (end : AppEnd) : Type 0 where
   pub notices : IsTrue end.notices.closed
   pub blocks : IsTrue end.blocks.closed

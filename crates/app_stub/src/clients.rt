@@ -16,9 +16,9 @@ use shared_heap::Writer;
 use std::sync::Wait;
 use stop_flag::StopFlag;
 
-/// Runs a client: it does the lines of its program, closes the ring of its calls, takes its notices to their closing,
-/// gives the block of each back, and closes the ring of the blocks that it gives back. Where a ring is full or empty it
-/// waits, and ends once the stop flag is set. It takes no memory.
+/// Runs a client. It executes the lines of its program, closes the ring of its calls, takes its notices up to
+/// their closing, reclaims the block of each, and closes the ring of reclaimed blocks. Waits while a ring is full
+/// or empty, and ends once the stop flag is set. Never allocates.
 pub fn client<R: Wait, F: StopFlag + Drop>(rt: &R, program: &Program, port: AppPort<F>) -> AppEnd
     requires port { IsNew port }
     requires program { IsClientProgram port.writer.heap.words program.now }
@@ -28,8 +28,8 @@ pub fn client<R: Wait, F: StopFlag + Drop>(rt: &R, program: &Program, port: AppP
     ensures memory { result.memory ≡ false }
     ensures stopped { IfNone result.sent (F.may_be_set port.stop) }
 
-    // Unless the flag was seen set, its stores and its calls are those of the program, each call behind the stores
-    // before it, and it gave back what the program says and then the block of each notice.
+    // Unless it saw the flag set, its stores and calls are those of the program, each call after the stores before
+    // it. It reclaimed the blocks of the program, then the block of each notice.
     ensures stores { IfSome result.sent (λ _. result.note.stores ≡ stores_of program.now) }
     ensures sent { IfSome result.sent (HasSent port.sender.ring port.reclaims.ring (submits_of 0 program.now)
         (reclaims_of program.now ++ blocks_of result.notices.taken result.blocks.taken)) }
@@ -63,7 +63,7 @@ pub fn client<R: Wait, F: StopFlag + Drop>(rt: &R, program: &Program, port: AppP
     }
 }
 
-// What the client does, up to the closing of both its rings.
+// Runs the client until both its rings are closed.
 fn run<R: Wait, F: StopFlag>(
     rt: &R,
     stop: &F,
@@ -158,7 +158,8 @@ fn do_line<R: Wait, F: StopFlag>(
     }
 }
 
-// Takes the notices to their closing and gives the block of each back; then takes the numbers of blocks to theirs.
+// Takes the notices up to their closing and reclaims the block of each, then takes the block numbers up to their
+// closing.
 fn give_all_back<R: Wait, F: StopFlag>(
     rt: &R,
     stop: &F,

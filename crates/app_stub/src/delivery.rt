@@ -1,5 +1,4 @@
-//! What is delivered to an application, and what it sends besides calls: notices of messages, the numbers of their
-//! blocks, and the blocks that it gives back.
+//! The inputs of an application: notices of messages, and the numbers of their blocks, which it reclaims.
 
 ghost use Rattle.std.specs.Prelude.{◌≡◌, ◌<◌, ◌≤◌, ◌+◌, ◌^◌, ◌++◌, ℕ, List, false, OnOk, OnErr, IsTrue, length};
 ghost use Rattle.app_stub.specs.Serving.{blocks_of};
@@ -18,7 +17,7 @@ pub(crate) struct Delivery {
 }
 
 impl Delivery {
-    // Gives back the block of the notice that was taken last: the next number, unless no more come.
+    // Reclaims the block of the notice that was taken last: the next number, unless the ring is closed.
     pub(crate) fn give_back<R: Wait, F: StopFlag>(
         &mut self,
         rt: &R,
@@ -28,7 +27,7 @@ impl Delivery {
         requires due { IsDue self.old.notices.taken self.old.blocks }
         requires few { length reclaims.old.sent < 2 ^ 61 }
         ensures paired { OnOk result (IsPaired self.new.notices.taken self.new.blocks) }
-        // What is given back is what came.
+        // What is reclaimed is what arrived.
         ensures given { (first : List ℕ) → reclaims.old.sent ≡ first ++ self.old.blocks.taken
             → OnOk result (reclaims.new.sent ≡ first ++ self.new.blocks.taken) }
         ensures seen { OnErr result (F.may_be_set stop.now) }
@@ -42,7 +41,7 @@ impl Delivery {
         }
     }
 
-    // Takes the numbers to their closing. Those that come without a notice are left.
+    // Takes the numbers up to their closing. Numbers without a notice aren't reclaimed.
     pub(crate) fn finish<R: Wait, F: StopFlag>(&mut self, rt: &R, stop: &F) -> Result<(), Stopped>
         requires paired { IsPaired self.old.notices.taken self.old.blocks }
         ensures blocks_of { OnOk result (blocks_of self.new.notices.taken self.new.blocks.taken ≡ self.old.blocks.taken) }

@@ -35,22 +35,24 @@ use std::sync::Wait;
 use stop_flag::StopFlag;
 use untouched_copy::copy_message;
 
-// What an echo works with.
+// The state of an echo.
 #[derive(Drop)]
 pub(crate) struct Desk {
     pub(crate) alloc: Global,
     pub(crate) writer: Writer,
     pub(crate) reader: Reader,
-    // How many calls its ring holds, and how many replies it has sent.
+    // The capacity of its ring in calls, and how many replies it has sent.
     pub(crate) ring: u64,
     pub(crate) replies: u64,
 }
 
-/// Runs an echo: it takes its notices to their closing, copies each request of a method of the table, gives the block
-/// of each notice back, and replies to a request with its own message, placed into the next slice of the heap; then it
-/// closes both its rings. A request has no reply where the table hasn't its method, its number is 0, the method's input
-/// and output differ, its graph is malformed, or its tree doesn't fit a slice. Where a ring is full or empty the echo
-/// waits, and ends once the stop flag is set. Where it finds no memory it sets the flag and ends.
+/// Runs an echo. It takes its notices up to their closing, copies each request of a method of the table, and
+/// reclaims the block of each notice. It replies to a request with the request's own message, placed in the next
+/// slice of the heap; then it closes both its rings.
+///
+/// A request has no reply if the table lacks its method, its number is 0, the method's input and output differ,
+/// its graph is malformed, or its tree doesn't fit into a slice. Waits while a ring is full or empty, and ends
+/// once the stop flag is set. When out of memory, it sets the flag and ends.
 pub fn echo<R: Wait, F: StopFlag + Drop>(
     rt: &R,
     alloc: Global,
@@ -67,8 +69,8 @@ pub fn echo<R: Wait, F: StopFlag + Drop>(
     ensures stopped { IfNone result.sent (IsTrue result.memory ⊎ F.may_be_set port.stop) }
     ensures memory { IfSome result.sent (λ _. result.memory ≡ false) }
 
-    // Unless no memory was found, or the flag was seen set, it made copies of requests that it was told of, which with
-    // them determine its stores and its replies, and gave back the block of each notice.
+    // Unless it was out of memory or saw the flag set, it copied the requests of its notices; the copies determine
+    // its stores and replies. It reclaimed the block of each notice.
     ensures echoed { IfSome result.sent (λ sent. Echoed
         (record { table = table.now; heap = port.writer.heap.words; receive = port.reader.heap.words; ring = port.capacity })
         result.notices.taken result.note.stores (map submission_of sent.calls.items) result.reader) }
@@ -116,7 +118,7 @@ pub fn echo<R: Wait, F: StopFlag + Drop>(
     }
 }
 
-// What the echo does, up to the closing of both its rings.
+// Runs the echo until both its rings are closed.
 fn run<R: Wait, F: StopFlag>(
     rt: &R,
     stop: &F,
@@ -150,7 +152,7 @@ fn run<R: Wait, F: StopFlag>(
     Ok(AppSent { calls, reclaims })
 }
 
-// Takes the notices to their closing, and does for each what is to be done; then takes the numbers of blocks to theirs.
+// Takes the notices up to their closing and handles each, then takes the block numbers up to their closing.
 fn echo_all<R: Wait, F: StopFlag>(
     rt: &R,
     stop: &F,
@@ -187,7 +189,7 @@ fn echo_all<R: Wait, F: StopFlag>(
     unreachable!()
 }
 
-// Does what an echo does for a notice: its request is copied before its block is given back, and replied to then.
+// Handles a notice: copies its request, then reclaims its block, then replies.
 fn echo_one<R: Wait, F: StopFlag>(
     rt: &R,
     stop: &F,
@@ -233,7 +235,7 @@ fn echo_one<R: Wait, F: StopFlag>(
     }
 }
 
-// The tree by which a notice is replied to, if it is. Its request is copied, where the table has its method.
+// The tree of the reply to a notice, if it has one. Its request is copied if the table has the method.
 fn copied(table: &Table, desk: &mut Desk, notice: Descriptor) -> Result<Option<Tree>, Memory>
     requires valid { IsValid table.now }
     requires of_heap { IsOf desk.old.reader.heap notice }
@@ -299,7 +301,7 @@ fn replied(table: &Table, desk: &Desk, asked: (u16, u32), tree: Tree) -> Option<
     Some(tree)
 }
 
-// Places the tree of a request into the next slice, and sends the reply.
+// Places the tree of a request in the next slice, and sends the reply.
 fn reply<R: Wait, F: StopFlag>(
     rt: &R,
     stop: &F,

@@ -1,16 +1,16 @@
-//! Applications on a port of the service: a client, which does the lines of its program; a server, which does them for
-//! each request that it is delivered; and an echo, which replies to each request with the request's own message.
+//! Applications on a port of the service. A client executes the lines of its program, a server executes them for
+//! each delivered request, and an echo replies to each request with the request's own message.
 //!
-//! An application is a thread that shares nothing with the service but what its [`AppPort`] holds: the writer of its
-//! heap, the reader of the heap where its messages are delivered, the ends of four rings, and the run's stop flag. It
-//! waits where a ring is full or empty, looking at the flag each time. Clients and servers take no memory, an echo only
-//! what its copy and its placing need. The crate stands on `shared_heap` and `descriptor_ring`, on `untouched_copy` and
-//! `graph_place` for echoes, and on what these stand on.
+//! An application is a thread that shares only its [`AppPort`] with the service: the writer of its heap, the
+//! reader of its receive heap, the ends of four rings, and the stop flag of the run. It waits while a ring is
+//! full or empty, and checks the flag each time. Clients and servers never allocate; an echo allocates only to
+//! copy and to place. The crate uses `shared_heap` and `descriptor_ring`, for echoes `untouched_copy` and
+//! `graph_place`, and what these use.
 //!
-//! What the layer above may use: an [`AppEnd`] is of the heaps and rings of its port. Unless the run was stopped, it
-//! has what its two senders left, and its stores, the calls that it submitted, each behind the stores before it, and
-//! the blocks that it gave back are those of its program and its notices; an echo's are those of its notices and its
-//! copies. Nothing that the service promises rests on this, since any thread may stand at a port.
+//! The layer above may rely on this: an [`AppEnd`] belongs to the heaps and rings of its port. Unless the run was
+//! stopped, it has the final state of its two senders. Its stores, its calls, each after the stores before it,
+//! and its reclaimed blocks are those of its program and its notices; for an echo, those of its notices and its
+//! copies. No guarantee of the service depends on this, since any thread may use a port.
 #![tactic(auto)]
 
 mod clients;

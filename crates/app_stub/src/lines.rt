@@ -1,4 +1,4 @@
-//! What lines of programs store, and the descriptors of calls.
+//! The stores of program lines, and the descriptors of calls.
 
 ghost use Rattle.std.specs.Prelude.{◌≡◌, ◌<◌, ◌≤◌, ◌+◌, ◌*◌, ◌^◌, ◌++◌, length};
 ghost use Rattle.descriptor_ring.specs.Rings.{IsOf};
@@ -10,7 +10,7 @@ use descriptor_ring::Descriptor;
 use mrpc_base::Stores;
 use shared_heap::Writer;
 
-// Stores what a line stores.
+// Executes the stores of a line.
 pub(crate) fn store_line(writer: &mut Writer, line: &ProgramLine)
     requires places { StoresIn writer.old.heap.words line.now }
     requires few { length writer.old.stores + length (line_stores line.now) ≤ 2 ^ 63 }
@@ -41,7 +41,7 @@ fn spin(writer: &mut Writer, times: u32, place: u32, first: u64, second: u64)
     }
 }
 
-// A call, behind all stores so far. Its kind is 1 for a request and 2 for a reply.
+// A call after all stores so far. Its kind is 1 for a request and 2 for a reply.
 pub(crate) fn call(writer: &mut Writer, kind: u8, method: u16, number: u32, addr: u64) -> Descriptor
     requires kind { (1 ≤ kind) × (kind ≤ 2) }
     ensures of_heap { IsOf writer.old.heap result }

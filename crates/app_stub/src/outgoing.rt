@@ -1,12 +1,12 @@
-//! What an application sends.
+//! The outputs of an application.
 
 use descriptor_ring::{NumberSender, Sender};
 
-// The senders of an application: of its calls, and of the blocks that it gives back.
+// The senders of an application: of its calls, and of the blocks that it reclaims.
 #[derive(Drop)]
 pub(crate) struct Outgoing {
     pub(crate) sender: Sender,
-    // How many calls its ring holds.
+    // The capacity of its ring in calls.
     pub(crate) capacity: u64,
     pub(crate) reclaims: NumberSender,
 }

@@ -1,48 +1,48 @@
-//! Where an application meets the service, and what it leaves there.
+//! The port between an application and the service, and its state after the application ended.
 
 use descriptor_ring::{NumberReceiver, NumberSender, NumbersSent, Receiver, Sender, Sent};
 use shared_heap::{Note, Reader, Writer};
 
-/// What an application has of the service.
+/// The application's side of its connection to the service.
 #[derive(Drop)]
 pub struct AppPort<F> {
-    /// Its heap, which it stores its messages to.
+    /// Its heap, to which it stores its messages.
     pub writer: Writer,
     /// The ring of its calls, with notes of its heap.
     pub sender: Sender,
-    /// How many calls that ring holds.
+    /// The capacity of that ring in calls.
     pub capacity: u64,
-    /// The ring of notices, one for each message that was delivered to it, with notes of the heap where they lie.
+    /// The ring of notices, one for each message delivered to it, with notes of the receive heap.
     pub notices: Receiver,
-    /// The numbers of the blocks of those messages, one behind another as their notices.
+    /// The numbers of the blocks of those messages, in the order of the notices.
     pub blocks: NumberReceiver,
-    /// The heap where its messages are delivered.
+    /// Its receive heap, where its messages are delivered.
     pub reader: Reader,
-    /// The numbers of the blocks that it gives back.
+    /// The ring of the blocks that it reclaims.
     pub reclaims: NumberSender,
     /// The stop flag of the run.
     pub stop: F,
 }
 
-/// What an application leaves.
+/// The state of an application after it ended.
 #[derive(Drop)]
 pub struct AppEnd {
-    /// The last note of its heap, which knows all its stores.
+    /// The last note of its heap, which covers all its stores.
     pub note: Note,
     pub reader: Reader,
     pub notices: Receiver,
     pub blocks: NumberReceiver,
-    /// Whether it found no memory. It has then set the stop flag.
+    /// Whether it was out of memory. If so, it has set the stop flag.
     pub memory: bool,
-    /// What its senders left. None where it found no memory, or saw the stop flag set.
+    /// The final state of its senders; `None` if it was out of memory or saw the stop flag set.
     pub sent: Option<AppSent>,
 }
 
-/// What the senders of an application left, which has closed both rings.
+/// The final state of an application's senders, after both rings were closed.
 #[derive(Drop)]
 pub struct AppSent {
-    /// Of the ring of its calls.
+    /// The sender of its calls.
     pub calls: Sent,
-    /// Of the ring of the blocks that it gave back.
+    /// The sender of its reclaimed blocks.
     pub reclaims: NumbersSent,
 }

@@ -16,9 +16,10 @@ use shared_heap::Writer;
 use std::sync::Wait;
 use stop_flag::StopFlag;
 
-/// Runs a server: it takes its notices to their closing, does the stores of its program for each request, replies to it
-/// unless its number is 0, and gives the block of each notice back; then it closes both its rings. A notice of a reply
-/// has no other effect. Where a ring is full or empty it waits, and ends once the stop flag is set. It takes no memory.
+/// Runs a server. It takes its notices up to their closing. For each request it executes the stores of its
+/// program and replies, unless the request's number is 0. It reclaims the block of each notice, then closes both
+/// its rings. A notice of a reply has no other effect. Waits while a ring is full or empty, and ends once the
+/// stop flag is set. Never allocates.
 pub fn server<R: Wait, F: StopFlag + Drop>(rt: &R, program: &Program, port: AppPort<F>) -> AppEnd
     requires port { IsNew port }
     requires program { IsServerProgram port.writer.heap.words program.now }
@@ -28,8 +29,8 @@ pub fn server<R: Wait, F: StopFlag + Drop>(rt: &R, program: &Program, port: AppP
     ensures memory { result.memory ≡ false }
     ensures stopped { IfNone result.sent (F.may_be_set port.stop) }
 
-    // Unless the flag was seen set, its stores and its replies are those of the program for each request that it was
-    // told of, in order, each reply behind the stores for its request, and it gave back the block of each notice.
+    // Unless it saw the flag set, its stores and replies are those of the program for each request of its notices,
+    // in order, each reply after the stores for its request. It reclaimed the block of each notice.
     ensures stores { IfSome result.sent
         (λ _. result.note.stores ≡ all_served_stores program.now result.notices.taken) }
     ensures sent { IfSome result.sent (HasSent port.sender.ring port.reclaims.ring
@@ -65,7 +66,7 @@ pub fn server<R: Wait, F: StopFlag + Drop>(rt: &R, program: &Program, port: AppP
     }
 }
 
-// What the server does, up to the closing of both its rings.
+// Runs the server until both its rings are closed.
 fn run<R: Wait, F: StopFlag>(
     rt: &R,
     stop: &F,
@@ -100,7 +101,8 @@ fn run<R: Wait, F: StopFlag>(
     Ok(AppSent { calls, reclaims })
 }
 
-// Takes the notices to their closing, serves each and gives its block back; then takes the numbers of blocks to theirs.
+// Takes the notices up to their closing, serves each and reclaims its block, then takes the block numbers up to
+// their closing.
 fn serve_all<R: Wait, F: StopFlag>(
     rt: &R,
     stop: &F,
@@ -149,7 +151,7 @@ fn serve_all<R: Wait, F: StopFlag>(
     unreachable!()
 }
 
-// Where the replies of a program stand.
+// The address of a program's replies.
 fn address_of(program: &Program) -> u64
     ensures { result ≡ reply_address program.now }
 {
@@ -161,7 +163,7 @@ fn address_of(program: &Program) -> u64
     0
 }
 
-// Does what a server does for one notice.
+// Serves one notice.
 fn serve<R: Wait, F: StopFlag>(
     rt: &R,
     stop: &F,
@@ -195,7 +197,7 @@ fn serve<R: Wait, F: StopFlag>(
     waiting::send(rt, stop, sender, capacity, reply)
 }
 
-// Stores what a program stores.
+// Executes the stores of a program.
 fn store_lines(writer: &mut Writer, program: &Program)
     requires places { All (StoresIn writer.old.heap.words) program.now }
     requires few { length writer.old.stores + length (stores_of program.now) ≤ 2 ^ 63 }

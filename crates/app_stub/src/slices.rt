@@ -5,10 +5,10 @@ ghost use Rattle.mrpc_table.specs.declared.limits.TheConstants.{MAX_HEAP};
 ghost use Rattle.descriptor_ring.specs.declared.limits.TheConstants.{MAX_CAPACITY};
 ghost use Rattle.app_stub.specs.Echoing.{IsInSlice, slice_at, slice_words};
 
-/// The law of the slices of an echo. They lie in its heap, behind its first two words. Of two replies that are fewer
-/// than `ring + 2` apart the slices have no common place. So two slices more than the ring holds calls are enough: where
-/// at most `ring` of the replies that were sent wait, and all that were taken but the last one were copied, the next
-/// reply's slice has no place of the slice of a reply that waits or is being copied.
+/// A law; it does nothing. The slices of an echo are in its heap, after its first two words. The slices of two
+/// replies fewer than `ring + 2` apart have no place in common. So two slices more than the ring's capacity are
+/// enough. Suppose at most `ring` of the sent replies wait, and all taken replies but the last were copied. Then
+/// the next reply's slice has no place of the slice of a reply that waits or is being copied.
 pub fn slices_suffice()
     ensures in_heap { (heap ring replies place : ℕ) → 2 ≤ heap → IsInSlice heap ring replies place
         → (2 ≤ place) × (place < heap) }
@@ -18,7 +18,7 @@ pub fn slices_suffice()
         → IsInSlice heap ring k place → IsInSlice heap ring sent place → ⊥ }
 {}
 
-// How many words each slice has.
+// The size of each slice in words.
 pub(crate) fn words_of(heap: u64, ring: u64) -> u64
     requires heap { (2 ≤ heap) × (heap ≤ MAX_HEAP) }
     requires ring { ring ≤ MAX_CAPACITY }
@@ -28,7 +28,7 @@ pub(crate) fn words_of(heap: u64, ring: u64) -> u64
     (heap - 2) / (ring + 2)
 }
 
-// Where the slice of the next reply begins.
+// The first place of the next reply's slice.
 pub(crate) fn next_slice(heap: u64, ring: u64, replies: u64) -> u64
     requires heap { (2 ≤ heap) × (heap ≤ MAX_HEAP) }
     requires ring { ring ≤ MAX_CAPACITY }

@@ -1,4 +1,4 @@
-//! What an application does at a ring: it tries until the ring has room, or something to take, or the stop flag is set.
+//! Waiting at a ring: tries until the ring has room, or an item, or the stop flag is set.
 
 ghost use Rattle.std.specs.Prelude.{◌≡◌, ◌<◌, ◌≤◌, ◌^◌, ◌++◌, ◌∷◌, [], false, IfOk, IfSome, IfNone, IsNone, MatchOption, OnOk, OnErr, IsTrue, length};
 ghost use Rattle.descriptor_ring.specs.Rings.{IsOf};
@@ -11,14 +11,14 @@ use pauses::{FIRST_SLEEP, Pauses};
 use std::sync::Wait;
 use stop_flag::StopFlag;
 
-// A ring that holds as many calls as this, or more, is looked at again behind a sleep. Meanwhile many of its places come
-// free, or many items come, so that threads change less often.
+// A ring of at least this capacity is polled with sleeps in between. Meanwhile many slots come free, or many
+// items arrive, so threads switch less often.
 const LARGE_RING: u64 = 16;
 
-// For how long each place of a large ring that is full is slept for, in microseconds.
+// The sleep for each slot of a full large ring, in microseconds.
 const PLACE_SLEEP: u64 = 3;
 
-// How one waits for room in a ring that holds so many.
+// How to wait for room in a ring of this capacity.
 fn pauses_for_room(capacity: u64) -> Pauses {
     if capacity < LARGE_RING {
         return Pauses::new();
@@ -26,7 +26,7 @@ fn pauses_for_room(capacity: u64) -> Pauses {
     Pauses::asleep(capacity.saturating_mul(PLACE_SLEEP))
 }
 
-// How one waits for an item of a ring that holds so many.
+// How to wait for an item of a ring of this capacity.
 fn pauses_for_items(capacity: u64) -> Pauses {
     if capacity < LARGE_RING {
         return Pauses::new();
@@ -38,7 +38,7 @@ fn pauses_for_items(capacity: u64) -> Pauses {
 #[derive(Drop)]
 pub(crate) struct Stopped;
 
-// Sends a call, on a ring that holds so many.
+// Sends a call on a ring of this capacity.
 pub(crate) fn send<R: Wait, F: StopFlag>(
     rt: &R,
     stop: &F,
@@ -126,7 +126,7 @@ pub(crate) fn reclaim<R: Wait, F: StopFlag>(
     unreachable!()
 }
 
-// Closes the ring of blocks that are given back.
+// Closes the ring of reclaimed blocks.
 pub(crate) fn close_reclaims<R: Wait, F: StopFlag>(
     rt: &R,
     stop: &F,
@@ -149,7 +149,7 @@ pub(crate) fn close_reclaims<R: Wait, F: StopFlag>(
     unreachable!()
 }
 
-// The next notice of a ring that holds so many, or none where all were taken.
+// The next notice of a ring of this capacity, or `None` if all were taken and the ring is closed.
 pub(crate) fn next_notice<R: Wait, F: StopFlag>(
     rt: &R,
     stop: &F,
@@ -180,7 +180,7 @@ pub(crate) fn next_notice<R: Wait, F: StopFlag>(
     unreachable!()
 }
 
-// The number of the next block, or none where all were taken.
+// The number of the next block, or `None` if all were taken and the ring is closed.
 pub(crate) fn next_block<R: Wait, F: StopFlag>(
     rt: &R,
     stop: &F,

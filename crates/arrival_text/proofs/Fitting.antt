@@ -1,4 +1,4 @@
--- The lines of arrivals that have lived can be written.
+-- The lines of arrival traces can be written.
 use Rattle.std.proofs.Common.{◌≡◌, ℕ, ◌<◌, ◌≤◌, ◌==◌, Bool, true, false, List, [], ◌∷◌, length, max, Option, Some}
 use Rattle.std.proofs.Common.{None, All, inl, inr, refl, sym, ap, subst, arith, unwrap_or, option_map, option_copied}
 use Rattle.std.proofs.Common.{position, if◌then◌else◌}
@@ -31,7 +31,7 @@ use Rattle.arrival_text.specs.Lines.{FitsArrival, FitsCause, Judging, message_of
 abbrev pub policy_in : Judging → Option AccessPolicy
 policy_in judging = option_map (λ policy. policy.1) judging
 
--- ---- the rule that decides is one of the policy's, or stands for its default
+-- ---- the deciding rule is one of the policy's, or denotes its default
 
 within : (p : Rule → Bool) (rules : List Rule) (place : Option ℕ) → position p rules ≡ place
     → unwrap_or place (length rules) ≤ length rules

@@ -1,4 +1,4 @@
--- Lines that were worked out by hand, as terms.
+-- Lines worked out by hand, as terms.
 use Rattle.std.proofs.Common.{◌≡◌, codes, Some, None, true, false, refl}
 use Rattle.std.specs.Fmt.{digits}
 use Rattle.mrpc_table.specs.Text.{line}
@@ -15,7 +15,7 @@ not_held : line (not_held_words 1 9) ≡ codes "notheld 1 9\n"
 unfolding digits
 not_held = refl
 
--- ---- streams that were cut, and frames that wait
+-- ---- truncated streams, and frames that wait
 
 cut_off : line (cut_words 1 (TooLong 70 262145)) ≡ codes "cut 1 70 TooLong\n"
 unfolding digits

@@ -27,7 +27,7 @@ use Rattle.link_greeting.specs.declared.unbound.Unbound.TheVariants.{Transport, 
 
 -- ---- arrivals
 
--- the policy that judges what a connection is delivered, with the name under which it is declared
+-- the policy that judges deliveries on a connection, with the name under which it is declared
 abbrev pub Judging : Type 0
 Judging = Option (List ℕ × AccessPolicy)
 
@@ -35,7 +35,7 @@ abbrev pub judging_of : Option Judge → Judging
 judging_of None = None
 judging_of (Some judge) = Some (judge.name.now, judge.policy.now)
 
--- the message of what arrives, by its kind: a reply has its method's output, a request its input
+-- the message type of an arrival, by its kind: a reply has its method's output, a request its input
 abbrev pub message_of_kind : Table → ℕ → ℕ → ℕ
 message_of_kind T kind method = message_at T method (if kind == REPLY then 1 else 0)
 
@@ -62,7 +62,7 @@ arrival_words T judging conn (Arrived kind method number tree) =
 arrival_words T judging conn (Dropped kind method number why) =
     codes "dropped" ∷ (call_words conn kind method number ++ cause_words judging why)
 
--- A message that arrived is a normal one of its method. A rule that denied is one of the policy's, or stands for its
+-- A message that arrived is a normal one of its method. A rule that denied is one of the policy's, or denotes its
 -- default.
 abbrev pub FitsCause : Judging → DropCause → Type 0
 FitsCause judging IsHello = ⊤
@@ -76,22 +76,22 @@ FitsArrival T judging (Arrived kind method number tree) =
     (method < length T.methods) × IsNormal T (message_of_kind T kind method) tree
 FitsArrival T judging (Dropped kind method number why) = FitsCause judging why
 
--- each line of arrivals that have lived does, under the policy that judged them
+-- each line of an arrival trace fits, under the policy that judged it
 abbrev pub LinesFit : Type 0
 LinesFit = (life : Life) (a : Arrivals) (judging : Judging) → HaveLived life a
     → option_map (λ policy. policy.1) judging ≡ option_copied a.policy
     → All (FitsArrival a.table.now judging) a.lines.items
 
--- ---- what is left at the end
+-- ---- what is unfinished at the end
 
--- the place of a frame fault, and its word
+-- the offset of a frame fault, and its word
 abbrev pub fault_words : FeedFault → Words
 fault_words (Version place value) = decimal place ∷ codes "Version" ∷ []
 fault_words (Kind place value) = decimal place ∷ codes "Kind" ∷ []
 fault_words (TooLong place value) = decimal place ∷ codes "TooLong" ∷ []
 fault_words NoMemoryToFeed = []
 
--- a connection was told a block that it doesn't hold
+-- the application gave back a block that the connection doesn't hold
 abbrev pub not_held_words : ℕ → ℕ → Words
 not_held_words conn block = codes "notheld" ∷ decimal conn ∷ decimal block ∷ []
 
@@ -99,7 +99,7 @@ not_held_words conn block = codes "notheld" ∷ decimal conn ∷ decimal block �
 abbrev pub cut_words : ℕ → FeedFault → Words
 cut_words conn fault = codes "cut" ∷ decimal conn ∷ fault_words fault
 
--- its stream ended inside the frame that begins at this place
+-- its stream ended inside the frame that starts at this offset
 abbrev pub short_words : ℕ → ℕ → Words
 short_words conn place = codes "cut" ∷ decimal conn ∷ decimal place ∷ codes "Short" ∷ []
 
@@ -109,7 +109,7 @@ waits_words conn kind method number = codes "waits" ∷ call_words conn kind met
 
 -- ---- connections that weren't bound
 
--- a byte of a text, `-` where it has ended
+-- a byte of a text; `-` past its end
 abbrev pub byte_word : Option ℕ → List ℕ
 byte_word None = codes "-"
 byte_word (Some byte) = decimal byte

@@ -1,4 +1,4 @@
-//! The lines of what arrived.
+//! The lines for arrivals.
 
 ghost use Rattle.std.specs.Prelude.{◌≡◌, ◌<◌, ◌++◌, IfOk, OnOk, Option, length};
 ghost use Rattle.mrpc_table.specs.Lines.{behind_spaces};
@@ -17,15 +17,15 @@ use receive_core::DropCause;
 use std::alloc::Global;
 use wire_encode::encode;
 
-/// The policy that judges what a connection is delivered, with the name under which it is declared.
+/// The policy that judges deliveries on a connection, with the name under which it is declared.
 #[derive(Clone, Copy)]
 pub struct Judge<'a> {
     pub name: &'a Name,
     pub policy: &'a Access,
 }
 
-/// Appends the line of what arrived on a connection: `arrived CONN KIND METHOD NUMBER HEX`, or
-/// `dropped CONN KIND METHOD NUMBER REASON`. The only error is `Memory`.
+/// Appends the line for an arrival on a connection: `arrived CONN KIND METHOD NUMBER HEX`, or `dropped CONN KIND
+/// METHOD NUMBER REASON`. The only error is `Memory`.
 pub fn append_arrival(
     alloc: Global,
     out: &mut Bytes,
@@ -80,7 +80,7 @@ fn encoded(
     encode(alloc, tree, table, message)
 }
 
-// What a line of a frame begins with.
+// Appends the prefix of a line about a frame.
 fn append_call(
     out: &mut Bytes,
     word: &[u8],
@@ -100,7 +100,7 @@ fn append_call(
     out.append_row(word, &numbers)
 }
 
-// Why a frame was dropped, as further words.
+// Appends the reason why a frame was dropped, each word after a space.
 fn append_cause(out: &mut Bytes, judge: Option<Judge>, why: DropCause) -> Result<(), Memory>
     requires { FitsCause (judging_of judge) why }
     ensures { OnOk result (out.new ≡ out.old ++ behind_spaces (cause_words (judging_of judge.entry) why)) }
@@ -117,7 +117,7 @@ fn append_cause(out: &mut Bytes, judge: Option<Judge>, why: DropCause) -> Result
     }
 }
 
-// The policy and the rule that denied a call, as further words.
+// Appends the policy and the rule that denied a call, each word after a space.
 fn append_denial(out: &mut Bytes, judge: Option<Judge>, rule: u32) -> Result<(), Memory>
     requires { FitsCause (judging_of judge) (DropCause.Denied rule) }
     ensures { OnOk result (out.new

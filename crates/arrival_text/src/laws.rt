@@ -1,8 +1,8 @@
-//! What holds of all lines.
+//! What holds for all lines.
 
 ghost use Rattle.arrival_text.specs.Lines.{LinesFit};
 
-/// Each line of arrivals that have lived can be written, under the policy that judged them. The call does nothing.
+/// Each line of an arrival trace can be written, under the policy that judged it. Does nothing.
 pub fn lines_fit()
     ensures { LinesFit }
 {}

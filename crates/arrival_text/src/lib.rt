@@ -1,8 +1,8 @@
-//! The lines that a run writes besides audits: what arrived on each connection, what is left at the end, and which
-//! connections weren't bound (this project's own format).
+//! The lines that a run writes besides audits: what arrived on each connection, what is unfinished at the end, and
+//! which connections weren't bound (this project's own format).
 //!
-//! `specs/Lines.antt` says which line tells what. Each function appends one line with its line feed. It stands on
-//! `deliveries` and `link_greeting` for what is told, and on the encoding of messages. The layers above use one
+//! `specs/Lines.antt` defines the lines. Each function appends one line with its line feed. The crate depends on
+//! `deliveries` and the link handshake for what it reports, and on the encoding of messages. The layers above use one
 //! contract: what is appended for an arrival or a cause is its line.
 #![tactic(auto)]
 

@@ -1,4 +1,4 @@
-//! The lines of what is left at the end of a run.
+//! The lines for what is unfinished at the end of a run.
 
 ghost use Rattle.std.specs.Prelude.{◌≡◌, ◌≢◌, [], ◌∷◌, ◌++◌, OnOk};
 ghost use Rattle.std.specs.Fmt.{decimal};
@@ -9,7 +9,8 @@ ghost use Rattle.arrival_text.specs.Lines.{cut_words, fault_words, not_held_word
 use frame_transport::FeedFault;
 use mrpc_table::{Bytes, Memory};
 
-/// Appends `notheld CONN BLOCK`: a block that the connection doesn't hold was given back. The only error is `Memory`.
+/// Appends `notheld CONN BLOCK`: the application gave back a block that the connection doesn't hold. The only error
+/// is `Memory`.
 pub fn append_not_held(out: &mut Bytes, conn: u32, block: u64) -> Result<(), Memory>
     ensures { OnOk result (out.new ≡ out.old ++ line (not_held_words conn block)) }
 {
@@ -17,8 +18,8 @@ pub fn append_not_held(out: &mut Bytes, conn: u32, block: u64) -> Result<(), Mem
     out.push(b'\n')
 }
 
-/// Appends `cut CONN PLACE REASON`: the stream has a frame fault, whose place counts from the first byte that the link
-/// gave. The only error is `Memory`.
+/// Appends `cut CONN PLACE REASON`: the stream has a frame fault at this offset, counted from the first byte of the
+/// link. The only error is `Memory`.
 pub fn append_cut(out: &mut Bytes, conn: u32, fault: FeedFault) -> Result<(), Memory>
     requires { fault ≢ FeedFault.Memory }
     ensures { OnOk result (out.new ≡ out.old ++ line (cut_words conn fault)) }
@@ -28,7 +29,7 @@ pub fn append_cut(out: &mut Bytes, conn: u32, fault: FeedFault) -> Result<(), Me
     out.push(b'\n')
 }
 
-/// Appends `cut CONN PLACE Short`: the stream ended inside the frame that begins at this place. The only error is
+/// Appends `cut CONN PLACE Short`: the stream ended inside the frame that starts at this offset. The only error is
 /// `Memory`.
 pub fn append_short(out: &mut Bytes, conn: u32, place: u64) -> Result<(), Memory>
     ensures { OnOk result (out.new ≡ out.old ++ line (short_words conn place)) }
@@ -58,7 +59,7 @@ pub fn append_waits(
     out.push(b'\n')
 }
 
-// The place of a frame fault and its word, as further words.
+// Appends the offset of a frame fault and its word, each after a space.
 pub(crate) fn append_fault(out: &mut Bytes, fault: FeedFault) -> Result<(), Memory>
     requires { fault ≢ FeedFault.Memory }
     ensures { OnOk result (out.new ≡ out.old ++ behind_spaces (fault_words fault)) }
@@ -71,7 +72,7 @@ pub(crate) fn append_fault(out: &mut Bytes, fault: FeedFault) -> Result<(), Memo
     }
 }
 
-// A number and a word, as further words.
+// Appends a number and a word, each after a space.
 fn append_place(out: &mut Bytes, place: u64, word: &[u8]) -> Result<(), Memory>
     ensures { OnOk result (out.new ≡ out.old ++ behind_spaces (decimal place ∷ word.now ∷ [])) }
 {

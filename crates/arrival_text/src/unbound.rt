@@ -24,7 +24,7 @@ pub fn append_unbound(out: &mut Bytes, conn: u32, why: &Unbound) -> Result<(), M
     out.push(b'\n')
 }
 
-// Why a connection isn't bound, as further words.
+// Appends the reason why a connection isn't bound, each word after a space.
 fn append_reason(out: &mut Bytes, why: &Unbound) -> Result<(), Memory>
     requires { SaysWhy why.now }
     ensures { OnOk result (out.new ≡ out.old ++ behind_spaces (reason_words why.now)) }
@@ -41,7 +41,7 @@ fn append_reason(out: &mut Bytes, why: &Unbound) -> Result<(), Memory>
     }
 }
 
-// Why two tables don't agree, as further words.
+// Appends the reason why two tables disagree, each word after a space.
 fn append_disagreement(out: &mut Bytes, fault: &AgreeFault) -> Result<(), Memory>
     requires { fault.now ≢ AgreeFault.Memory }
     ensures { OnOk result (out.new ≡ out.old ++ behind_spaces (disagreement_words fault.now)) }
@@ -63,7 +63,7 @@ fn append_disagreement(out: &mut Bytes, fault: &AgreeFault) -> Result<(), Memory
     }
 }
 
-// The name of a message and the number of its field, as further words.
+// Appends the name of a message and the number of its field, each after a space.
 fn begin_field(out: &mut Bytes, message: &[u8], number: u32) -> Result<(), Memory>
     ensures { OnOk result (out.new ≡ out.old ++ behind_spaces (message.now ∷ decimal number ∷ [])) }
 {
@@ -71,14 +71,14 @@ fn begin_field(out: &mut Bytes, message: &[u8], number: u32) -> Result<(), Memor
     out.append_word(u64::from(number))
 }
 
-// 1 for a flag that is set, else 0.
+// 1 if the flag is set, else 0.
 fn digit(flag: bool) -> u64
     ensures { decimal result ≡ flag_word flag }
 {
     if flag { 1 } else { 0 }
 }
 
-// A byte of each of two texts, as further words.
+// Appends a byte of each of two texts, each after a space.
 fn append_bytes(out: &mut Bytes, ours: Option<u8>, theirs: Option<u8>) -> Result<(), Memory>
     ensures { OnOk result (out.new ≡ out.old ++ behind_spaces (byte_word ours ∷ byte_word theirs ∷ [])) }
 {

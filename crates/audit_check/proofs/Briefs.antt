@@ -1,4 +1,4 @@
--- What became of a call, as its line tells it.
+-- Notes and sends, as their lines have them.
 use Rattle.audit_text.specs.Briefs.{told_by}
 use Rattle.audit_text.specs.declared.short_line.Brief.{Brief}
 use Rattle.audit_text.specs.declared.short_line.Brief.TheVariants.{Charged, Drawn, Counted, Sent}

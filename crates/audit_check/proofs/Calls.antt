@@ -1,4 +1,4 @@
--- Calls that stand, in the order of connections and numbers.
+-- Pending calls, in the order of connections and numbers.
 use Rattle.std.proofs.Common.{◌≡◌, ℕ, ◌+◌, ◌<◌, ◌≤◌, ◌⊎◌, Bool, true, false, List, [], ◌∷◌, ◌++◌, All, Contains}
 use Rattle.std.proofs.Common.{length, map, filter, arith, refl, ap, sym, subst, ◌∙◌, inl, inr, cond, length-append}
 use Rattle.std.specs.List.{AllByRecursion}
@@ -86,7 +86,7 @@ tail_within x xs ys up in' c m = elim (in_more x c ys (in' c (in_later x c xs m)
   | inr later ↦ later
 ]
 
--- two lists that ascend and have the same calls are one
+-- two lists that ascend and have the same calls are equal
 same_calls : (xs ys : List CallName) → Ascend xs → Ascend ys → Within xs ys → Within ys xs → xs ≡ ys
 same_calls [] [] up up' in' out = refl
 same_calls [] (y ∷ ys) up up' in' out = absurd (in_nothing y (out y (in_first y ys)))
@@ -122,7 +122,7 @@ pushed : (calls : List Taken) (call : Taken) → Numbered calls → AllByRecursi
 pushed [] call up below = (tt, tt)
 pushed (c ∷ calls) call up below = (each_pushed (λ other. c.seq < other.seq) calls call up.0 below.0, pushed calls call up.1 below.1)
 
--- accepted calls have rising numbers, up to how many there are
+-- accepted calls have ascending numbers, up to how many there are
 record AreNumbered (calls : List Taken) : Type 0 where
   up : Numbered calls
   low : AllByRecursion (λ other. other.seq ≤ length calls) calls
@@ -237,7 +237,7 @@ calls_out h (c ∷ conns) conn seq m = elim (Contains-append_cases (calls_on h c
   | inr later ↦ calls_out h conns conn seq later
 ]
 
--- connections that rise, and without which nothing has happened, have all calls that stand
+-- connections that ascend, and without which there is no event, have all pending calls
 pub all_standing : (h : History) (conns : List ℕ) → ((conn : ℕ) → Numbered (standing (behind conn h))) → Rise conns
     → ((conn : ℕ) → (Contains conns conn → ⊥) → behind conn h ≡ []) → AreAllStanding h (calls_of h conns)
 all_standing h conns up rise others = record {

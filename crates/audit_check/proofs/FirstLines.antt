@@ -35,7 +35,7 @@ lacks_all (x ∷ xs) none = (λ same. none 0 (omega arith) (eq-eqb x 10 same), l
 
 -- ---- the line
 
--- a line feed stands in the text
+-- the text has a line feed
 at_line_feed : (text line behind : List ℕ) → IsCut 10 text line behind → IsFirstLine text (take (length line + 1) text) behind
 at_line_feed text line behind k =
     let front : take (length line + 1) text ≡ line ++ 10 ∷ [] = ap (take (length line + 1)) k.text_is ∙ take-append-add line (10 ∷ behind) 1 in
@@ -44,14 +44,14 @@ at_line_feed text line behind k =
       ends = inl (line, front, All-from_recursion (λ c. c ≢ 10) line k.lacks);
     }
 
--- none does
+-- the text has none
 without_line_feed : (text : List ℕ) → Lacks 10 text → IsFirstLine text text []
 without_line_feed text none = record {
   joined = sym (append-nil text);
   ends = inr (All-from_recursion (λ c. c ≢ 10) text none, refl);
 }
 
--- ---- as the search says
+-- ---- by the result of the search
 
 pub found : (text : List ℕ) (i : ℕ) → IsFirstByte (is_byte 10) text (Some i) → IsFirstLine text (take (i + 1) text) (drop (i + 1) text)
 found text i h =
@@ -62,15 +62,15 @@ found text i h =
 pub nowhere : (text : List ℕ) → IsFirstByte (is_byte 10) text None → IsFirstLine text text []
 nowhere text h = without_line_feed text (lacks_all text (λ k less. h k (omega arith) less))
 
--- ---- a line that is read before its end is looked for
+-- ---- a line that is read before its end is found
 
 pub told_first : (T : Table) (x : Happened) (text rest : List ℕ) → IsCutInto (happening_words T x.conn x.what) → text ≡ audit_line T x ++ rest
     → IsFirstLine text (audit_line T x) rest
 told_first T x text rest cut e = record { joined = e; ends = inl (spaced (happening_words T x.conn x.what), refl, cut.one_line) }
 
--- ---- what is left
+-- ---- the remainder
 
--- what stands behind the first line is shorter
+-- the remainder after the first line is shorter
 pub line_shorter : (text line rest : List ℕ) → IsFirstLine text line rest → 0 < length text → length rest < length text
 line_shorter text line rest is some = elim is.ends [
   | inl e ↦ omega (arith, ap length is.joined, length-append line rest, ap length e.1, length-append e.0 (10 ∷ []))

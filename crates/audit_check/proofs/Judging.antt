@@ -1,4 +1,4 @@
--- What is answered of a history and the lines behind it is one.
+-- A history and the lines after it have at most one result.
 use Rattle.std.proofs.Common.{◌≡◌, ℕ, ◌+◌, ◌<◌, ◌==◌, ◌⊎◌, List, [], ◌∷◌, ◌++◌, cond, length, map, arith, refl, ap}
 use Rattle.std.proofs.Common.{sym, subst, ◌∙◌, inl, inr, append_assoc, length-append}
 use Rattle.std.proofs.lemmas.List.Elements.{filter-append}
@@ -33,7 +33,7 @@ keeps_all u past next may F = may.answered
 keeps_all u past next may G = may.link_end
 keeps_all u past next may Stands = tt
 
--- rules at one place are one
+-- rules of equal rank are equal
 rule_at : ℕ → Rule
 rule_at n = cond (n == 0) A (cond (n == 1) B (cond (n == 2) C (cond (n == 3) D (cond (n == 4) E (cond (n == 5) F (cond (n == 6) G Stands))))))
 
@@ -81,7 +81,7 @@ prefix_breaks T limit before after x rule prefixes breaks =
 prefixes_of : (T : Table) (limit : ℕ) (h : History) → IsLegal T limit h → ArePrefixes T limit h
 prefixes_of T limit h is conn = (is conn).prefix
 
--- a happening that breaks a rule stands in no history whose parts came as the rules say
+-- an event that breaks a rule is in no history whose prefixes are legal
 broken_not : (T : Table) (limit : ℕ) (h before after : History) (x : Happened) (rule : Rule) → h ≡ before ++ x ∷ after → ArePrefixes T limit h
     → BreaksFirst (on_connection T limit x.conn) (behind x.conn before) x.what rule → ⊥
 broken_not T limit h before after x rule e prefixes breaks =
@@ -90,7 +90,7 @@ broken_not T limit h before after x rule e prefixes breaks =
 open_not : (T : Table) (limit : ℕ) (h : History) (rule : Rule) → IsLegal T limit h → IsFirstOpen h rule → ⊥
 open_not T limit h rule is first = none_awaited (behind first.conn h) (is first.conn).closed rule first.awaited
 
--- ---- places in a list
+-- ---- indices in a list
 
 pub split : {X : Type 0} (a b a' b' : List X) (x x' : X) → a ++ x ∷ b ≡ a' ++ x' ∷ b'
     → ((a ≡ a') × (x ≡ x')) ⊎ ((mid : List X) × (a' ≡ a ++ x ∷ mid)) ⊎ ((mid : List X) × (a ≡ a' ++ x' ∷ mid))
@@ -117,7 +117,7 @@ one_broken T limit before after before' after' x x' rule rule' e p p' b b' = eli
   | inr (inr earlier) ↦ absurd (broken_not T limit before before' earlier.0 x' rule' earlier.1 p b')
 ]
 
--- ---- lines that may begin
+-- ---- lines that can be the first ones of the pending calls
 
 tell_front : (u : Under) (past : Behind) (positions : List ℕ) (a b : List StandsLine) → TellCalls u past positions (a ++ b) → TellCalls u past positions a
 tell_front u past positions [] b calls = tt

@@ -1,4 +1,4 @@
--- What the checkers of connections know once one more thing happens.
+-- What the checkers of connections know after one more event.
 use Rattle.std.proofs.Common.{◌≡◌, ◌≢◌, ℕ, zero, suc, ◌<◌, ◌≤◌, length, set, slice_get, arith, ◌==◌, Bool, true, false, cond, List, [], ◌∷◌}
 use Rattle.std.proofs.Common.{◌++◌, reverse, refl, ap, sym, subst, ◌∙◌, Option, Some, None, IfNone, inl, inr}
 use Rattle.std.proofs.Common.{if◌then◌else◌}
@@ -23,7 +23,7 @@ use Rattle.audit_check.specs.Checking.{on_connection}
 use Rattle.audit_check.specs.States.{KnowsAll, KnowsEach, KnowsOn, checker_in, checker_of}
 use Rattle.audit_check.specs.declared.connections.Connections.{Connections}
 
--- ---- what is behind
+-- ---- the trace
 
 on-more : (conn : ℕ) (h : History) (x : Happened) → on conn (h ++ x ∷ []) ≡ on conn h ++ on conn (x ∷ [])
 on-more conn h x = filter_map-append (λ (x : Happened). if x.conn == conn then Some x.what else None) h (x ∷ [])
@@ -34,17 +34,17 @@ on-same conn x same = let is : (x.conn == conn) ≡ true = eq-eqb x.conn conn sa
 on-other : (conn : ℕ) (x : Happened) → x.conn ≢ conn → on conn (x ∷ []) ≡ []
 on-other conn x other = let isnt : (x.conn == conn) ≡ false = ne_eqb x.conn conn other in rw isnt refl
 
--- on the connection of the next happening, it comes last
+-- on the connection of the next event, that comes last
 pub behind-more : (conn : ℕ) (h : History) (x : Happened) → x.conn ≡ conn → behind conn (h ++ x ∷ []) ≡ x.what ∷ behind conn h
 behind-more conn h x same =
     ap reverse (on-more conn h x) ∙ ap (λ (l : List Happening). reverse (on conn h ++ l)) (on-same conn x same) ∙ reverse-append (on conn h) (x.what ∷ [])
 
--- on another, nothing changes
+-- on another connection nothing changes
 pub behind-other : (conn : ℕ) (h : History) (x : Happened) → x.conn ≢ conn → behind conn (h ++ x ∷ []) ≡ behind conn h
 behind-other conn h x other =
     ap reverse (on-more conn h x) ∙ ap (λ (l : List Happening). reverse (on conn h ++ l)) (on-other conn x other) ∙ ap reverse (append-nil (on conn h))
 
--- what happened behind comes before what is behind
+-- the trace of later events comes before the trace of earlier ones
 pub behind-joined : (conn : ℕ) (h k : History) → behind conn (h ++ k) ≡ behind conn k ++ behind conn h
 behind-joined conn h k =
     ap reverse (filter_map-append (λ (x : Happened). if x.conn == conn then Some x.what else None) h k) ∙ reverse-append (on conn h) (on conn k)
@@ -59,7 +59,7 @@ neither false = refl
 pub apart_at : (a b : ℕ) → a ≢ b → is_eq (nat_cmp a b) ≡ false
 apart_at a b other = let isnt : (a == b) ≡ false = ne_eqb a b other in rw isnt (neither _)
 
--- one thing more on one connection; of the others the same is known
+-- one more event on one connection; what is known of the others is unchanged
 pub known_more : (T : Table) (limit : ℕ) (h : History) (next : Happened) (before after : ℕ → Option Checker) (c : Checker)
     → ((conn : ℕ) → KnowsOn T limit conn (behind conn h) (before conn)) → after next.conn ≡ Some c
     → ((conn : ℕ) → next.conn ≢ conn → after conn ≡ before conn) → Knows T (next.what ∷ behind next.conn h) c
@@ -79,7 +79,7 @@ known_more T limit h next before after c known is others knows judges conn = eli
       (subst (λ (past : Behind). KnowsOn T limit conn past (before conn)) (sym past) (known conn))
 ]
 
--- ---- the places of connections
+-- ---- the slots of connections
 
 set_same : (cs : List Checker) (at : ℕ) (c : Checker) → at < length cs → slice_get (set cs at c) at ≡ Some c
 set_same [] at c within = absurd (omega (arith, within))
@@ -93,7 +93,7 @@ set_other (d ∷ cs) zero c (suc conn) other = refl
 set_other (d ∷ cs) (suc at) c zero other = refl
 set_other (d ∷ cs) (suc at) c (suc conn) other = set_other cs at c conn (λ e. other (ap suc e))
 
--- in a place
+-- in a slot
 pub near_more : (T : Table) (limit : ℕ) (h : History) (next : Happened) (near : List Checker) (far : BTreeMap ℕ Checker) (c : Checker)
     → ((conn : ℕ) → KnowsOn T limit conn (behind conn h) (checker_in (slice_get near conn) (get nat_cmp far conn))) → next.conn < length near
     → Knows T (next.what ∷ behind next.conn h) c → under T c ≡ on_connection T limit next.conn
@@ -115,7 +115,7 @@ far_more T limit h next near m n c known far updates knows judges =
     (ap (λ (o : Option Checker). checker_in o (get nat_cmp n next.conn)) (slice_get_past near next.conn far) ∙ updates.1)
     (λ conn other. ap (λ (o : Option Checker). checker_in (slice_get near conn) o) (updates.2 conn (apart_at next.conn conn other))) knows judges
 
--- the checker of a place, and that of no place
+-- the checker in a slot, and without a slot
 pub in_place : (near : List Checker) (far : Option Checker) (conn : ℕ) (c : Checker) → slice_get near conn ≡ Some c → Some c ≡ checker_in (slice_get near conn) far
 in_place near far conn c e = sym (ap (λ (o : Option Checker). checker_in o far) e)
 
@@ -146,7 +146,7 @@ pub all_open : (T : Table) (limit : ℕ) (near : List Checker) (m : BTreeMap ℕ
     → ((conn : ℕ) → KnowsOn T limit conn [] (slice_get near conn)) → (conn : ℕ) → KnowsOn T limit conn [] (checker_in (slice_get near conn) (get nat_cmp m conn))
 all_open T limit near m e known conn = subst (KnowsOn T limit conn []) (sym (keeps (slice_get near conn) (get nat_cmp m conn) (no_far m e conn))) (known conn)
 
--- one place more, on whose connection nothing has happened
+-- one more slot, on whose connection there is no event
 pub open_more : (T : Table) (limit : ℕ) (near : List Checker) (c : Checker) → ((conn : ℕ) → KnowsOn T limit conn [] (slice_get near conn))
     → Knows T [] c → under T c ≡ on_connection T limit (length near) → (conn : ℕ) → KnowsOn T limit conn [] (slice_get (near ++ c ∷ []) conn)
 open_more T limit near c known knows judges conn = elim (eqb_tells (length near) conn) [
@@ -155,7 +155,7 @@ open_more T limit near c known knows judges conn = elim (eqb_tells (length near)
   | inr other ↦ subst (KnowsOn T limit conn []) (sym (push_other near c conn other.1)) (known conn)
 ]
 
--- the last place is given up for the map
+-- the checker of the last slot moves to the map
 pub moved : (near left : List Checker) (m n : BTreeMap ℕ Checker) (c : Checker) → near ≡ left ++ c ∷ [] → Updates nat_cmp m n (length left) (Some c)
     → (conn : ℕ) → checker_in (slice_get left conn) (get nat_cmp n conn) ≡ checker_in (slice_get near conn) (get nat_cmp m conn)
 moved near left m n c e updates conn = elim (eqb_tells (length left) conn) [

@@ -1,4 +1,4 @@
--- A text has one history, and one row of lines behind it, up to where it is read.
+-- A text has one history, and one list of lines after it, up to where it is read.
 use Rattle.std.proofs.Common.{◌≡◌, ℕ, ◌+◌, ◌⊎◌, List, [], ◌∷◌, ◌++◌, All, Option, length, map, arith, refl, ap, sym}
 use Rattle.std.proofs.Common.{◌∙◌, inl, inr, append_assoc, length-append}
 use Rattle.std.specs.List.{AllByRecursion, flat_map}
@@ -20,7 +20,7 @@ use Rattle.audit_check.specs.States.{EndsLine}
 use Rattle.audit_check.proofs.Cuts.{cut_once}
 use Rattle.audit_check.proofs.TextLines.{AreApart, HappeningsCut, StandsCut, at_feed, happening_ends, lacks, some_byte, stands_ends}
 
--- ---- the laws that this stands on
+-- ---- the laws of texts
 
 abbrev pub OneFront : Type 0
 OneFront = (T : Table) (declared : Declared) (x y : Next) (a b : List ℕ) → IsValid T → IsWritable T declared x → IsWritable T declared y
@@ -46,7 +46,7 @@ line_ends laws T declared (Happened x) valid h = happening_ends laws.happenings 
 line_ends laws T declared (Stands conn seq position name holding) valid h =
     stands_ends laws.stands (record { conn = conn; seq = seq; position = position; name = name; holding = holding }) h
 
--- two lines at the front of a text have the same bytes
+-- two lines at the start of a text have the same bytes
 same_bytes : (first other a b : List ℕ) → EndsLine first → EndsLine other → first ++ a ≡ other ++ b → (first ≡ other) × (a ≡ b)
 same_bytes first other a b ends ends' e =
     let same = cut_once 10 ends.0 ends'.0 a b (lacks ends.0 ends.2) (lacks ends'.0 ends'.2)
@@ -80,7 +80,7 @@ texts_of T xs = flat_map (bytes_of T) xs
 abbrev pub AreLines : Table → Declared → List AuditLine → Type 0
 AreLines T declared xs = AllByRecursion (IsLine T declared) xs
 
--- the first goes on to the second by these lines
+-- the first text continues to the second by these lines
 pub record GoesOn (T : Table) (declared : Declared) (xs ys : List AuditLine) (a b : List ℕ) : Type 0 where
   pub more : List AuditLine
   pub lines : ys ≡ xs ++ more
@@ -99,7 +99,7 @@ agree laws T declared (x ∷ xs) (y ∷ ys) a b valid h k e =
       | inr on ↦ inr (record { more = on.more; lines = (λ i. both.0 i ∷ on.lines i); text = on.text; are = on.are })
     ]
 
--- ---- histories with lines behind them
+-- ---- histories with lines after them
 
 abbrev pub line_at : StandsLine → AuditLine
 line_at s = Stands s.conn s.seq s.position s.name s.holding
@@ -124,7 +124,7 @@ pub whole_lines : (T : Table) (declared : Declared) (h : History) (told : List S
 whole_lines T declared [] told all in' = stands_lines T declared told in'
 whole_lines T declared (x ∷ h) told all in' = (All-head (IsWritable T declared) x h all, whole_lines T declared h told (All-tail (IsWritable T declared) x h all) in')
 
--- no happening stands behind a line of a call
+-- no event follows the line of a call
 only_stands : (told ts : List StandsLine) (x : Next) (more : List AuditLine) → map line_at told ≡ map line_at ts ++ Happened x ∷ more → ⊥
 only_stands [] [] x more e = cc
 only_stands [] (t ∷ ts) x more e = cc
@@ -182,7 +182,7 @@ read_as : (T : Table) (declared : Declared) (front rest text : List ℕ) (h : Hi
     → text ≡ front ++ rest → Tells T declared front h told → texts_of T (all_lines h told) ++ rest ≡ text
 read_as T declared front rest text h told e t = ap (λ (l : List ℕ). l ++ rest) (whole_text T h told ∙ sym t.is_text) ∙ sym e
 
--- a fault isn't followed by a line
+-- no line follows a fault
 no_more : TextLaws → (T : Table) (declared : Declared) (text : List ℕ) (line : ℕ)
     → (bad : IsFirstBad T declared text line) (h : History) (told : List StandsLine) (b : List ℕ) (x : AuditLine)
     (more : List AuditLine)

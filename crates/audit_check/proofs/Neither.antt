@@ -1,4 +1,4 @@
--- A text has an answer or a first line that is bad: never neither.
+-- A text has a result or a first invalid line.
 use Rattle.std.proofs.Common.{◌≡◌, ℕ, zero, suc, ◌+◌, ◌<◌, ◌≤◌, List, [], ◌∷◌, ◌++◌, Contains, length, arith, refl}
 use Rattle.std.proofs.Common.{ap, sym, subst, ◌∙◌, inl, inr, append_assoc, length-append}
 use Rattle.std.specs.List.{AllByRecursion}
@@ -41,7 +41,7 @@ below_more P rule below here other less = elim (cases_lt (order_of other) (order
   | inr behind ↦ subst P (same_rule rule other (omega (arith, less, behind))) here
 ]
 
--- ---- a happening may come, or it breaks a rule first
+-- ---- an event is legal, or it breaks a rule first
 
 may_from : (u : Under) (past : Behind) (next : Happening) → Below (Keeps u past next) 7 → May u past next
 may_from u past next keeps = record {
@@ -70,7 +70,7 @@ may_or_breaks u past next none no_may =
     next_rule u past next F none e (λ f.
     next_rule u past next G none f (λ g. no_may (may_from u past next g))))))))
 
--- ---- something is left open first, or nothing is
+-- ---- a first obligation, or none
 
 abbrev NotOpen : History → Rule → Type 0
 NotOpen h rule = (conn : ℕ) → Awaits (behind conn h) rule → ⊥
@@ -91,9 +91,9 @@ settled_from h none conn =
     let g = not_open h none G f in
     record { malformed = b B (omega arith) conn; quota = d D (omega arith) conn; link = g G (omega arith) conn }
 
--- ---- all calls that stand
+-- ---- all pending calls
 
--- so many numbers, from one on
+-- this many numbers, from one on
 rising : ℕ → ℕ → List ℕ
 rising from zero = []
 rising from (suc count) = from ∷ rising (from + 1) count
@@ -116,7 +116,7 @@ in_rising from (suc count) n low high = elim (eqb_tells from n) [
   | inr other ↦ in_later from n (rising (from + 1) count) (in_rising (from + 1) count n (omega (arith, low, other.1)) (omega (arith, high)))
 ]
 
--- above all connections of a history
+-- a number above all connections of a history
 most : History → ℕ
 most [] = 0
 most (x ∷ h) = x.conn + 1 + most h
@@ -144,9 +144,9 @@ none_told T limit h prefixes = record {
   tell = λ conn. tt;
 }
 
--- ---- what is answered
+-- ---- the result
 
--- nothing is answered of a history and the lines behind it
+-- a history and the lines after it have no result
 abbrev Unjudged : Table → ℕ → History → List StandsLine → Type 0
 Unjudged T limit h told = (checked : Checked) → IsJudged T limit h told checked → ⊥
 

@@ -1,4 +1,4 @@
--- An answer comes where it is the answer.
+-- A result comes if it is the text's.
 use Rattle.std.proofs.Common.{◌≡◌, ℕ, ◌⊎◌, List, Result, Ok, Err, IfOk, IfErr, MatchResult, refl, ap, inl, inr}
 use Rattle.mrpc_table.specs.declared.table.Table.{Table}
 use Rattle.policy_blocks.specs.Declarations.{Declared}

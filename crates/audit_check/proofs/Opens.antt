@@ -1,4 +1,4 @@
--- What is left open on some connections, and on all.
+-- Obligations on some connections, and on all.
 use Rattle.std.proofs.Common.{◌≡◌, ℕ, ◌<◌, ◌≤◌, true, false, List, [], ◌∷◌, ◌++◌, All, arith, refl, sym, subst}
 use Rattle.std.proofs.Common.{Option, Some, None, IfNone, IfSome, IsSome, inl, inr}
 use Rattle.std.specs.BTreeMap.{BTreeMap, get, keys}
@@ -17,7 +17,7 @@ use Rattle.audit_rules.specs.declared.rule.Rule.TheVariants.{A, B, C, D, E, F, G
 use Rattle.audit_check.specs.Checking.{IsFirstOpen}
 use Rattle.audit_check.specs.States.{IsEarlier, IsFirstIn, KnowsOn, KnowsEach}
 
--- nothing is awaited where nothing is left open
+-- without an obligation nothing is awaited
 pub none_awaited : (past : Behind) → IsSettledUp past → (rule : Rule) → Awaits past rule → ⊥
 none_awaited past settled A awaited = awaited
 none_awaited past settled B awaited = settled.malformed awaited
@@ -28,7 +28,7 @@ none_awaited past settled F awaited = awaited
 none_awaited past settled G awaited = settled.link awaited
 none_awaited past settled Stands awaited = awaited
 
--- nothing is left open where nothing has happened
+-- without events there is no obligation
 pub nothing_settled : IsSettledUp []
 nothing_settled = record { malformed = λ z. z; quota = λ z. z; link = λ link. absurd (let e : false ≡ true = link.failed in cc) }
 
@@ -42,7 +42,7 @@ settled_before h rule conns all =
 lower : (h : History) (rule second : Rule) (conn : ℕ) → order_of second ≤ order_of rule → NoneBefore h rule conn → NoneBefore h second conn
 lower h rule second conn le none other below = none other (omega arith)
 
--- one connection more
+-- one more connection
 pub one_more : (h : History) (conns : List ℕ) (conn : ℕ) (first now later : Option Rule) → IsEarlier first now later → IsFirstIn h conns first
     → IfNone now (IsSettledUp (behind conn h)) → IfSome now (IsLeftOpen (behind conn h)) → IsFirstIn h (conns ++ conn ∷ []) later
 one_more h conns conn None None later e first settled left =
@@ -84,7 +84,7 @@ at_key T limit h m P conn (Some c) e known all none =
     let is : IsSome (get nat_cmp m conn) = subst IsSome (sym e) refl in
     All-contains (λ conn. P (behind conn h)) (keys m) conn all ((btree_map_contains_key_iff nat_cmp_total exact_unsigned m conn).0 is)
 
--- what holds of the connections of the map, and of one on which nothing has happened, holds of all
+-- what holds of the connections of the map, and of one without events, holds of all
 pub of_all : (T : Table) (limit : ℕ) (h : History) (m : BTreeMap ℕ Checker) (P : Behind → Type 0) → KnowsEach T limit h m
     → All (λ conn. P (behind conn h)) (keys m) → P [] → (conn : ℕ) → P (behind conn h)
 of_all T limit h m P known all none conn = at_key T limit h m P conn (get nat_cmp m conn) refl (known conn) all none

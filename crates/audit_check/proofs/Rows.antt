@@ -1,4 +1,4 @@
--- The calls that stand, told one after another.
+-- The pending calls, listed one after another.
 use Rattle.std.proofs.Common.{◌≡◌, ◌≢◌, ℕ, zero, suc, ◌+◌, ◌<◌, ◌≤◌, ◌==◌, nat_lt, ◌↔◌, Bool, true, false, cond, List}
 use Rattle.std.proofs.Common.{[], ◌∷◌, ◌++◌, All, Contains, length, map, drop, arith, refl, ap, sym, subst, ◌∙◌, inl}
 use Rattle.std.proofs.Common.{inr, Option, Some, None, IsSome, IsTrue, is_some, is_none, not, if◌then◌else◌}
@@ -50,7 +50,7 @@ lines-other conn told s other =
     let none : lines_on conn (s ∷ []) ≡ [] = rw isnt refl in
     filter-append (λ (s : StandsLine). s.conn == conn) told (s ∷ []) ∙ ap (λ l. lines_on conn told ++ l) none ∙ append-nil (lines_on conn told)
 
--- lines that tell calls, and one more
+-- lines that list calls, and one more
 pub tell_more : (u : Under) (past : Behind) (before : List ℕ) (told : List StandsLine) (s : StandsLine) → TellCalls u past before told
     → TellsNext u past (before ++ map (λ s. s.position) told) s.seq s.position s.name (held_of s) → TellCalls u past before (told ++ s ∷ [])
 tell_more u past before [] s calls next =
@@ -116,7 +116,7 @@ after_step T limit h told turn rest (Some next) rest' knows is popped =
       (untold.0.0, untold.1),
     )
 
--- a connection whose calls are all told is done
+-- a connection whose calls are all listed is done
 pub row_step : (T : Table) (limit : ℕ) (h : History) (told : List StandsLine) (turn : Turn) (rest : BTreeMap ℕ Checker) (current' : Option Turn) (rest' : BTreeMap ℕ Checker)
     → IsRowOf T limit h told (Some turn) rest → IsTold h told (Some turn) → Popped rest current' rest' → IsRowOf T limit h told current' rest'
 row_step T limit h told turn rest current' rest' row is popped =
@@ -135,7 +135,7 @@ row_step T limit h told turn rest current' rest' row is popped =
       prefixes = row.prefixes;
     }
 
--- ---- one line more
+-- ---- one more line
 
 untold_apart : (T : Table) (limit : ℕ) (h : History) (told : List StandsLine) (s : StandsLine) (entries : List (ℕ × Checker))
     → AllByRecursion (λ m. s.conn < m) (map (λ e. e.0) entries) → AllByRecursion (KnowsUntold T limit h told) entries
@@ -154,7 +154,7 @@ rise_behind : (done : List ℕ) (n : ℕ) (ns : List ℕ) → Rise (done ++ n �
 rise_behind [] n ns rise = rise.0
 rise_behind (d ∷ done) n ns rise = rise_behind done n ns rise.1
 
--- what is left of a list from a place on begins with what stands there
+-- the suffix of a list from an index on starts with the element there
 drop_from : {X Y : Type 0} (f : X → Y) (xs : List X) (n : ℕ) (x : X) → slice_get xs n ≡ Some x → drop n (map f xs) ≡ f x ∷ drop (n + 1) (map f xs)
 drop_from f [] n x e = absurd (omega (arith, slice_get_within [] n x e))
 drop_from f (y ∷ xs) zero x e = let same : y ≡ x = cc in ap (λ z. f z ∷ map f xs) same
@@ -179,7 +179,7 @@ tell_also T limit h told s next tell conn = elim (eqb_tells s.conn conn) [
 abbrev pub Next : Table → ℕ → History → List StandsLine → StandsLine → Type 0
 Next T limit h told s = TellsNext (on_connection T limit s.conn) (behind s.conn h) (positions_on s.conn told) s.seq s.position s.name (held_of s)
 
--- the call that a line tells comes first of those that are left
+-- the call that a line lists is the first unlisted one
 next_left : (T : Table) (limit : ℕ) (h : History) (told : List StandsLine) (s : StandsLine) → Next T limit h told s
     → drop (length (lines_on s.conn told)) (calls_on h s.conn) ≡ call_of s ∷ drop (length (lines_on s.conn told) + 1) (calls_on h s.conn)
 next_left T limit h told s next =
@@ -220,7 +220,7 @@ row_tell T limit h told s c c' rest row next knows judges =
       prefixes = row.prefixes;
     }
 
--- ---- what a row says
+-- ---- what a row means
 
 pub row_standing : (T : Table) (limit : ℕ) (h : History) (told : List StandsLine) (current : Option Turn) (rest : BTreeMap ℕ Checker)
     → (row : IsRowOf T limit h told current rest) → AreAllStanding h (calls_of h (row.done ++ conns_of current rest))
@@ -236,7 +236,7 @@ row_begins T limit h told current rest row = record {
   tell = row.tell;
 }
 
--- no call is left where no connection is
+-- without a connection no call is unlisted
 pub whole_at_end : (T : Table) (limit : ℕ) (h : History) (told : List StandsLine) (rest : BTreeMap ℕ Checker)
     → IsRowOf T limit h told None rest → AreWhole T limit h told
 whole_at_end T limit h told rest row =
@@ -250,7 +250,7 @@ same_left : {X : Type 0} (xs ys zs : List X) → xs ++ ys ≡ xs ++ zs → ys �
 same_left [] ys zs e = e
 same_left (x ∷ xs) ys zs e = same_left xs ys zs (let t : xs ++ ys ≡ xs ++ zs = cc in t)
 
--- what is left of the calls, where lines may go on like this
+-- the unlisted calls, if lines can continue like this
 pub left_is : (T : Table) (limit : ℕ) (h : History) (told more : List StandsLine) (current : Option Turn) (rest : BTreeMap ℕ Checker)
     → IsRowOf T limit h told current rest → (begin : MayBegin T limit h (told ++ more))
     → left_of h told current rest ≡ map call_of more ++ begin.front.0
@@ -280,7 +280,7 @@ some_left T limit h told conn checker knows some = omega (
   length-map (standing (behind conn h)) (name_on conn),
 )
 
--- some call of the current connection is left
+-- some call of the current connection is unlisted
 left_here : (T : Table) (limit : ℕ) (h : History) (told : List StandsLine) (turn : Turn) (rest : BTreeMap ℕ Checker)
     → IsRowOf T limit h told (Some turn) rest → (IsTold h told (Some turn) → ⊥) → (c : CallName) (others : List CallName)
     → left_of h told (Some turn) rest ≡ c ∷ others → c.0 ≡ turn.conn
@@ -288,7 +288,7 @@ left_here T limit h told turn rest row some c others e =
     first_here turn.conn (drop (length (lines_on turn.conn told)) (calls_on h turn.conn)) (calls_of h (keys rest)) others c
     (some_left T limit h told turn.conn turn.checker row.knows.0 some) e (dropped_conn turn.conn (standing (behind turn.conn h)) (length (lines_on turn.conn told)))
 
--- a line that may follow is one of the current connection, and tells its next call
+-- a line that can follow is one of the current connection, and lists its next call
 pub next_is : (T : Table) (limit : ℕ) (h : History) (told : List StandsLine) (s : StandsLine) (turn : Turn) (rest : BTreeMap ℕ Checker)
     → IsRowOf T limit h told (Some turn) rest → (IsTold h told (Some turn) → ⊥) → MayBegin T limit h (told ++ s ∷ []) → (s.conn ≡ turn.conn) × Next T limit h told s
 next_is T limit h told s turn rest row some begin =
@@ -302,7 +302,7 @@ pub none_is : (T : Table) (limit : ℕ) (h : History) (told : List StandsLine) (
 none_is T limit h told s rest row begin =
     let left : [] ≡ call_of s ∷ begin.front.0 = left_is T limit h told (s ∷ []) None rest row begin in cc
 
--- where a call of the current connection is left, the lines aren't whole
+-- if a call of the current connection is unlisted, the lines don't list all
 pub not_whole : (T : Table) (limit : ℕ) (h : History) (told : List StandsLine) (turn : Turn) (rest : BTreeMap ℕ Checker)
     → IsRowOf T limit h told (Some turn) rest → (IsTold h told (Some turn) → ⊥) → AreWhole T limit h told → ⊥
 not_whole T limit h told turn rest row some whole =
@@ -395,7 +395,7 @@ row_first nothing T limit h settled m current rest popped rise known prefixes =
       prefixes = prefixes;
     }
 
--- ---- as the row's code asks
+-- ---- in the form that the row's code needs
 
 pub current_of : (T : Table) (limit : ℕ) (h : History) (told : List StandsLine) (current : Option Turn)
     (rest : BTreeMap ℕ Checker) → KnowsRest T limit h told current rest → KnowsCurrent T limit h told current
@@ -443,7 +443,7 @@ as_next T limit h told s conn c name held e en eh judges next =
     let C : ℕ → Type 0 = λ conn. TellsNext (on_connection T limit conn) (behind conn h) (positions_on conn told) s.seq s.position s.name (held_of s) in
     subst U (sym judges) (subst N (sym en) (subst H (sym eh) (subst C e next)))
 
--- the line tells the next call of the current connection
+-- the line lists the next call of the current connection
 pub row_told : (T : Table) (limit : ℕ) (h : History) (told : List StandsLine) (s : StandsLine) (conn : ℕ)
     (c c' : Checker) (rest : BTreeMap ℕ Checker) (name : List ℕ) (held : Option (ℕ × ℕ))
     → conn ≡ s.conn → name ≡ s.name → held ≡ held_of s → IsRowOf T limit h told (Some (record { conn = conn; checker = c })) rest
@@ -457,7 +457,7 @@ row_told T limit h told s conn c c' rest name held e en eh row next knows same =
     let A : ℕ → Type 0 = λ conn. IsRowOf T limit h (told ++ s ∷ []) (Some (record { conn = conn; checker = c' })) rest in
     subst A (sym e) (row_tell T limit h told s c c' rest (subst R e row) told_next (subst K e knows) (subst J e (same ∙ row.knows.0.judges)))
 
--- a line that may follow tells the next call of the current connection
+-- a line that can follow lists the next call of the current connection
 pub row_next : (T : Table) (limit : ℕ) (h : History) (told : List StandsLine) (s : StandsLine) (conn : ℕ)
     (c : Checker) (rest : BTreeMap ℕ Checker) (name : List ℕ) (held : Option (ℕ × ℕ))
     → name ≡ s.name → held ≡ held_of s → IsRowOf T limit h told (Some (record { conn = conn; checker = c })) rest

@@ -1,4 +1,4 @@
--- How far a text was judged, once one more line comes.
+-- The judgement after one more line.
 use Rattle.std.proofs.Common.{◌≡◌, ℕ, ◌+◌, ◌⊎◌, List, [], ◌∷◌, ◌++◌, Option, Some, None, IfNone, MatchResult, Result, Ok, Err, length, arith, ap}
 use Rattle.std.proofs.Common.{sym, subst, ◌∙◌, inl, inr, append_assoc, length-append}
 use Rattle.std.proofs.lemmas.Bool.Decides.{eqb_tells}
@@ -20,7 +20,7 @@ pub if_none_at : {A : Type 0} (o : Option A) (P : Type 0) → o ≡ None → IfN
 if_none_at None P e p = p
 if_none_at (Some x) P e p = absurd cc
 
--- prefixes, and one happening more
+-- legal prefixes, and one more event
 pub prefixes_more : (T : Table) (limit : ℕ) (h : History) (next : Happened) → ArePrefixes T limit h
     → May (on_connection T limit next.conn) (behind next.conn h) next.what → ArePrefixes T limit (h ++ next ∷ [])
 prefixes_more T limit h next prefixes may conn = elim (eqb_tells next.conn conn) [
@@ -68,7 +68,7 @@ misplaced_more T limit h told s i m = record {
   rule = m.rule;
 }
 
--- what is illegal stays so behind one line more
+-- what is illegal stays illegal after one more line
 pub illegal_more : (T : Table) (limit : ℕ) (h : History) (told : List StandsLine) (s : StandsLine) (i : Place)
     → IsIllegalAt T limit h told i
     → IsBroken T limit h i ⊎ ((told ++ s ∷ [] ≡ [] → ⊥) × IsIllegalAt T limit h (told ++ s ∷ []) i)
@@ -76,7 +76,7 @@ illegal_more T limit h told s i (inl broken) = inl broken
 illegal_more T limit h told s i (inr (inl left)) = inr (some_more told s, inr (inl left))
 illegal_more T limit h told s i (inr (inr m)) = inr (some_more told s, inr (inr (misplaced_more T limit h told s i m)))
 
--- what is illegal, as it is answered
+-- what is illegal, as the result has it
 pub illegal_judged : (T : Table) (limit : ℕ) (h : History) (told : List StandsLine) (i : Place) → IsIllegalAt T limit h told i → IsJudged T limit h told (Illegal i.line i.rule)
 illegal_judged T limit h told i (inl b) = judged_broken b.before b.after b.next i.rule b.history b.prefixes b.breaks (ap (λ (line : ℕ). Illegal line i.rule) b.counted)
 illegal_judged T limit h told i (inr (inl o)) = open_end i.rule o.prefixes o.first (ap (λ (line : ℕ). Illegal line i.rule) o.counted)

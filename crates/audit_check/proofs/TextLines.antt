@@ -70,7 +70,7 @@ at_end text first rest other behind joined (inr none) ends e =
     let all : text ≡ first = joined ∙ ap (λ (l : List ℕ). first ++ l) none.1 ∙ append-nil first in
     absurd (cut_nowhere 10 text ends.0 behind (subst (Lacks 10) (sym all) (lacks first none.0)) (at_feed text ends.0 behind other ends.1 e))
 
--- a line at the front of a text is its first line
+-- a line at the start of a text is its first line
 front_line : (text first rest other behind : List ℕ) → IsFirstLine text first rest → EndsLine other → text ≡ other ++ behind → first ≡ other
 front_line text first rest other behind is ends e = at_end text first rest other behind is.joined is.ends ends e
 
@@ -96,7 +96,7 @@ tells_short T declared front h told t = omega (arith, ap length t.is_text, lengt
 pub tells_nothing : (T : Table) (declared : Declared) → Tells T declared [] [] []
 tells_nothing T declared = record { is_text = refl; writable = All-nil (IsWritable T declared); in_range = All-nil IsStandsLine }
 
--- a happening more, where no line of a call that stands came
+-- one more event, if no line of a pending call came
 pub tells_happening : (T : Table) (declared : Declared) (front first : List ℕ) (h : History) (told : List StandsLine) (x : Next)
     → Tells T declared front h told → told ≡ [] → IsWritable T declared x → first ≡ audit_line T x → Tells T declared (front ++ first) (h ++ x ∷ []) told
 tells_happening T declared front first h told x t none writable e =
@@ -126,7 +126,7 @@ tells_standing T declared front first h told s t in' e =
 some_text : (rest : List ℕ) → 0 < length rest → rest ≡ [] → ⊥
 some_text rest some e = omega (arith, some, ap length e)
 
--- what comes next is no line
+-- what follows is no line
 pub no_line : HappeningsCut → StandsCut → (T : Table) (declared : Declared) (text front rest first others : List ℕ) (h : History) (told : List StandsLine) → IsValid T
     → text ≡ front ++ rest → Tells T declared front h told → 0 < length rest → IsFirstLine rest first others
     → ((x : AuditLine) → IsLine T declared x → first ≡ bytes_of T x → ⊥) → IsFirstBad T declared text (length h + length told + 1)
@@ -148,7 +148,7 @@ no_line happenings stands T declared text front rest first others h told valid i
 abbrev pub AreApart : Type 0
 AreApart = (T : Table) (x : Next) (conn seq position : ℕ) (name : List ℕ) (holding : Option Holding) → stands_line conn seq position name holding ≢ audit_line T x
 
--- what comes next is a happening behind a call that stands
+-- what follows is an event after a pending call
 pub late_happening : StandsCut → AreApart → (T : Table) (declared : Declared) (text front rest first others : List ℕ) (h : History) (told : List StandsLine) (x : Next)
     → text ≡ front ++ rest → Tells T declared front h told → 0 < length rest → IsFirstLine rest first others
     → (told ≡ [] → ⊥) → first ≡ audit_line T x → IsFirstBad T declared text (length h + length told + 1)
@@ -165,7 +165,7 @@ late_happening stands apart T declared text front rest first others h told x is_
   counted = refl;
 }
 
--- ---- what may be judged
+-- ---- events that can be judged
 
 abbrev named : List ℕ → List NamedPolicy → Option Policy
 named label policies = option_map (λ p. p.policy) (find (λ p. bytes_eq p.name label) policies)
@@ -204,7 +204,7 @@ pub readable_line : (T : Table) (declared : Declared) (x : AuditLine) → All (�
 readable_line T declared (Happened x) all h = readable T declared x.what all h.told
 readable_line T declared (Stands conn seq position name holding) all h = tt
 
--- ---- as the reader's loop asks
+-- ---- in the form that the reader's loop needs
 
 pub if_some_at : {A : Type 0} (o : Option A) (x : A) (P : A → Type 0) → o ≡ Some x → IfSome o P → P x
 if_some_at None x P e h = absurd cc
@@ -257,7 +257,7 @@ read_whole T declared limit text rest p r none =
     let P : List ℕ → Type 0 = λ text. Tells T declared text r.history r.told in
     subst P (sym (r.is_text ∙ ap (λ (l : List ℕ). r.front ++ l) none ∙ append-nil r.front)) r.tells
 
--- a line was taken, or couldn't be
+-- a line was applied, or failed
 pub taken_on : StandsCut → AreApart → (T : Table) (declared : Declared) (limit : ℕ) (text rest first others : List ℕ) (p p' : Progress) (x : AuditLine) (result : Result (Unit {0}) AuditFault)
     → (r : IsRead T declared limit text rest p) → 0 < length rest → IsFirstLine rest first others → IsLine T declared x → first ≡ bytes_of T x
     → MatchResult result (λ _. TakesOn T limit r.history r.told x p') (FailsOn r.history r.told x)

@@ -44,7 +44,7 @@ use Rattle.audit_check.proofs.Calls.{in_first, in_one}
 use Rattle.audit_check.proofs.Known.{behind-other}
 use Rattle.audit_check.proofs.Opens.{nothing_settled}
 
--- ---- what happens
+-- ---- the events
 
 abbrev table : Table
 table = record {
@@ -95,7 +95,7 @@ denied = on_one (Op attach) ∷ on_one (Took call) ∷ on_one (Refused 1 (cause.
 abbrev sent : History
 sent = on_one (Op attach) ∷ on_one (Took call) ∷ on_one (Sent 1 19) ∷ []
 
--- ---- why it may
+-- ---- why they are legal
 
 abbrev under : Under
 under = on_connection table 1024 1
@@ -109,7 +109,7 @@ before = Took call ∷ none_yet
 none-in : {X : Type 0} (x : X) → Contains [] x → ⊥
 none-in x has = omega (arith, has.1)
 
--- nothing stands against the first step
+-- the first operation has no reason for a rejection
 free-attach : (refusal : Refusal) → IsAgainst [] attach refusal → ⊥
 free-attach refusal (detaches_none n is not r) = cc
 free-attach refusal (upgrades_none n l p is not r) = cc
@@ -213,7 +213,7 @@ nothing-legal conn = record { prefix = tt; closed = nothing_settled }
 prefixes-taken : ArePrefixes table 1024 taken
 prefixes-taken = on-each IsPrefixOn taken ((tt, may-attach), may-take) (λ conn. tt) other-taken
 
--- ---- what is answered
+-- ---- the result
 
 -- the policy denies the call, and it is refused
 judged-denied : IsJudged table 1024 denied [] (Legal 3 0)
@@ -267,7 +267,7 @@ keeps-before F less = absurd (omega (arith, less))
 keeps-before G less = absurd (omega (arith, less))
 keeps-before Stands less = absurd (omega (arith, less))
 
--- it is sent, which its policy denies
+-- it is sent, although its policy denies it
 judged-sent : IsJudged table 1024 sent [] (Illegal 3 E)
 judged-sent =
     broken taken [] (on_one (Sent 1 19)) E refl prefixes-taken (record {
@@ -290,9 +290,9 @@ judged-third =
       earlier = λ other less. absurd (omega (arith, less));
     }) refl
 
--- ---- lines of calls that stand
+-- ---- lines of pending calls
 
--- the call alone, which stands at the end of a chain without an entry
+-- the call alone, pending at the end of a chain without entries
 abbrev single : History
 single = on_one (Took call) ∷ []
 
@@ -385,7 +385,7 @@ told-single conn = elim (eqb_tells 1 conn) [
 whole-single : AreWhole table 1024 single (standing_call 1 ∷ [])
 whole-single = record { begin = record { calls = the_call ∷ []; all = all-single; front = ([], refl); tell = told-single }; all = all-single }
 
--- its line tells that it stands
+-- its line lists it
 judged-stands : IsJudged table 1024 single (standing_call 1 ∷ []) (Legal 1 1)
 judged-stands = legal legal-single (inr whole-single) refl
 
@@ -400,7 +400,7 @@ tells-no-second told =
     some-same : (x y : Taken) → Some x ≡ Some y → x ≡ y
     some-same x y e = cc
 
--- a line of call 2 in its place tells no call that stands
+-- the line of call 2 in its place lists no pending call
 judged-second : IsJudged table 1024 single (standing_call 2 ∷ []) (Illegal 2 Stands)
 judged-second = misplaced [] [] (standing_call 2) legal-single refl begins-with_nothing (λ begin. tells-no-second (begin.tell 1).0) refl
 
@@ -434,7 +434,7 @@ none-earlier F conn less awaited = omega (arith, less)
 none-earlier G conn less awaited = omega (arith, less)
 none-earlier Stands conn less awaited = omega (arith, less)
 
--- it waits for its refusal
+-- it awaits its refusal
 judged-faulty : IsJudged table 1024 unrefused [] (Illegal 2 B)
 judged-faulty =
     open_end B (on-each IsPrefixOn unrefused (tt, may-take-faulty) (λ conn. tt) (λ conn other. behind-other conn [] (on_one (Took faulty)) other))

@@ -1,5 +1,5 @@
--- What the text of an audit tells, and what its checker answers: whether its history is legal, and whether the lines
--- behind it tell the calls that stand (this project's own).
+-- What an audit text means, and the result of its check: whether its history is legal, and whether the lines after it
+-- list the pending calls (this project's own).
 use Rattle.std.specs.Prelude.{◌≡◌, ℕ, ◌+◌, ◌<◌, ◌==◌, ◌⊎◌, ◌↔◌, List, [], ◌∷◌, ◌++◌, All, Contains, Option, filter, length, map, option_map}
 use Rattle.std.specs.List.{flat_map}
 use Rattle.mrpc_table.specs.declared.table.Table.{Table}
@@ -18,10 +18,10 @@ use Rattle.audit_rules.specs.declared.rule.Rule.TheVariants.{Stands}
 use Rattle.audit_check.specs.declared.checked.Checked.{Checked}
 use Rattle.audit_check.specs.declared.checked.Checked.TheVariants.{Legal, Illegal}
 
--- ---- lines of calls that stand
+-- ---- lines of pending calls
 
--- a call that stands on a connection, at a position of its chain, with the name of the engine there, and what it is
--- held at, if it is
+-- a pending call of a connection, at a position of its chain, with the name of the engine there, and the level and cost
+-- if it is held
 pub record StandsLine : Type 0 where
   pub conn : ℕ
   pub seq : ℕ
@@ -42,7 +42,7 @@ IsStandsLine s = IsStanding s.conn s.seq s.position s.name s.holding
 
 -- ---- texts
 
--- The text is that of a history, and behind it come lines of calls that stand.
+-- The text is the audit of a history, followed by lines of pending calls.
 pub record Tells (T : Table) (declared : Declared) (text : List ℕ) (h : History) (stands : List StandsLine)
     : Type 0 where
   pub is_text : text ≡ audit T h ++ lines_of stands
@@ -53,8 +53,8 @@ pub record Tells (T : Table) (declared : Declared) (text : List ℕ) (h : Histor
 abbrev pub Begins : {A : Type 0} → List A → List A → Type 0
 Begins {A} list front = (rest : List A) × (list ≡ front ++ rest)
 
--- The text is at fault at this line, counted from 1, and at none before: the lines before tell a history and calls that
--- stand, and what comes next is no line, or it is that of a happening behind one of a call that stands.
+-- This line of the text, counted from 1, is its first invalid one: the lines before are events and then pending calls,
+-- and what follows starts with no line, or with an event's after a pending call's.
 pub record IsFirstBad (T : Table) (declared : Declared) (text : List ℕ) (line : ℕ) : Type 0 where
   pub front : List ℕ
   pub rest : List ℕ
@@ -67,35 +67,35 @@ pub record IsFirstBad (T : Table) (declared : Declared) (text : List ℕ) (line 
   pub no_stands : (s : StandsLine) → IsStandsLine s → Begins rest (line_of s) → ⊥
   pub counted : line ≡ length history + length stands + 1
 
--- ---- the calls that stand
+-- ---- the pending calls
 
--- under which the happenings of a connection are judged
+-- the context under which the events of a connection are judged
 abbrev pub on_connection : Table → ℕ → ℕ → Under
 on_connection T limit conn = record { conn = conn; table = T; limit = limit }
 
--- a call by its connection and its number, and the one that a line tells
+-- a call by its connection and its number
 abbrev pub CallName : Type 0
 CallName = ℕ × ℕ
 
 abbrev pub call_of : StandsLine → CallName
 call_of s = (s.conn, s.seq)
 
--- it comes before another: on an earlier connection, or with a smaller number on the same
+-- on an earlier connection, or on the same with a smaller number
 abbrev pub IsBefore : CallName → CallName → Type 0
 IsBefore one other = (one.0 < other.0) ⊎ ((one.0 ≡ other.0) × (one.1 < other.1))
 
--- each comes before all that stand behind it
+-- each is before all later ones
 abbrev pub Ascend : List CallName → Type 0
 Ascend [] = Unit {0}
 Ascend (call ∷ calls) = All (IsBefore call) calls × Ascend calls
 
--- all calls that stand, in the order of connections and numbers
+-- all pending calls, in the order of connections and numbers
 pub record AreAllStanding (h : History) (calls : List CallName) : Type 0 where
   pub ascend : Ascend calls
   pub each : (conn seq : ℕ) → Contains calls (conn, seq)
       ↔ Contains (map (λ call. call.seq) (standing (behind conn h))) seq
 
--- behind lines that told calls at these positions, lines tell the next calls of the connection, one after another
+-- after lines of calls at these positions, lines list the next calls of the connection, one after another
 abbrev pub TellCalls : Under → Behind → List ℕ → List StandsLine → Type 0
 TellCalls u past positions [] = Unit {0}
 TellCalls u past positions (s ∷ stands) =
@@ -106,52 +106,52 @@ TellCalls u past positions (s ∷ stands) =
 abbrev pub lines_on : ℕ → List StandsLine → List StandsLine
 lines_on conn stands = filter (λ s. s.conn == conn) stands
 
--- Lines may begin to tell the calls that stand: they name the first of them, in order, and on each connection they tell
--- them one after another.
+-- Lines can be the first ones of the pending calls: they name a prefix of them, in order, and list those of each
+-- connection one after another.
 pub record MayBegin (T : Table) (limit : ℕ) (h : History) (stands : List StandsLine) : Type 0 where
   pub calls : List CallName
   pub all : AreAllStanding h calls
   pub front : Begins calls (map call_of stands)
   pub tell : (conn : ℕ) → TellCalls (on_connection T limit conn) (behind conn h) [] (lines_on conn stands)
 
--- they tell all of them
+-- they list all of them
 pub record AreWhole (T : Table) (limit : ℕ) (h : History) (stands : List StandsLine) : Type 0 where
   pub begin : MayBegin T limit h stands
   pub all : AreAllStanding h (map call_of stands)
 
--- ---- what is answered
+-- ---- results
 
--- of the rules for which something is open on any connection, this is the first
+-- of the rules with an obligation on any connection, this is the first
 pub record IsFirstOpen (h : History) (rule : Rule) : Type 0 where
   pub conn : ℕ
   pub awaited : Awaits (behind conn h) rule
   pub earlier : (other : Rule) (conn : ℕ) → order_of other < order_of rule → Awaits (behind conn h) other → ⊥
 
--- on each connection all came as the rules say
+-- the events of each connection are a legal prefix
 abbrev pub ArePrefixes : Table → ℕ → History → Type 0
 ArePrefixes T limit h = (conn : ℕ) → IsPrefix (on_connection T limit conn) (behind conn h)
 
--- What is answered of a history and the lines of calls that stand behind it. The lines of the text are counted from 1.
+-- The result of a history and of the lines of pending calls after it. Lines of the text are counted from 1.
 pub data IsJudged (T : Table) (limit : ℕ) (h : History) (stands : List StandsLine) (checked : Checked) : Type 0 where
-  -- the history is legal, and there are no lines of calls that stand, or these tell them all
+  -- the history is legal, and there are no lines of pending calls, or they list all of them
   legal : IsLegal T limit h → (stands ≡ []) ⊎ AreWhole T limit h stands
       → checked ≡ Legal (length h) (length stands) → IsJudged T limit h stands checked
-  -- all came as the rules say up to a happening, which breaks this rule first
+  -- the events before this one are legal, and it breaks this rule first
   broken : (before after : History) (x : Happened) (rule : Rule) → h ≡ before ++ x ∷ after
       → ArePrefixes T limit before → BreaksFirst (on_connection T limit x.conn) (behind x.conn before) x.what rule
       → checked ≡ Illegal (length before + 1) rule → IsJudged T limit h stands checked
-  -- all came as the rules say, and something is left open
+  -- all events are legal, and there is an obligation
   open_end : (rule : Rule) → ArePrefixes T limit h → IsFirstOpen h rule
       → checked ≡ Illegal (length h + 1) rule → IsJudged T limit h stands checked
-  -- the history is legal, and a line of a call that stands can't follow on those before it
+  -- the history is legal, and the line of a pending call can't follow those before it
   misplaced : (front back : List StandsLine) (s : StandsLine) → IsLegal T limit h → stands ≡ front ++ s ∷ back
       → MayBegin T limit h front → (MayBegin T limit h (front ++ s ∷ []) → ⊥)
       → checked ≡ Illegal (length h + length front + 1) Stands → IsJudged T limit h stands checked
-  -- the history is legal, and there are lines of calls that stand, but not of all
+  -- the history is legal, and there are lines of pending calls, but not of all
   missing : IsLegal T limit h → (stands ≡ [] → ⊥) → MayBegin T limit h stands → (AreWhole T limit h stands → ⊥)
       → checked ≡ Illegal (length h + length stands + 1) Stands → IsJudged T limit h stands checked
 
--- what is answered of a text whose lines are all lines of an audit text
+-- the result of a text whose lines are all audit lines
 pub record IsChecked (T : Table) (declared : Declared) (limit : ℕ) (text : List ℕ) (checked : Checked) : Type 0 where
   pub history : History
   pub stands : List StandsLine

@@ -1,4 +1,4 @@
--- The code's own: how far a text was read.
+-- The code's own: progress through a text.
 use Rattle.std.specs.Prelude.{◌≡◌, ℕ, ◌+◌, ◌⊎◌, List, [], ◌∷◌, ◌++◌, length}
 use Rattle.mrpc_table.specs.declared.table.Table.{Table}
 use Rattle.call_history.specs.Legal.{History}
@@ -12,7 +12,7 @@ use Rattle.audit_check.specs.Checking.{StandsLine, Tells}
 use Rattle.audit_check.specs.Stages.{IsStage}
 use Rattle.audit_check.specs.declared.progress.Progress.{Progress}
 
--- so far a history was read, and these lines
+-- this history and these lines were read so far
 pub record IsProgress (T : Table) (limit : ℕ) (h : History) (told : List StandsLine) (p : Progress) : Type 0 where
   pub happenings : p.happenings ≡ length h
   pub stands : p.stands ≡ length told
@@ -32,13 +32,13 @@ TakesOn T limit h told (lines.Stands conn seq position name holding) p =
     IsProgress T limit h
     (told ++ record { conn = conn; seq = seq; position = position; name = name; holding = holding } ∷ []) p
 
--- a happening behind lines of calls that stand, or no memory was found
+-- an event after lines of pending calls, or out of memory
 abbrev pub FailsOn : History → List StandsLine → AuditLine → AuditFault → Type 0
 FailsOn h told (lines.Happened x) fault =
     ((told ≡ [] → ⊥) × (fault ≡ Bad (length h + length told + 1))) ⊎ (fault ≡ Memory)
 FailsOn h told (lines.Stands conn seq position name holding) fault = fault ≡ Memory
 
--- a text was read up to its rest
+-- a text was read up to this remainder
 pub record IsRead (T : Table) (declared : Declared) (limit : ℕ) (text rest : List ℕ) (p : Progress) : Type 0 where
   pub front : List ℕ
   pub history : History

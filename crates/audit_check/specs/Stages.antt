@@ -1,4 +1,4 @@
--- The code's own: how far a text was judged.
+-- The code's own: the judgement of the lines so far.
 use Rattle.std.specs.Prelude.{◌≡◌, ℕ, ◌+◌, ◌⊎◌, List, [], ◌∷◌, ◌++◌, length}
 use Rattle.mrpc_table.specs.declared.table.Table.{Table}
 use Rattle.call_history.specs.Legal.{History, IsLegal, behind}
@@ -13,7 +13,7 @@ use Rattle.audit_check.specs.declared.stage.Illegal.{Illegal}
 use Rattle.audit_check.specs.declared.stage.Stage.{Stage}
 use Rattle.audit_check.specs.declared.stage.Stage.TheVariants as stages
 
--- a happening breaks a rule
+-- an event breaks a rule
 pub record IsBroken (T : Table) (limit : ℕ) (h : History) (i : Illegal) : Type 0 where
   pub before : History
   pub after : History
@@ -23,13 +23,13 @@ pub record IsBroken (T : Table) (limit : ℕ) (h : History) (i : Illegal) : Type
   pub breaks : BreaksFirst (on_connection T limit next.conn) (behind next.conn before) next.what i.rule
   pub counted : i.line ≡ length before + 1
 
--- something is left open
+-- there is an obligation
 pub record IsOpen (T : Table) (limit : ℕ) (h : History) (i : Illegal) : Type 0 where
   pub prefixes : ArePrefixes T limit h
   pub first : IsFirstOpen h i.rule
   pub counted : i.line ≡ length h + 1
 
--- a line of a call that stands can't follow
+-- the line of a pending call can't follow
 pub record IsMisplaced (T : Table) (limit : ℕ) (h : History) (told : List StandsLine) (i : Illegal) : Type 0 where
   pub legal : IsLegal T limit h
   pub front : List StandsLine
@@ -41,7 +41,7 @@ pub record IsMisplaced (T : Table) (limit : ℕ) (h : History) (told : List Stan
   pub counted : i.line ≡ length h + length front + 1
   pub rule : i.rule ≡ Stands
 
--- what is illegal, whatever lines of calls that stand come behind
+-- what is illegal, whichever lines of pending calls follow
 abbrev pub IsIllegalAt : Table → ℕ → History → List StandsLine → Illegal → Type 0
 IsIllegalAt T limit h told i = IsBroken T limit h i ⊎ IsOpen T limit h i ⊎ IsMisplaced T limit h told i
 

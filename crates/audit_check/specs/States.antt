@@ -1,4 +1,4 @@
--- The code's own: what its parts know of a history while it is judged.
+-- The code's own: what the checker's parts know of a history during a check.
 use Rattle.std.specs.Prelude.{◌≡◌, ◌≢◌, ℕ, ◌+◌, ◌<◌, ◌≤◌, ◌^◌, ◌⊎◌, List, [], ◌∷◌, ◌++◌, All, Contains, Option, None, Some, drop, length, map, slice_get}
 use Rattle.std.specs.BTreeMap.{BTreeMap, get, keys}
 use Rattle.std.specs.List.{AllByRecursion, flat_map}
@@ -30,7 +30,7 @@ pub record IsFirstLine (text line rest : List ℕ) : Type 0 where
 
 -- ---- the checkers of connections
 
--- a checker knows what is behind on its connection; without one, nothing is
+-- a checker knows the trace of its connection; without a checker, the trace is empty
 abbrev pub KnowsOn : Table → ℕ → ℕ → Behind → Option Checker → Type 0
 KnowsOn T limit conn past None = past ≡ []
 KnowsOn T limit conn past (Some c) = Knows T past c × (under T c ≡ on_connection T limit conn)
@@ -38,7 +38,7 @@ KnowsOn T limit conn past (Some c) = Knows T past c × (under T c ≡ on_connect
 abbrev pub KnowsEach : Table → ℕ → History → BTreeMap ℕ Checker → Type 0
 KnowsEach T limit h m = (conn : ℕ) → KnowsOn T limit conn (behind conn h) (get nat_cmp m conn)
 
--- that in a connection's own place, or else in the map
+-- the checker in a connection's slot, or else in the map
 abbrev pub checker_in : Option Checker → Option Checker → Option Checker
 checker_in None far = far
 checker_in (Some c) far = Some c
@@ -50,13 +50,13 @@ pub record KnowsAll (T : Table) (h : History) (c : Connections) : Type 0 where
   pub knows : (conn : ℕ) → KnowsOn T c.limit conn (behind conn h) (checker_of c conn)
   pub few : length c.near.items ≤ NEAR
 
--- they know some history of fewer than 2^32 happenings by some
+-- they know some history of fewer than 2^32 events, by some margin
 abbrev pub IsKnown : Table → Connections → Type 0
 IsKnown T c = (h : History) × KnowsAll T h c × (length h + 2 < 2 ^ 32)
 
--- ---- what is left open
+-- ---- obligations
 
--- of two rules, where there are any, this is one, and none of them is before it
+-- of two rules, if any, this is one, and none of them has a lower rank
 abbrev pub IsEarlier : Option Rule → Option Rule → Option Rule → Type 0
 IsEarlier None other result = result ≡ other
 IsEarlier (Some rule) None result = result ≡ Some rule
@@ -64,7 +64,7 @@ IsEarlier (Some rule) (Some second) result =
     ((result ≡ Some rule) × (order_of rule ≤ order_of second))
     ⊎ ((result ≡ Some second) × (order_of second ≤ order_of rule))
 
--- of the rules for which something is open on some connections, if there are any, this is the first
+-- of the rules with an obligation on these connections, if any, this is the first
 pub record IsFirstOpenOn (h : History) (conns : List ℕ) (rule : Rule) : Type 0 where
   pub conn : ℕ
   pub awaited : Awaits (behind conn h) rule
@@ -74,7 +74,7 @@ abbrev pub IsFirstIn : History → List ℕ → Option Rule → Type 0
 IsFirstIn h conns None = All (λ conn. IsSettledUp (behind conn h)) conns
 IsFirstIn h conns (Some rule) = IsFirstOpenOn h conns rule
 
--- ---- the calls that stand
+-- ---- the pending calls
 
 abbrev pub tells : Told → StandsLine
 tells told = record {
@@ -85,19 +85,19 @@ tells told = record {
   holding = told.holding;
 }
 
--- the calls that stand on a connection, and those on some connections
+-- the pending calls of a connection, and those of some connections
 abbrev pub calls_on : History → ℕ → List CallName
 calls_on h conn = map (λ call. (conn, call.seq)) (standing (behind conn h))
 
 abbrev pub calls_of : History → List ℕ → List CallName
 calls_of h conns = flat_map (calls_on h) conns
 
--- numbers rise
+-- numbers ascend
 abbrev pub Rise : List ℕ → Type 0
 Rise [] = Unit {0}
 Rise (n ∷ ns) = AllByRecursion (λ m. n < m) ns × Rise ns
 
--- the connections of whose calls some may be left, and these calls
+-- the connections with calls that may be unlisted, and these calls
 abbrev pub conns_of : Option Turn → BTreeMap ℕ Checker → List ℕ
 conns_of None rest = []
 conns_of (Some turn) rest = turn.conn ∷ keys rest
@@ -107,24 +107,24 @@ left_of h told None rest = []
 left_of h told (Some turn) rest =
     drop (length (lines_on turn.conn told)) (calls_on h turn.conn) ++ calls_of h (keys rest)
 
--- the first connection was taken out of a map, if it had one
+-- the first connection was removed from a map, if it had one
 abbrev pub Popped : BTreeMap ℕ Checker → Option Turn → BTreeMap ℕ Checker → Type 0
 Popped before None after = before.entries ≡ []
 Popped before (Some turn) after = before.entries ≡ (turn.conn, turn.checker) ∷ after.entries
 
--- all calls of a connection are told that stand
+-- all pending calls of a connection are listed
 abbrev pub IsTold : History → List StandsLine → Option Turn → Type 0
 IsTold h told None = ⊥
 IsTold h told (Some turn) = length (lines_on turn.conn told) ≡ length (standing (behind turn.conn h))
 
--- a checker knows its connection, and that lines have told these calls of it
+-- a checker knows its connection, and lines have listed these calls of it
 pub record KnowsLines (T : Table) (limit : ℕ) (h : History) (told : List StandsLine) (conn : ℕ) (c : Checker)
     : Type 0 where
   pub knows : KnowsTold T (behind conn h) (map (λ s. s.position) (lines_on conn told)) c
   pub judges : under T c ≡ on_connection T limit conn
   pub fits : length (lines_on conn told) ≤ length (standing (behind conn h))
 
--- of the connections behind it none is told yet
+-- of the later connections no call is listed yet
 abbrev pub KnowsUntold : Table → ℕ → History → List StandsLine → ℕ × Checker → Type 0
 KnowsUntold T limit h told e = KnowsLines T limit h told e.0 e.1 × (lines_on e.0 told ≡ [])
 
@@ -137,7 +137,7 @@ KnowsRest T limit h told None rest = Unit {0}
 KnowsRest T limit h told (Some turn) rest =
     KnowsLines T limit h told turn.conn turn.checker × AllByRecursion (KnowsUntold T limit h told) rest.entries
 
--- a row has told these lines
+-- a row has listed these lines
 pub record IsRowOf (T : Table) (limit : ℕ) (h : History) (told : List StandsLine) (current : Option Turn)
     (rest : BTreeMap ℕ Checker) : Type 0 where
   pub done : List ℕ

@@ -1,4 +1,4 @@
-//! The check of a text.
+//! Checks an audit text.
 
 ghost use Rattle.std.specs.Prelude.{◌≡◌, ◌+◌, ◌<◌, ◌≤◌, ◌^◌, ◌⊎◌, ℕ, List, All, IfErr, IfOk, MatchResult, length};
 ghost use Rattle.mrpc_table.specs.Valid.{IsValid};
@@ -22,14 +22,16 @@ use policy_blocks::Declarations;
 use std::alloc::Global;
 use wire_encode::Output;
 
-/// Checks the text of an audit, of at most 16777216 bytes, under a table, the policies that were declared, and a
-/// limit of loads. It is legal where its happenings are a legal history, behind which there are no lines of calls that stand, or
-/// those of all its calls that stand, where they may and held as they are; else it names the first line through which it
-/// isn't, and the first rule that is broken there.
+/// Checks an audit text of at most 16777216 bytes, under a table, the declared policies, and a limit of loads.
 ///
-/// `Bad` comes exactly where a line is none of an audit text, or it is that of a happening behind one of a call that
-/// stands, with the first such line, also where an earlier line is illegal. `Memory` comes only where no memory was
-/// found.
+/// The text is legal if its events are a legal history, followed by no lines of pending calls, or by the lines of all
+/// its pending calls, at legal positions and held as they are. Otherwise the result names the first line that makes it
+/// illegal, and the first rule that is broken there.
+///
+/// # Errors
+///
+/// `Bad` comes exactly if a line is no audit line, or is an event's after the line of a pending call. It has the first
+/// such line, even if an earlier line is illegal. `Memory` means out of memory.
 pub fn check_audit(
     alloc: Global,
     table: &Table,
@@ -51,7 +53,7 @@ pub fn check_audit(
     read_text(alloc, table, declared, loads, text)
 }
 
-// Reads a text line by line, and answers what is to be answered of it. One room serves for the encodings of all lines.
+// Reads a text line by line, and returns its result. All lines are encoded into one buffer.
 fn read_text(
     alloc: Global,
     table: &Table,
@@ -75,8 +77,8 @@ fn read_text(
     Ok(progress.end()?)
 }
 
-// Reads the first line of what is left of a text, takes what it tells, and answers what stands behind it. (Most lines are
-// read without looking for their ends first.)
+// Reads and applies the first line of a text, and returns the remainder. (Most lines are read without a search for
+// their ends.)
 fn take_front<'a>(
     alloc: Global,
     encoding: &mut Output,
@@ -106,7 +108,7 @@ fn take_front<'a>(
     Ok(others)
 }
 
-// Reads a line by its words, and takes what it tells.
+// Reads a line by its words, and applies it.
 fn take_line(
     alloc: Global,
     encoding: &mut Output,

@@ -1,4 +1,4 @@
-//! What became of a call, as its line tells it.
+//! Notes and sends, as their lines have them.
 
 ghost use Rattle.std.specs.Prelude.{◌≡◌, ◌∷◌, IfNone, IfOk, IfSome};
 ghost use Rattle.mrpc_table.specs.Valid.{IsValid};
@@ -15,7 +15,7 @@ use call_history::{Happened, Happening};
 use mrpc_table::{Memory, Name, Table};
 use std::alloc::Global;
 
-// Judges what became of a call by the checker of its connection. It takes no memory.
+// Checks a note or a send by the checker of its connection. It allocates no memory.
 pub(crate) fn judge(checker: &mut Checker, table: &Table, what: Brief<'_>) -> Option<Rule>
     requires valid { IsValid table.now }
     requires knowing { IsKnowing table.now checker.old }
@@ -40,7 +40,7 @@ pub(crate) fn judge(checker: &mut Checker, table: &Table, what: Brief<'_>) -> Op
     }
 }
 
-// The happening that a line tells, with a name of its own.
+// Makes the event of a line, with an owned name.
 #[inline(never)]
 pub(crate) fn happened(alloc: Global, next: BriefLine<'_>) -> Result<Happened, Memory>
     ensures { IfOk result (λ h. h ≡ told_in next.entry) }

@@ -1,20 +1,20 @@
-//! What a checker answers.
+//! Results of a check.
 
 use audit_rules::Rule;
 
-/// What a checker answers of a text whose lines are all lines of an audit text.
+/// The result of a text whose lines are all audit lines.
 #[derive(Clone, Copy, PartialEq, Eq)]
 pub enum Checked {
-    /// The history is legal, and the lines behind it tell the calls that stand, or there are none.
+    /// The history is legal, and the lines after it list its pending calls, or there are none.
     Legal {
-        /// How many happenings the history has.
+        /// The number of events in the history.
         happenings: u64,
-        /// How many lines of calls that stand there are.
+        /// The number of lines of pending calls.
         stands: u64,
     },
-    /// The history is illegal, or the lines behind it don't tell the calls that stand.
+    /// The history is illegal, or the lines after it don't list its pending calls.
     Illegal {
-        /// The first line, counted from 1, through which it is; where lines are missing, the one behind the last.
+        /// The first line, counted from 1, that makes it illegal; if lines are missing, the one after the last.
         line: u64,
         /// The first rule that is broken there.
         rule: Rule,

@@ -22,21 +22,21 @@ use mrpc_table::{Memory, Table};
 use std::alloc::Global;
 use std::collections::BTreeMap;
 
-// The connections with a number below this have a place of their own each.
+// Connections with a number below this have their checkers in a vector.
 pub(crate) const NEAR: u32 = 17;
 
 // The checkers of connections, under one limit of loads.
 #[derive(Drop)]
 pub(crate) struct Connections {
     pub limit: u64,
-    // Those of the lowest numbers, by number, whether something has happened there or not.
+    // The checkers of the lowest numbers, by number, with events or without.
     pub near: Vec<Checker>,
-    // Those of the others, as soon as something has happened there.
+    // The checkers of the others, from their first event on.
     pub far: BTreeMap<u32, Checker>,
 }
 
 impl Connections {
-    // On no connection has anything happened yet.
+    // Makes the checkers of connections without events.
     pub(crate) fn new(alloc: Global, limit: u64) -> Result<Connections, Memory>
         ensures knows { IfOk result (λ c. (T : Table) → KnowsAll T [] c) }
         ensures limit { IfOk result (λ c. c.limit ≡ limit) }
@@ -50,8 +50,8 @@ impl Connections {
         Ok(Connections { limit, near, far })
     }
 
-    // Judges the next happening on its connection: the first rule that it breaks, if it breaks one. `Memory` comes only
-    // where it is the first one there and no memory was found for its checker.
+    // Checks the next event on its connection. Returns the first rule that it breaks; `None` if it breaks none.
+    // `Memory` comes only if the event is the first of its connection, and its checker couldn't be allocated.
     pub(crate) fn check(
         &mut self,
         alloc: Global,
@@ -76,7 +76,7 @@ impl Connections {
         self.check_far(alloc, table, next)
     }
 
-    // The same for what became of a call, as its line tells it.
+    // Like `check`, for a note or a send as its line has it.
     pub(crate) fn check_brief(
         &mut self,
         alloc: Global,
@@ -101,7 +101,8 @@ impl Connections {
         self.check_far(alloc, table, next)
     }
 
-    // The same on a connection that has no place of its own. (Seldom: a call of it keeps its values out of the others.)
+    // Like `check`, for a connection without a slot in the vector. (It is rare, and kept out of line, so that its
+    // values don't slow the other checks.)
     #[inline(never)]
     fn check_far(
         &mut self,
@@ -127,7 +128,7 @@ impl Connections {
         }
     }
 
-    // The same for the first happening there.
+    // Like `check_far`, for the first event of a connection.
     #[inline(never)]
     fn begin(
         &mut self,
@@ -154,7 +155,7 @@ impl Connections {
         Ok(rule)
     }
 
-    // All of them, by the numbers of their connections.
+    // Returns all checkers, by the numbers of their connections.
     pub(crate) fn gather(self) -> Result<BTreeMap<u32, Checker>, Memory>
         requires { length self.near.items ≤ NEAR }
         ensures { IfOk result (λ all. (conn : ℕ) → get nat_cmp all conn ≡ checker_of self conn) }
@@ -171,7 +172,7 @@ impl Connections {
     }
 }
 
-// Puts the checker of a connection into a map.
+// Inserts the checker of a connection into a map.
 fn put(all: &mut BTreeMap<u32, Checker>, conn: u32, checker: Checker) -> Result<(), Memory>
     ensures { OnOk result (Updates nat_cmp all.old all.new conn (Some checker)) }
 {
@@ -179,7 +180,7 @@ fn put(all: &mut BTreeMap<u32, Checker>, conn: u32, checker: Checker) -> Result<
     Ok(())
 }
 
-// The first of the rules for which something is left open on any connection, if something is.
+// The first of the rules with an obligation on any connection; `None` if there is none.
 #[inline(never)]
 pub(crate) fn left_open(checkers: &BTreeMap<u32, Checker>) -> Option<Rule>
     ensures settled { (T : Table) (limit : ℕ) (h : History) → KnowsEach T limit h checkers.now
@@ -194,7 +195,7 @@ pub(crate) fn left_open(checkers: &BTreeMap<u32, Checker>) -> Option<Rule>
     first
 }
 
-// The earlier of two rules for which something is open, where there are any.
+// The earlier of two rules with obligations; `None` if there is none.
 fn earlier(one: Option<Rule>, other: Option<Rule>) -> Option<Rule>
     ensures { IsEarlier one other result }
 {
@@ -207,7 +208,7 @@ fn earlier(one: Option<Rule>, other: Option<Rule>) -> Option<Rule>
     }
 }
 
-// The place of a rule among the others.
+// The rank of a rule.
 fn order_of(rule: Rule) -> u8
     ensures { result ≡ order_of rule }
 {

@@ -4,8 +4,8 @@ ghost use Rattle.audit_check.specs.States.{IsFirstLine};
 
 use memchr::memchr;
 
-// The first line of a text, with its line feed, and what stands behind it. Where no line ends in the text, all of it
-// is the line. (The search looks at many bytes at once, which `cut`, as it is for short words, doesn't.)
+// Splits a text after its first line feed; without a line feed, all of the text is the line. (The search compares many
+// bytes at once, unlike `cut`, which serves short words.)
 pub(crate) fn first_line(text: &[u8]) -> (&[u8], &[u8])
     ensures { IsFirstLine text.now result.0.now result.1.now }
 {

@@ -1,4 +1,4 @@
-//! Laws of the answers that a text has. These functions do nothing; their clauses hold.
+//! Laws of results. These functions do nothing; each contract is a law.
 
 ghost use Rattle.std.specs.Prelude.{◌≡◌, ℕ, List};
 ghost use Rattle.mrpc_table.specs.Valid.{IsValid};
@@ -11,8 +11,7 @@ use audit_text::{
     a_line_is_cut_into_its_words, a_stands_line_tells_one_call, a_text_has_one_history,
 };
 
-/// Under a valid table a text has one answer: it is checked with one result, or has one first line that is bad, never
-/// both and never neither.
+/// Under a valid table a text has exactly one result, or exactly one first invalid line, never both.
 pub fn a_text_has_one_answer()
     ensures checked { (T : Table) (declared : Declared) (limit : ℕ) (text : List ℕ) (one other : Checked) → IsValid T
         → IsChecked T declared limit text one → IsChecked T declared limit text other → one ≡ other }

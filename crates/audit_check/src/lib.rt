@@ -1,11 +1,11 @@
 //! The checker of audit texts.
 //!
-//! [`check_audit`] reads the text of an audit line by line (`specs/Checking.antt`), judges each happening by the rules
-//! of legal histories, and the lines behind them by which calls stand and where they may. It has one checker for each
-//! connection, so it takes time in proportion to the text, whatever stands.
+//! [`check_audit`] reads an audit line by line (`specs/Checking.antt`). It judges each event by the rules of legal
+//! histories, and the lines after them by which calls are pending and where they may be. It has one checker per
+//! connection, so its time is linear in the text, however many calls are pending.
 //!
-//! It stands on the lines of audit texts and on the checker of one connection's rules. The layer above prints the
-//! answer.
+//! The crate depends on the lines of audit texts and on the checker of one connection. The layer above prints the
+//! result.
 #![tactic(auto)]
 
 mod audit;

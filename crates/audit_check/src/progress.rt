@@ -1,4 +1,4 @@
-//! How far a text was read.
+//! Progress through a text.
 
 ghost use Rattle.std.specs.Prelude.{◌≡◌, ◌+◌, ◌<◌, ◌^◌, ℕ, List, [], IfOk, MatchResult};
 ghost use Rattle.mrpc_table.specs.Valid.{IsValid};
@@ -17,7 +17,7 @@ use audit_text::{AuditFault, AuditLine, BriefLine};
 use mrpc_table::{Memory, Table};
 use std::alloc::Global;
 
-// How many lines of each sort were read, and how they are judged.
+// How many lines of each kind were read, and how they are judged.
 #[derive(Drop)]
 pub(crate) struct Progress {
     pub happenings: u64,
@@ -37,7 +37,7 @@ impl Progress {
         })
     }
 
-    // The number of the next line, from 1.
+    // The number of the next line, counted from 1.
     pub(crate) fn next_line(&self) -> u64
         requires { self.now.happenings + self.now.stands + 1 < 2 ^ 64 }
         ensures { result ≡ self.now.happenings + self.now.stands + 1 }
@@ -45,7 +45,7 @@ impl Progress {
         self.happenings + self.stands + 1
     }
 
-    // Takes the next line. `Bad` comes exactly where it is that of a happening behind one of a call that stands.
+    // Applies the next line. `Bad` comes exactly if it is an event's after the line of a pending call.
     pub(crate) fn take(
         &mut self,
         alloc: Global,
@@ -90,7 +90,7 @@ impl Progress {
         }
     }
 
-    // The same for a line that tells what became of a call.
+    // Like `take`, for the line of a note or a send.
     pub(crate) fn note(
         &mut self,
         alloc: Global,
@@ -113,7 +113,7 @@ impl Progress {
         Ok(())
     }
 
-    // What is answered of a text that ends here.
+    // The result of a text that ends here.
     pub(crate) fn end(self) -> Result<Checked, Memory>
         requires few { self.happenings + self.stands + 1 < 2 ^ 64 }
         requires familiar { (T : Table) × IsFamiliar T self }

@@ -1,4 +1,4 @@
-//! The calls that stand at the end of a history.
+//! The pending calls at the end of a history.
 
 ghost use Rattle.std.specs.Prelude.{◌≡◌, ◌++◌, ◌∷◌, ◌↔◌, ◌+◌, ℕ, List, [], IfNone, IfSome, IsSome, IsTrue, if◌then◌else◌, is_some, option_map};
 ghost use Rattle.std.specs.BTreeMap.{btree_map_len};
@@ -13,7 +13,7 @@ use audit_text::Holding;
 use mrpc_table::{Name, Table};
 use std::collections::BTreeMap;
 
-// A call that stands, as a line tells it.
+// A pending call, as its line has it.
 #[derive(Drop)]
 pub(crate) struct Told {
     pub conn: u32,
@@ -23,24 +23,24 @@ pub(crate) struct Told {
     pub holding: Option<Holding>,
 }
 
-// A connection, with what its checker knows.
+// A connection with its checker.
 #[derive(Drop)]
 pub(crate) struct Turn {
     pub conn: u32,
     pub checker: Checker,
 }
 
-// The connections of whose calls that stand some are still to be told, in order.
+// The connections with pending calls that aren't listed yet, in order.
 #[derive(Drop)]
 pub(crate) struct Row {
-    // The connection whose calls are told, if it has begun.
+    // The connection whose calls are being listed, if any.
     pub current: Option<Turn>,
-    // Those behind it.
+    // The connections after it.
     pub rest: BTreeMap<u32, Checker>,
 }
 
 impl Row {
-    // No call is told yet.
+    // No call is listed yet.
     pub(crate) fn new(checkers: BTreeMap<u32, Checker>) -> Row
         ensures { (T : Table) (limit : ℕ) (h : History) → KnowsEach T limit h checkers → ArePrefixes T limit h
             → ((conn : ℕ) → IsSettledUp (behind conn h)) → IsRow T limit h [] result }
@@ -51,7 +51,7 @@ impl Row {
         Row { current, rest }
     }
 
-    // The same, at the first connection of whose calls some are left, if there is one.
+    // Moves to the first connection with unlisted calls, if there is one.
     fn at_next(self) -> Row
         ensures same { (T : Table) (limit : ℕ) (h : History) (told : List StandsLine) → IsRow T limit h told self
             → IsRow T limit h told result }
@@ -68,7 +68,7 @@ impl Row {
         Row { current, rest }
     }
 
-    // A line tells the next call that stands; none comes exactly where it can't.
+    // Lists the next pending call by its line; `None` exactly if the line isn't legal there.
     pub(crate) fn tell(self, table: &Table, told: Told) -> Option<Row>
         requires valid { IsValid table.now }
         requires known { (limit : ℕ) × (h : History) × (before : List StandsLine) × IsRow table.now limit h before self }
@@ -96,7 +96,7 @@ impl Row {
         })
     }
 
-    // Whether all calls that stand are told.
+    // Returns true if all pending calls are listed.
     pub(crate) fn is_whole(self) -> bool
         ensures { (T : Table) (limit : ℕ) (h : History) (told : List StandsLine) → IsRow T limit h told self
             → IsTrue result ↔ AreWhole T limit h told }
@@ -105,7 +105,7 @@ impl Row {
     }
 }
 
-// Takes out the first connection, if there is one.
+// Removes the first connection, if there is one.
 fn pop(rest: &mut BTreeMap<u32, Checker>) -> Option<Turn>
     ensures popped { Popped rest.old result rest.new }
     ensures rise { Rise (conns_of result rest.new) }
@@ -115,7 +115,7 @@ fn pop(rest: &mut BTreeMap<u32, Checker>) -> Option<Turn>
     Some(Turn { conn, checker })
 }
 
-// Whether there is a connection of which all calls that stand are told.
+// Returns true if there is a connection whose pending calls are all listed.
 fn is_told(current: &Option<Turn>) -> bool
     ensures some { IsTrue result → IsSome current.now }
     ensures told { (T : Table) (limit : ℕ) (h : History) (told : List StandsLine)
@@ -127,7 +127,7 @@ fn is_told(current: &Option<Turn>) -> bool
     }
 }
 
-// The level and the cost at which a call is held.
+// The level and cost at which a call is held.
 fn held(holding: Option<Holding>) -> Option<(u64, u64)>
     ensures { result ≡ option_map (λ held. (held.level, held.cost)) holding }
 {

@@ -1,4 +1,4 @@
-//! How far a text was judged.
+//! The judgement of the lines so far.
 
 ghost use Rattle.std.specs.Prelude.{◌≡◌, ◌+◌, ◌<◌, ◌≤◌, ◌^◌, ◌∷◌, ◌++◌, ℕ, List, [], IfOk, MatchResult, OnOk, length};
 ghost use Rattle.mrpc_table.specs.Valid.{IsValid};
@@ -22,18 +22,18 @@ use mrpc_table::{Memory, Table};
 use std::alloc::Global;
 use std::mem::replace;
 
-// How the lines that were read are judged.
+// How the lines so far are judged.
 #[derive(Drop)]
 pub(crate) enum Stage {
-    // All happenings came as the rules say, and no line of a call that stands was read.
+    // All events are legal so far, and no line of a pending call was read.
     Happening(Connections),
-    // The history is legal, and the lines behind it may begin to tell the calls that stand.
+    // The history is legal, and the lines after it can be the first ones of its pending calls.
     Standing(Row),
-    // They are illegal.
+    // The lines are illegal.
     Illegal(Illegal),
 }
 
-// The first line, counted from 1, through which a text is illegal, and the first rule that is broken there.
+// The first line, counted from 1, that makes a text illegal, and the first rule that is broken there.
 #[derive(Clone, Copy)]
 pub(crate) struct Illegal {
     pub line: u64,
@@ -41,7 +41,7 @@ pub(crate) struct Illegal {
 }
 
 impl Stage {
-    // A happening comes, on a line. It is judged in place: what the checkers know stays where it is.
+    // Applies an event, on a line. The checkers are updated in place.
     pub(crate) fn happen(
         &mut self,
         alloc: Global,
@@ -68,7 +68,7 @@ impl Stage {
         }
     }
 
-    // The same for what became of a call, as its line tells it.
+    // Like `happen`, for a note or a send as its line has it.
     pub(crate) fn note(
         &mut self,
         alloc: Global,
@@ -94,7 +94,7 @@ impl Stage {
         }
     }
 
-    // From a line on, the lines are illegal.
+    // Makes the lines illegal from a line on.
     #[inline(never)]
     fn break_at(&mut self, illegal: Illegal)
         ensures { self.new ≡ stages.Illegal illegal }
@@ -102,7 +102,7 @@ impl Stage {
         *self = Stage::Illegal(illegal);
     }
 
-    // No happening comes any more, from this line on.
+    // No events follow, from this line on.
     fn row(self, line: u64) -> Result<Result<Row, Illegal>, Memory>
         requires known { (T : Table) × (limit : ℕ) × (h : History) × (told : List StandsLine)
             × IsStage T limit h told self }
@@ -117,7 +117,8 @@ impl Stage {
         }
     }
 
-    // A line of a call that stands comes. Until it is told, it is one that can't stand.
+    // Applies the line of a pending call. During the call the stage counts as illegal, so that an error leaves a
+    // defined state.
     #[inline(never)]
     pub(crate) fn stand(&mut self, table: &Table, told: Told, line: u64) -> Result<(), Memory>
         requires valid { IsValid table.now }
@@ -133,7 +134,7 @@ impl Stage {
         Ok(())
     }
 
-    // How the lines are judged with one more, that of a call that stands.
+    // The judgement after one more line, of a pending call.
     fn tell(self, table: &Table, told: Told, line: u64) -> Result<Stage, Memory>
         requires valid { IsValid table.now }
         requires known { (limit : ℕ) × (h : History) × (before : List StandsLine)
@@ -154,7 +155,7 @@ impl Stage {
         }
     }
 
-    // The text ends behind so many happenings and so many lines of calls that stand.
+    // The result of a text that ends after this many events and lines of pending calls.
     pub(crate) fn end(self, happenings: u64, stands: u64) -> Result<Checked, Memory>
         requires few { happenings + stands + 1 < 2 ^ 64 }
         requires known { (T : Table) × (limit : ℕ) × (h : History) × (told : List StandsLine)
@@ -170,7 +171,7 @@ impl Stage {
     }
 }
 
-// The row of the calls that stand, where all happenings came as the rules say and nothing is left open.
+// The pending calls, if all events are legal and there is no obligation.
 fn first_row(connections: Connections, line: u64) -> Result<Result<Row, Illegal>, Memory>
     requires { length connections.near.items ≤ NEAR }
     ensures { (T : Table) (limit : ℕ) (h : History) (told : List StandsLine) → IsHappening T limit h told connections
@@ -184,7 +185,7 @@ fn first_row(connections: Connections, line: u64) -> Result<Result<Row, Illegal>
     }
 }
 
-// The answer of a legal history with so many lines of calls that stand behind it.
+// The result of a legal history with this many lines of pending calls after it.
 fn whole(row: Row, happenings: u64, stands: u64) -> Checked
     requires { happenings + stands + 1 < 2 ^ 64 }
     ensures { (T : Table) (limit : ℕ) (h : History) (told : List StandsLine) → IsLegal T limit h

@@ -1,4 +1,4 @@
--- What is read of an input is what its text says, or its first fault.
+-- What is read of an input is what its text means, or its first fault.
 use Rattle.std.proofs.Common.{◌≡◌, false, ℕ, ◌+◌, ◌-◌, ◌≤◌, List, [], ◌∷◌, ◌++◌, length, take, ◌==◌, refl, ap, ◌∙◌, arith}
 use Rattle.std.proofs.lemmas.List.{length-append, take_at}
 use Rattle.std.proofs.lemmas.List.Sums.{count_by-le-length}
@@ -17,7 +17,7 @@ use Rattle.audit_input.specs.Inputs.{first_line, IsCut, Reads, Stops, in_item, n
 use Rattle.audit_input.specs.Reading.{IsStopOf, stop_of}
 use Rattle.audit_input.proofs.TextLines.{cut_text}
 
--- the fault of an item stops the reading
+-- the fault of a declaration ends the reading
 pub stop_by : (T : Table) (text : List ℕ) (d : Declared) (rest line behind : List ℕ) (f : ItemForm) (e : ScriptFault)
     → Reads T nothing text d rest → IsCut rest line behind → item_form_in (words_of line) ≡ Some f
     → items.IsFaultOf T false d f line behind e → IsStopOf T text (stop_of (length rest) e)
@@ -34,14 +34,14 @@ pub front_fault : (text : List ℕ) (e : ScriptFault) → fronts.IsFaultOf first
 front_fault text (fault.At at reason) h = in_front h
 front_fault text fault.Memory h = tt
 
--- the lines in front of the rest
+-- the lines before the remainder
 pub lines_before : (text front rest : List ℕ) (left n : ℕ) → text ≡ front ++ rest → left ≡ length rest
     → n ≡ line_count (take (length text - left) text) → n ≡ line_count front
 lines_before text front rest left n is at count =
     let long : length front ≡ length text - left = omega (arith, ap length is, length-append front rest, at) in
     count ∙ ap (λ (t : List ℕ). line_count (take (length text - left) t)) is ∙ ap line_count (take_at front rest (length text - left) long)
 
--- a line at fault stands on one of the rest, or right behind
+-- a line with a fault is one of the remainder, or right after it
 pub stop_place : (T : Table) (d : Declared) (rest : List ℕ) (at : ℕ) (r : ScriptReason)
     → ((f : ItemForm) (line text : List ℕ) (n : ℕ) (q : ScriptReason) → FailsAt T false d f line text n q
     → n ≤ line_count text + 2)

@@ -1,4 +1,4 @@
--- A text says one input, or it has one fault.
+-- A text is exactly one input, or has exactly one first fault.
 use Rattle.std.proofs.Common.{◌≡◌, ◌⊎◌, ℕ, ◌+◌, Bool, List, [], ◌∷◌, ◌++◌, codes, Result, Ok, Err, refl, sym, ap, ◌∙◌, subst, inl, inr, append_assoc, arith}
 use Rattle.std.specs.Prelude.{MatchResult}
 use Rattle.std.proofs.lemmas.List.{append_cancel_left, append_cancel_right}
@@ -27,7 +27,7 @@ pub record FrontLaws : Type 0 where
   pub some : (first text : List ℕ) → ((loads : ℕ) × (T : Table) × (x : List ℕ) × IsFront first text loads T x)
       ⊎ ((line : ℕ) × (r : ScriptReason) × IsFrontFault first text line r)
 
--- ---- nothing is sound
+-- ---- no declarations are valid
 
 pub nothing_sound : IsSound nothing
 nothing_sound = record {
@@ -41,7 +41,7 @@ nothing_sound = record {
 }
 
 module _ (laws : Laws) where
-  -- what stands before the rest
+  -- the text before the remainder
   pub before : (text : List ℕ) (loads : ℕ) (T : Table) (behind : List ℕ) (d : Declared) (rest : List ℕ)
       → IsFront first_line text loads T behind → Reads T nothing behind d rest
       → (front : List ℕ) × (text ≡ front ++ rest)
@@ -68,7 +68,7 @@ says text loads T behind d rest x front f reads is at = record {
 }
 
 module _ (fronts : FrontLaws) (laws : Laws) where
-  -- the same front has the same items behind it
+  -- equal preambles have equal declarations after them
   moved_reads : (T U : Table) (x y : List ℕ) (e : Declared) (rest : List ℕ) → T ≡ U → x ≡ y → Reads U nothing y e rest → Reads T nothing x e rest
   moved_reads T U x y e rest s t r = subst (λ (z : List ℕ). Reads T nothing z e rest) (sym t) (subst (λ (V : Table). Reads V nothing y e rest) (sym s) r)
 
@@ -136,7 +136,7 @@ pub sound : ((T : Table) (skips : Bool) (d : Declared) (f : ItemForm) (line text
     → (text : List ℕ) (loads : ℕ) (T : Table) (d : Declared) (x : List ℕ) (k : ℕ) → Says text loads T d x k → IsValid T × IsSound d
 sound stays text loads T d x k h = (h.front.valid, reads_sound T (stays T) nothing h.behind d (audit_line ++ 10 ∷ x) nothing_sound h.reads)
 
--- what the answer says
+-- the result determines the input or the fault
 pub only_one : (text : List ℕ) (r : Result AuditInput ScriptFault)
     → ((t : List ℕ) (m n : ℕ) (T U : Table) (d e : Declared) (x y : List ℕ) (k l : ℕ) → Says t m T d x k
     → Says t n U e y l → (m ≡ n) × (T ≡ U) × (d ≡ e) × (x ≡ y) × (k ≡ l))

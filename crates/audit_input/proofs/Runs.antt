@@ -1,4 +1,4 @@
--- The items of a text, one behind another, up to a line `audit` or to what stops them.
+-- The declarations of a text, one after another, up to a line `audit` or to what ends them.
 use Rattle.std.proofs.Common.{◌≡◌, ◌⊎◌, ℕ, zero, suc, ◌<◌, ◌≤◌, Bool, false, List, [], ◌∷◌, ◌++◌, length, Option}
 use Rattle.std.proofs.Common.{Some, None, refl, sym, ap, ◌∙◌, subst, inl, inr, append_assoc, arith}
 use Rattle.std.specs.Str.{bytes_eq}
@@ -17,7 +17,7 @@ use Rattle.script_words.specs.declared.fault.ScriptReason.TheVariants.{Word, Clo
 use Rattle.audit_input.specs.Inputs.{audit_line, IsCut, IsNext, Lead, Reads, Stops, in_item, no_item, no_feed, no_audit}
 use Rattle.audit_input.proofs.TextLines.{same_line, same_behind, cut_or_last, cut_text, split}
 
--- what is known of items
+-- what is known of declarations
 pub record Laws : Type 0 where
   pub one : (T : Table) (skips : Bool) (d : Declared) (f : ItemForm) (line text : List ℕ) (i j : Item) (x y : List ℕ)
       → Declares T skips d f line text i x → Declares T skips d f line text j y → (i ≡ j) × (x ≡ y)
@@ -45,9 +45,9 @@ none_some f o e g = (let clash : ◌≡◌ {A = Option ItemForm} None (Some f) =
 same_form : (words line : List ℕ) (f g : ItemForm) → line ≡ words → item_form_in (words_of line) ≡ Some f → item_form_in (words_of words) ≡ Some g → f ≡ g
 same_form words line f g e h k = same_Some f g (sym h ∙ ap (λ (t : List ℕ). item_form_in (words_of t)) e ∙ k)
 
--- ---- going on
+-- ---- the next declaration
 
--- no item stands next
+-- no declaration is next
 abbrev pub IsLast : Table → Declared → List ℕ → Type 0
 IsLast T d rest = (line behind more : List ℕ) (f : ItemForm) (i : Item) → IsCut rest line behind
     → item_form_in (words_of line) ≡ Some f → Declares T false d f line behind i more → ⊥
@@ -105,7 +105,7 @@ module _ (laws : Laws) (T : Table) where
   stop_last d rest at r (no_feed some last e q) l b more g i c h declares = cut_or_last rest l b c last
   stop_last d rest at r (no_audit empty e q) l b more g i c h declares = cut_or_last rest l b c (ap pieces_of empty ∙ ap (λ (t : List ℕ). t ∷ []) (sym empty))
 
-  -- a line `audit` isn't at fault
+  -- a line `audit` has no fault
   pub stop_or_audit : (d : Declared) (rest : List ℕ) (at : ℕ) (r : ScriptReason) → Stops T d (audit_line ++ 10 ∷ rest) at r → ⊥
   stop_or_audit d rest at r (in_item line behind f cut form fails) =
       none_some f (item_form_in (words_of line))
@@ -115,7 +115,7 @@ module _ (laws : Laws) (T : Table) where
   stop_or_audit d rest at r (no_feed some last e q) = cut_or_last (audit_line ++ 10 ∷ rest) audit_line rest (audit_cut rest) last
   stop_or_audit d rest at r (no_audit empty e q) = absurd cc
 
-  -- ---- one run
+  -- ---- the declarations are unique
 
   no_next : (d : Declared) (text : List ℕ) (e : Declared) (rest : List ℕ) (i : Item) (more : List ℕ) → e ≡ d
       → rest ≡ text → IsNext T d text i more → IsLast T e rest → ⊥
@@ -146,7 +146,7 @@ module _ (laws : Laws) (T : Table) where
   pub one_run : (d : Declared) (text : List ℕ) (e g : Declared) (x y : List ℕ) → Reads T d text e x → Reads T d text g y → IsLast T e x → IsLast T g y → (e ≡ g) × (x ≡ y)
   one_run d text e g x y h k last end = one_lead d text h.items k.items e g x y h.lead k.lead last end
 
-  -- ---- one stop
+  -- ---- the stop is unique
 
   pub one_stop : (d : Declared) (rest : List ℕ) (m n : ℕ) (r q : ScriptReason) → Stops T d rest m r → Stops T d rest n q → (m ≡ n) × (r ≡ q)
   one_stop d rest m n r q (in_item line behind f cut form fails) (in_item l b g c h other) =
@@ -177,9 +177,9 @@ module _ (laws : Laws) (T : Table) where
   one_stop d rest m n r q (no_audit empty e g) (no_feed some last k p) = absurd (some empty)
   one_stop d rest m n r q (no_audit empty e g) (no_audit none_left k p) = (e ∙ sym k, g ∙ sym p)
 
-  -- ---- some run
+  -- ---- declarations exist
 
-  -- where a run ends
+  -- where the declarations end
   pub record IsRun (d : Declared) (text : List ℕ) : Type 0 where
     pub declared : Declared
     pub rest : List ℕ

@@ -30,14 +30,14 @@ same_line text line other x y c d = first_of line other (pieces_of x) (pieces_of
 pub same_behind : (text line other x y : List ℕ) → IsCut text line x → IsCut text other y → x ≡ y
 same_behind text line other x y c d = same_pieces x y (rest_of line other (pieces_of x) (pieces_of y) (sym c ∙ d))
 
--- a text that ends in its first line has no other
+-- a text that ends in its first line has no other line
 pub cut_or_last : (text line behind : List ℕ) → IsCut text line behind → pieces_of text ≡ text ∷ [] → ⊥
 cut_or_last text line behind cut last =
     let p = has_piece behind in
     let none : pieces_of behind ≡ [] = rest_of line text (pieces_of behind) [] (sym cut ∙ last) in
     (let clash : p.0 ∷ p.1 ≡ [] = sym p.2 ∙ none in absurd cc)
 
--- the text is its first line and what is behind
+-- the text is its first line and the remainder
 pub cut_text : (text line behind : List ℕ) → IsCut text line behind → text ≡ (line ++ 10 ∷ []) ++ behind
 cut_text text line behind cut =
     let p = has_piece behind in

@@ -1,4 +1,4 @@
--- The code's own: items up to a line `audit`, and what stops them.
+-- The code's own: declarations up to a line `audit`, and what ends them.
 use Rattle.std.specs.Prelude.{◌≡◌, ℕ, List, ◌∷◌, ◌++◌, length}
 use Rattle.mrpc_table.specs.declared.table.Table.{Table}
 use Rattle.policy_blocks.specs.Declarations.{Declared, nothing}
@@ -14,7 +14,7 @@ pub record AreItems (T : Table) (text : List ℕ) (i : Items) : Type 0 where
   pub reads : Reads T nothing text i.declared i.rest.now
   pub rest_is : i.rest.now ≡ audit_line ++ 10 ∷ i.text.now
 
--- items end so many bytes before the end, and the line there is at fault
+-- declarations end this many bytes before the end of the text, and this line of the remainder has the fault
 pub record StopsAt (T : Table) (text : List ℕ) (left line : ℕ) (reason : ScriptReason) : Type 0 where
   pub declared : Declared
   pub rest : List ℕ
@@ -26,7 +26,7 @@ abbrev pub IsStopOf : Table → List ℕ → Stop → Type 0
 IsStopOf T text (At left line reason) = StopsAt T text left line reason
 IsStopOf T text Memory = Unit {0}
 
--- an item at the front of so many bytes is at fault
+-- a declaration at the start of this many remaining bytes has a fault
 abbrev pub stop_of : (left : ℕ) → ScriptFault → Stop
 stop_of left (fault.At line reason) = At left line reason
 stop_of left fault.Memory = Memory

@@ -1,4 +1,4 @@
-//! The input of `audit` from its text.
+//! Reads the input of `audit` from its text.
 
 ghost use Rattle.std.specs.Prelude.{◌≡◌, ℕ, List, length, IfOk, IfErr, MatchResult};
 ghost use Rattle.std.specs.Str.{bytes_eq};
@@ -19,69 +19,69 @@ use std::alloc::Global;
 // The first line, with its line feed.
 const FIRST_LINE: &[u8] = b"mrpc-audit 1\n";
 
-// The line behind which the audit stands.
+// The line before the audit.
 const AUDIT: &[u8] = b"audit";
 
-/// What the input of `audit` says.
+/// The parsed input of `audit`.
 #[derive(Drop)]
 pub struct AuditInput<'a> {
-    /// How many words are loaded for a call at most, 1 to 16384.
+    /// The limit of words that are loaded for one call, 1 to 16384.
     pub loads: u64,
     pub table: Table,
-    /// The tenants and the policies.
+    /// The declared tenants and policies.
     pub declared: Declarations,
-    /// The lines of the audit: what stands behind the line `audit`.
+    /// The lines of the audit: the text after the line `audit`.
     pub text: &'a [u8],
     /// The number of the line `audit`, counted from 1.
     pub line: u64,
 }
 
-// What is declared in front of the line `audit`, and what stands from that line on and behind it.
+// The declarations before the line `audit`, and the remainder from that line on.
 #[derive(Drop)]
 struct Items<'a> {
     declared: Declarations,
     // The text from the line `audit` on.
     rest: &'a [u8],
-    // The text behind that line.
+    // The text after that line.
     text: &'a [u8],
 }
 
-// Why the items of a text weren't read up to a line `audit`.
+// Why reading ended before a line `audit`.
 #[derive(Clone, Copy)]
 enum Stop {
-    // A line is at fault, counted from 1 at the front of the bytes that are left.
+    // A line with a fault, counted from 1 at the start of the remaining bytes.
     At {
         left: usize,
         line: u64,
         reason: ScriptReason,
     },
-    // No memory was found.
+    // Out of memory.
     Memory,
 }
 
-/// The input of `audit` that a text says.
+/// Parses the input of `audit` from a text.
 ///
-/// A text (this project's own format) begins with `mrpc-audit 1`, with `loads N` or, where the limit of loads is 1024,
-/// without, and with `table`. Then come the canonical text of a table, `end`, tenants and policies, and the line
-/// `audit`. Each of these lines ends with a line feed, and none of them is empty or a comment. It takes time in
-/// proportion to the text in front of the audit, but for the look-up of names.
+/// The format is this project's own. A text starts with `mrpc-audit 1`, `loads N` unless the limit of loads is 1024,
+/// and `table`. The canonical text of a table follows, then `end`, tenants and policies, and the line `audit`. Each of
+/// these lines ends with a line feed, and none is empty or a comment. Apart from look-ups of names, the time is linear
+/// in the length of the text before the audit.
 ///
 /// # Errors
 ///
-/// [`ScriptFault::At`] has the first line at fault, counted from 1, and its first reason; where the line `audit` is
-/// missing, that is [`ScriptReason::Close`] at the line behind the last. [`ScriptFault::Memory`] comes where no memory
-/// was found.
+/// [`ScriptFault::At`] has the first line with a fault, counted from 1, and its first reason. If the line `audit` is
+/// missing, the fault is [`ScriptReason::Close`] at the line after the last one. [`ScriptFault::Memory`] means out of
+/// memory.
 pub fn read_audit_input(alloc: Global, text: &[u8]) -> Result<AuditInput<'_>, ScriptFault>
-    // What is read is what the text says.
+    // The result is the input that the text means.
     ensures read { IfOk result (λ a. Says text.now a.loads a.table a.declared a.text.now a.line) }
-    // What the text says is read, unless memory runs out.
+    // If the text is an input, the call returns it, unless it runs out of memory.
     ensures only { (loads : ℕ) (T : TheTable) (d : Declared) (rest : List ℕ) (line : ℕ)
         → Says text.now loads T d rest line
         → MatchResult result (λ a. (a.loads ≡ loads) × (a.table ≡ T) × (a.declared ≡ d) × (a.text.now ≡ rest)
         × (a.line ≡ line)) (λ e. e ≡ OutOfMemory) }
-    // A fault is that of the text: the first line at fault, with its first reason.
+    // A fault is the text's: the first line with a fault, and its first reason.
     ensures fault { IfErr result (IsFaultOf text.now) }
-    // What holds of each input.
+    // Properties of each input.
     ensures table { IfOk result (λ a. IsValid a.table) }
     ensures declared { IfOk result (λ a. IsSound a.declared) }
 {
@@ -111,7 +111,7 @@ fn input_of(alloc: Global, text: &[u8]) -> Result<AuditInput<'_>, ScriptFault>
     }
 }
 
-// What is declared in front of the line `audit`, and what stands from there on.
+// Reads the declarations before the line `audit`, and returns them with the remainder from that line on.
 fn read_items<'a>(alloc: Global, table: &Table, text: &'a [u8]) -> Result<Items<'a>, Stop>
     requires { IsValid table.now }
     ensures { MatchResult result (λ i. AreItems table.now text.now i) (IsStopOf table.now text.now) }
@@ -148,14 +148,14 @@ fn read_items<'a>(alloc: Global, table: &Table, text: &'a [u8]) -> Result<Items<
     Err(stopped(rest, reason))
 }
 
-// Whether it is the line behind which the audit stands.
+// Returns true for the line before the audit.
 fn is_audit(line: &[u8]) -> bool
     ensures { result ≡ bytes_eq line.now audit_line }
 {
     line == AUDIT
 }
 
-// The item at the front of these bytes is at fault.
+// The declaration at the start of these bytes has a fault.
 fn stopped_by(rest: &[u8], fault: ScriptFault) -> Stop
     ensures { result ≡ stop_of (length rest.now) fault }
 {
@@ -169,7 +169,7 @@ fn stopped_by(rest: &[u8], fault: ScriptFault) -> Stop
     }
 }
 
-// The line at the front of these bytes is at fault.
+// The first line of these bytes has a fault.
 fn stopped(rest: &[u8], reason: ScriptReason) -> Stop
     ensures { result ≡ Stop.At (length rest.now) 1 reason }
 {

@@ -1,4 +1,4 @@
-//! Laws of the inputs of `audit`. These functions do nothing; their clauses hold.
+//! Laws of the inputs of `audit`. These functions do nothing; each contract is a law.
 
 ghost use Rattle.std.specs.Prelude.{◌≡◌, ◌⊎◌, ℕ, List};
 ghost use Rattle.mrpc_table.specs.Valid.{IsValid};
@@ -10,7 +10,7 @@ ghost use Rattle.audit_input.specs.Inputs.{Says, IsFault};
 use policy_blocks::{one_item, stays_sound};
 use script_head::one_front;
 
-/// A text says one input of `audit`, or it has one fault.
+/// A text is exactly one input of `audit`, or has exactly one first fault.
 pub fn one_input()
     ensures one { (text : List ℕ) (m n : ℕ) (T U : Table) (d e : Declared) (x y : List ℕ) (k l : ℕ)
         → Says text m T d x k → Says text n U e y l → (m ≡ n) × (T ≡ U) × (d ≡ e) × (x ≡ y) × (k ≡ l) }
@@ -21,7 +21,7 @@ pub fn one_input()
     ensures either { (text : List ℕ)
         → ((loads : ℕ) × (T : Table) × (d : Declared) × (x : List ℕ) × (k : ℕ) × Says text loads T d x k)
         ⊎ ((line : ℕ) × (r : ScriptReason) × IsFault text line r) }
-    // What holds of each input that a text says.
+    // Properties of each input.
     ensures sound { (text : List ℕ) (loads : ℕ) (T : Table) (d : Declared) (x : List ℕ) (k : ℕ)
         → Says text loads T d x k → IsValid T × IsSound d }
 {

@@ -1,8 +1,9 @@
-//! The input of `audit`: the front of a text, the tenants and policies that it declares, and an audit behind them.
+//! The input of `audit`: a preamble, declarations of tenants and policies, and an audit.
 //!
-//! [`read_audit_input`] reads it, or tells the first line at fault; the lines of the audit itself are left as they are.
-//! `specs/Inputs.antt` says what a text says and which fault it has. It stands on `mrpc_table`, `script_words`,
-//! `script_head` and `policy_blocks`. The layers above use one contract: a text says one input, or has one first fault.
+//! [`read_audit_input`] reads the input up to the audit, or returns the first fault. It leaves the audit's own lines
+//! unread. `specs/Inputs.antt` defines inputs and their faults. The crate depends on `mrpc_table`, `script_words`,
+//! `script_head` and `policy_blocks`. Its one contract for the layers above: a text is exactly one input, or has
+//! exactly one first fault.
 #![tactic(auto)]
 
 mod input;

@@ -1,4 +1,4 @@
--- What a turn of an entry for a call tells of the answer of the entry, by what is behind.
+-- The outcome of an entry's turn for a call implies the entry's answer, by the trace.
 use Rattle.std.proofs.Common.{◌≡◌, ◌≢◌, ℕ, add-one, ◌+◌, ◌<◌, ◌≤◌, zero, suc, List, [], ◌∷◌, map, take, set}
 use Rattle.std.proofs.Common.{slice_get, refl, sym, ap, ◌∙◌, subst, arith}
 use Rattle.std.specs.Prelude.{All, IsSomeAnd, Option, Some, None}
@@ -98,7 +98,7 @@ comes-answer policy level moment form past outcome (is_noted_and_refused n why a
     subst (λ (o : Outcome). Answers policy level moment form past (answer_of o)) (sym is) (refused-note policy level moment form past n why answers)
 comes-answer policy level moment form past outcome (is_redacted answers is) = subst (λ (o : Outcome). Answers policy level moment form past (answer_of o)) (sym is) answers
 
--- where a ticket is to be drawn, no other answer is given
+-- if a ticket is to be drawn, the entry has no other answer
 undrawn : (policy : Policy) (level moment tenant per cap : ℕ) (form : Call) (past : Past) (a : Answer) → policy ≡ Quota tenant per cap
     → ((t : ℕ) → past ≢ drawn t) → Answers policy level moment form past a → ticket_in a ≡ None → ⊥
 undrawn policy level moment tenant per cap form past a quota none (allows p is allow answer) no_ticket = cc
@@ -133,7 +133,7 @@ no-draw policy level moment form past a b gives no_ticket (counts is none answer
 no-draw policy level moment form past a b gives no_ticket (is_clear clears is left answer) = ap ticket_in answer
 no-draw policy level moment form past a b gives no_ticket (redacts clears is other answer) = ap ticket_in answer
 
--- an entry gives a call one answer, but for the ticket of a draw
+-- an entry has one answer to a call, apart from the ticket of a draw
 abbrev pub OneAnswer : Type 0
 OneAnswer = (policy : Policy) (level moment : ℕ) (form : Call) (past : Past) (a b : Answer) → Answers policy level moment form past a
     → Answers policy level moment form past b → ticket_in a ≡ ticket_in b → a ≡ b
@@ -180,7 +180,7 @@ module _ (es : List EngineParts) (calls : List StandingCall) (p j now : ℕ) (ou
   of-table T all = subst (λ (xs : List StandingCall). All (λ s. IsCallOf T s.call) xs) (sym w.other_calls)
       (All-set (λ (s : StandingCall). IsCallOf T s.call) calls j w.call' (w.leaves_call.fits T (All-at (λ (s : StandingCall). IsCallOf T s.call) calls j w.call all w.is_call)) all)
 
-  -- the entry of the turn is that of the chain at this position
+  -- the entry of the turn is the one of the chain at this position
   pub entry-at : (past : Behind) (n : ℕ) → chain_of es n ≡ chain past → slice_get (chain past).entries p ≡ Some w.engine.entry
   entry-at past n same = subst (λ (c : Chain). slice_get c.entries p ≡ Some w.engine.entry) same (map-at (λ (e : EngineParts). e.entry) es p w.engine w.is_engine)
 

@@ -1,4 +1,4 @@
--- What is asked of every happening, of one that was noted of a call, or that it was sent.
+-- The rules for every event, on a note or a send.
 use Rattle.std.proofs.Common.{◌≡◌, ℕ, Option, Bool, true, false, not, List, [], ◌∷◌, ◌∙◌, slice_get, ap, refl, sym, subst, arith}
 use Rattle.std.specs.Bool.{OnFalse, OnTrue}
 use Rattle.std.specs.Prelude.{◌↔◌, IfNone, IfSome, IsTrue, Some}
@@ -28,7 +28,7 @@ use Rattle.audit_rules.proofs.Known.{unmap-at}
 use Rattle.audit_rules.proofs.States.{at-once}
 use Rattle.audit_rules.proofs.Stepping.{one-some}
 
--- ---- of the happening alone
+-- ---- by the event alone
 
 no-refusal : (what : Happening) → IsOfCall what → (seq : ℕ) (why : Cause) → what ≡ Refused seq why → ⊥
 no-refusal what of seq why is = subst IsOfCall is of
@@ -64,7 +64,7 @@ not-standing : (calls : List Taken) (what : Happening) → IsOfCall what → IsL
 not-standing [] what of is = no-quiet what of is
 not-standing (call ∷ calls) what of is = no-refusal what of call.seq cause.Transport is
 
--- ---- by what is behind
+-- ---- by the trace
 
 behind-malformed : (past : Behind) (what : Happening) → IsOfCall what → (AwaitsMalformed past → ⊥) → RefusesMalformed past what
 behind-malformed [] what of none = other-malformed what of
@@ -99,7 +99,7 @@ drawn past what (lefts.Over seq at ticket cap) of opened free = (
       absurd (no-refusal what of seq (cause.Quota opened.0.name ticket cap) (next opened.6.0 cap opened.6.1 opened.6.2 opened.4))),
 )
 
--- a call whose ticket isn't below the cap is refused by the entry at the position that is kept
+-- a call whose ticket isn't below the cap is refused by the entry at the recorded position
 pub over-refused : (T : Table) (past : Behind) (what : Happening) (c : Checker) (seq at ticket cap : ℕ) (result : Bool) → Knows T past c
     → c.left ≡ lefts.Over seq at ticket cap
     → IfSome (slice_get c.engines.items at) (λ e. IsTrue result ↔ (what ≡ Refused seq (cause.Quota e.entry.name ticket cap)))
@@ -127,7 +127,7 @@ linked past what false of is = (
 )
 linked past what true of is = (λ same. absurd cc, λ ends. absurd (not-standing (standing past) what of (ends.0 (sym is))))
 
--- ---- what is answered
+-- ---- the result
 
 module _ (T : Table) (past : Behind) (what : Happening) (c : Checker) (of : IsOfCall what) (knows : Knows T past c) where
   abbrev pub u : Under

@@ -1,8 +1,8 @@
--- Items of a list that are changed one after another, and engines that were lent.
+-- Elements of a list that are changed one after another, and engines that were lent.
 use Rattle.std.proofs.Common.{◌≡◌, ℕ, ◌+◌, ◌<◌, List, [], ◌∷◌, ◌++◌, length, take, drop, set, get_or, map, ap, sym, ◌∙◌, arith, get_or-drop}
 use Rattle.std.proofs.lemmas.List.{drop-drop, drop-set-lt, map_more, take_at, take_more_set}
 
--- ---- one item more
+-- ---- one more element
 
 same-item : {X : Type 0} (xs ys : List X) (i : ℕ) (d : X) → drop i xs ≡ drop i ys → get_or xs i d ≡ get_or ys i d
 same-item {X = X} xs ys i d e =

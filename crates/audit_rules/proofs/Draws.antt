@@ -1,4 +1,4 @@
--- A ticket that is told to be drawn for a call.
+-- A ticket that an audit line reports as drawn for a call.
 use Rattle.std.proofs.Common.{◌≡◌, ◌≢◌, ℕ, zero, suc, Bool, cond, List, [], ◌∷◌, refl, sym, ap, ◌∙◌, slice_get, subst}
 use Rattle.std.specs.Prelude.{Contains, IsSomeAnd, Option, None, Some, find, option_map}
 use Rattle.mrpc_table.specs.Valid.{AreDistinct}
@@ -21,7 +21,7 @@ use Rattle.audit_rules.proofs.Due.{answer-noted}
 use Rattle.audit_rules.proofs.Entries.{named-is}
 use Rattle.audit_rules.proofs.Worked.{bytes-other, names-at}
 
--- where a ticket is to be drawn, any is
+-- if a ticket is to be drawn, any ticket can be
 drawn-any : (policy : Policy) (level moment : ℕ) (form : Call) (past : Past) (window ticket t : ℕ) → Answers policy level moment form past (note (Drawn window ticket))
     → Answers policy level moment form past (note (Drawn window t))
 drawn-any policy level moment form past window ticket t (allows p is allow answer) = absurd cc
@@ -57,7 +57,7 @@ draw-by one policy level moment (Some call) past window ticket a due gives = som
 
 module _ (u : Under) (past : Behind) (attached seq : ℕ) (name : List ℕ) (a : Asked) (calls : List StandingCall) (es' : List EngineParts) (calls' : List StandingCall)
     (reached' : List ℕ) (asked : IsAsked u past attached seq name a calls es' calls' reached') where
-  -- where a draw is due, the entry drew in its window
+  -- if a draw is due, the entry drew in its window
   pub due-drawn : OneAnswer → (window ticket : ℕ) → Meets u past seq name (note (Drawn window ticket)) → (t : ℕ) × (noted_in a.outcome ≡ Drawn window t)
   due-drawn one window ticket m =
       let same : m.entry ≡ asked.entry = asked.only m.entry m.at in

@@ -1,4 +1,4 @@
--- An entry's answer to a call, and what an audit tells of it.
+-- An entry's answer to a call, and what an audit reports of it.
 use Rattle.std.proofs.Common.{◌≡◌, ◌≢◌, ℕ, ◌<◌, ◌≤◌, List, [], ◌∷◌, length, refl, sym, ap, subst, arith}
 use Rattle.std.specs.Prelude.{All, IsSomeAnd, Option, Some, None}
 use Rattle.std.proofs.lemmas.List.Elements.{All-cons, All-head, All-nil, All-tail}
@@ -137,7 +137,7 @@ all-greatest (m ∷ ns) n some all =
     let rest = all-greatest ns n some (All-tail (λ other. other < n) m ns all) in
     omega arith
 
--- ---- what was asked
+-- ---- the entry that was asked
 
 module _ (u : Under) (past : Behind) (attached seq : ℕ) (name : List ℕ) (a : Asked) (calls : List StandingCall) (es' : List EngineParts) (calls' : List StandingCall)
     (reached' : List ℕ) (asked : IsAsked u past attached seq name a calls es' calls' reached') where

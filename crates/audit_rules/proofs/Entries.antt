@@ -1,4 +1,4 @@
--- The entry of a name on a chain, and what stands before it.
+-- The entry of a name in a chain, and the entries before it.
 use Rattle.std.proofs.Common.{◌≡◌, ◌≢◌, ℕ, ◌+◌, ◌<◌, ◌≤◌, zero, suc, Bool, true, false, cond, nat_lt, if◌then◌else◌}
 use Rattle.std.proofs.Common.{List, [], ◌∷◌, ◌++◌, length, map, take, drop, set, get_or, slice_get, refl, sym, ap}
 use Rattle.std.proofs.Common.{◌∙◌, subst, arith}
@@ -56,7 +56,7 @@ place-within name (x ∷ xs) zero inside same = let mine = named-is name x.entry
 place-within name (x ∷ xs) (suc j) inside same =
     less-then (is_named name x.entry) (place_of name (map (λ e. e.entry) xs)) (length xs) (place-within name xs j (omega arith) same)
 
--- the engine of a name stands at a place
+-- the engine of a name is at an index
 pub record IsFound (name : List ℕ) (place : ℕ) (es : List EngineParts) : Type 0 where
   pub engine : EngineParts
   pub within : place < length es
@@ -93,7 +93,7 @@ names-at [] p e is = absurd cc
 names-at (x ∷ xs) zero e is = let there : x ≡ e = cc in (0, omega arith, ap (λ (e : Entry). e.name) there)
 names-at (x ∷ xs) (suc p) e is = let rest = names-at xs p e is in (suc rest.0, omega (arith, rest.1), rest.2)
 
--- an entry of a name is that at its place, and behind the same others
+-- an entry of a name is the one at its index, followed by the same others
 pub record IsSplit (es front : List Entry) (p : ℕ) (x e : Entry) : Type 0 where
   pub before : take p es ≡ front
   pub same : x ≡ e
@@ -114,7 +114,7 @@ split-at [] j x is = absurd cc
 split-at (z ∷ zs) zero x is = let there : z ≡ x = cc in cc
 split-at {X = X} (z ∷ zs) (suc j) x is = ap (λ (ys : List X). z ∷ ys) (split-at zs j x is)
 
--- ---- a call that stands at an entry
+-- ---- a pending call at an entry
 
 contains-seq : (ns : List ℕ) (j n : ℕ) → slice_get ns j ≡ Some n → Contains ns n
 contains-seq [] j n is = absurd cc
@@ -126,7 +126,7 @@ module _ (u : Under) (past : Behind) (es : List EngineParts) (n : ℕ) (calls : 
   entries : map (λ e. e.entry) es ≡ (chain past).entries
   entries = ap (λ (c : Chain). c.entries) same
 
-  -- it does where it passes all before
+  -- it is there if all entries before let it pass
   pub is-at : (name : List ℕ) (seq j p : ℕ) (e : EngineParts) → slice_get (seqs_of calls) j ≡ Some seq → slice_get es p ≡ Some e → e.entry.name ≡ name
       → LetsAll u past seq p → IsAt u past seq name e.entry
   is-at name seq j p e there is named lets = record {
@@ -147,7 +147,7 @@ module _ (u : Under) (past : Behind) (es : List EngineParts) (n : ℕ) (calls : 
       (subst (λ (m : List ℕ). Contains (names_of (at.front ++ e ∷ at.back)) m) at.named
       (names-middle at.front at.back e)))
 
-  -- the entry of a name is that at its place
+  -- the entry of a name is the one at its index
   pub there-split : (name : List ℕ) (seq p : ℕ) (x : Entry) (e : EngineParts) → slice_get es p ≡ Some e → e.entry.name ≡ name → (at : IsAt u past seq name x)
       → IsSplit (chain past).entries at.front p e.entry x
   there-split name seq p x e is named at =
@@ -164,7 +164,7 @@ module _ (u : Under) (past : Behind) (es : List EngineParts) (n : ℕ) (calls : 
       let split = there-split name seq p x e is named at in
       stops (subst (λ (xs : List Entry). All (Lets u past seq) xs) (sym split.before) at.let_pass)
 
--- ---- numbers that ascend are apart
+-- ---- numbers that ascend are distinct
 
 rising-above : (below top seq : ℕ) (calls : List StandingCall) → seq ≤ below → IsRising below top (seqs_of calls) → IsNumberApart seq calls
 rising-above below top seq [] le rising = All-nil (λ s. s.call.seq ≢ seq)
@@ -175,7 +175,7 @@ pub apart-rising : (below top : ℕ) (calls : List StandingCall) → IsRising be
 apart-rising below top [] rising = tt
 apart-rising below top (s ∷ calls) rising = (rising-above s.call.seq top s.call.seq calls (omega arith) rising.2, apart-rising s.call.seq top calls rising.2)
 
--- ---- how far calls reach
+-- ---- how far calls get
 
 pub zip-length : {X Y : Type 0} (R : X → Y → Type 0) (xs : List X) (ys : List Y) → AllZip R xs ys → length ys ≡ length xs
 zip-length R [] [] all = refl

@@ -1,4 +1,4 @@
--- Which rule a happening breaks first, by its own rule and what is asked of every happening.
+-- Which rule an event breaks first, by its own rule and the rules for every event.
 use Rattle.std.proofs.Common.{◌≡◌, ◌≢◌, ℕ, ◌<◌, ◌≤◌, Bool, true, false, ◌∷◌, refl, sym, subst, arith}
 use Rattle.std.specs.Bool.{OnFalse, OnTrue}
 use Rattle.std.specs.Prelude.{◌↔◌, IfNone, IfSome, IsTrue}
@@ -17,7 +17,7 @@ use Rattle.audit_rules.specs.declared.rule.Rule.{Rule}
 use Rattle.audit_rules.specs.declared.rule.Rule.TheVariants.{A, B, C, D, E, F, G, Stands}
 use Rattle.audit_rules.proofs.States.{at-once}
 
--- ---- a happening's own rule and the others
+-- ---- an event's own rule and the others
 
 own-chain : (u : Under) (past : Behind) (what : Happening) → (Owns u past what (own_rule what)) → KeepsChain past what
 own-chain u past (Took call) own = tt
@@ -67,7 +67,7 @@ own-refuses u past (Redacted seq name version) own = tt
 own-refuses u past (Sent seq bytes) own = tt
 own-refuses u past (Refused seq why) own = own
 
--- a happening whose own rule is another
+-- an event whose own rule is another
 other-chain : (u : Under) (past : Behind) (what : Happening) → own_rule what ≢ C → KeepsChain past what
 other-chain u past (Took call) other = tt
 other-chain u past (Away method number addr) other = tt
@@ -107,7 +107,7 @@ other-sends u past (Refused seq why) other = tt
 -- ---- the first rule
 
 module _ (u : Under) (past : Behind) (what : Happening) where
-  -- the rules before a place are kept
+  -- the rules before a rank are kept
   below : (n : ℕ) → n ≤ 6 → (0 < n → IsNumbered u past what) → (1 < n → RefusesMalformed past what) → (2 < n → KeepsChain past what)
       → (3 < n → NotesWhatIsDue u past what × RefusesDrawn past what) → (4 < n → SendsInOrder u past what) → (5 < n → RefusesAsAnswered u past what)
       → (other : Rule) → order_of other < n → Keeps u past what other
@@ -215,7 +215,7 @@ module _ (u : Under) (past : Behind) (what : Happening) where
       link_end = by_link.0 refl;
     }
 
--- what follows where nothing is broken
+-- what follows if nothing is broken
 pub if-none-both : (P Q : Type 0) (own : Rule) (kept drawn linked : Bool) → (P → OnTrue kept Q)
     → IfNone (first_of own kept drawn linked) P → IfNone (first_of own kept drawn linked) Q
 if-none-both P Q own false drawn linked next is = tt
@@ -223,7 +223,7 @@ if-none-both P Q own true false linked next is = tt
 if-none-both P Q own true true false next is = tt
 if-none-both P Q own true true true next is = next is
 
--- ---- what waits
+-- ---- obligations
 
 free-for : (why : Cause) (left : Left) → IsFree left → IsFreeFor why left
 free-for cause.Malformed left free = tt

@@ -1,4 +1,4 @@
--- A ticket that was drawn elsewhere is given in each draw.
+-- A ticket that was drawn elsewhere is returned by each draw.
 use Rattle.std.proofs.Common.{◌≡◌, ℕ, ◌==◌, Bool, true, false, List, [], ◌∷◌, ◌++◌, All, Contains, refl, ap, sym, ◌∙◌, subst}
 use Rattle.std.specs.Prelude.{Some}
 use Rattle.std.proofs.lemmas.List.Elements.{All-contains, All-nil, All-push, Contains-push}
@@ -29,14 +29,14 @@ all-same ticket tenant window [] = All-nil (λ t. t ≡ ticket)
 all-same ticket tenant window (d ∷ list) =
     all-with (d.0 == tenant) (d.1 == window) ticket (tickets_in ticket list tenant window) (all-same ticket tenant window list)
 
--- a ticket that comes behind those of before is the one that is given
+-- a ticket after the earlier ones is the one that the source returns
 same-ticket : (ticket before drawn tenant window : ℕ) (list earlier : List (ℕ × ℕ))
     → tickets_in ticket list tenant window ≡ tickets_in before earlier tenant window ++ drawn ∷ [] → drawn ≡ ticket
 same-ticket ticket before drawn tenant window list earlier is =
     All-contains (λ t. t ≡ ticket) (tickets_in ticket list tenant window) drawn (all-same ticket tenant window list)
     (subst (λ (l : List ℕ). Contains l drawn) (sym is) (Contains-push (tickets_in before earlier tenant window) drawn))
 
--- ---- a note of a draw is of a quota
+-- ---- a note of a draw is a quota's
 
 abbrev IsQuota : Policy → Type 0
 IsQuota policy = (tenant : ℕ) × (per : ℕ) × (cap : ℕ) × (policy ≡ Quota tenant per cap)
@@ -89,7 +89,7 @@ module _ (e : EngineParts) (moment : ℕ) (s : StandingCall) (outcome : Outcome)
   quota-turn Count is = quota-asked (λ _. subst (λ (p : Policy). IsAllowing p s.call) (sym is) tt)
   quota-turn (Redact r) is = quota-asked (λ _. subst (λ (p : Policy). IsAllowing p s.call) (sym is) tt)
 
-  -- the ticket that a turn notes is the one that it was given
+  -- the ticket that a turn notes is the one that the source returned
   pub drawn-given : (before after : Prepared)
       → LeavesTickets (λ (p : Prepared) (tenant : ℕ). Unit {0}) (λ (p : Prepared) (tenant : ℕ) (window : ℕ). Some (tickets_in p.ticket p.draws.list tenant window))
       (λ (first : Prepared) (later : Prepared). later.ticket ≡ first.ticket) e.entry.policy (noted_in outcome) before after

@@ -1,4 +1,4 @@
--- How far calls are known to pass, and the numbers of those that stand, once one more thing has happened.
+-- How far calls are known to pass, and the numbers of pending calls, after one more event.
 use Rattle.std.proofs.Common.{◌≡◌, ◌≢◌, ℕ, ◌+◌, ◌<◌, ◌≤◌, ◌==◌, Bool, cond, not, zero, suc, List, [], ◌∷◌, ◌++◌, map}
 use Rattle.std.proofs.Common.{take, remove, slice_get, refl, sym, ap, ◌∙◌, subst, arith}
 use Rattle.std.specs.Prelude.{All, IsSomeAnd, Option, Some, None, filter}
@@ -40,7 +40,7 @@ some-on : (policy : Policy) (l m l' m' : ℕ) (f : Option Call) (past : Past) �
 some-on policy l m l' m' None past gives = absurd gives
 some-on policy l m l' m' (Some call) past gives = pass-on policy l m l' m' call past gives
 
--- an entry lets a call of the same form pass, of which the same was noted
+-- an entry lets a call pass that has the same form and the same notes
 pub lets-on : (u : Under) (past past' : Behind) (seq : ℕ) (e : Entry) → form u.conn seq past' ≡ form u.conn seq past
     → noted e.name seq past' ≡ noted e.name seq past → Lets u past seq e → Lets u past' seq e
 lets-on u past past' seq e forms notes lets =
@@ -66,7 +66,7 @@ zip-remove R (x ∷ xs) [] i all = absurd all
 zip-remove R (x ∷ xs) (y ∷ ys) zero all = all.1
 zip-remove R (x ∷ xs) (y ∷ ys) (suc i) all = (all.0, zip-remove R xs ys i all.1)
 
--- what holds of numbers above one, by their rest
+-- what holds of numbers above one, by the suffix of the list
 zip-above : (R R' : ℕ → ℕ → Type 0) (below top n0 : ℕ) (ns rs : List ℕ) → n0 ≤ below → IsRising below top ns → ((n r : ℕ) → n ≢ n0 → R n r → R' n r)
     → AllZip R ns rs → AllZip R' ns rs
 zip-above R R' below top n0 [] [] le rising on all = tt
@@ -76,7 +76,7 @@ zip-above R R' below top n0 (n ∷ ns) (r ∷ rs) le rising on all =
     let first : below < n = rising.0 in
     (on n r (λ same. omega (arith, first, same)) all.0, zip-above R R' n top n0 ns rs (omega arith) rising.2 on all.1)
 
--- the same where it changes at one number
+-- like `zip-above`, with a change at one number
 pub zip-except : (R R' : ℕ → ℕ → Type 0) (below top n0 r0 place : ℕ) (ns rs : List ℕ) → IsRising below top ns
     → slice_get ns place ≡ Some n0 → slice_get rs place ≡ Some r0
     → R' n0 r0 → ((n r : ℕ) → n ≢ n0 → R n r → R' n r) → AllZip R ns rs → AllZip R' ns rs
@@ -116,7 +116,7 @@ others-above below top seq (call ∷ calls) le rising =
     ap (λ (b : Bool). map (λ call. call.seq) (cond (not b) (call ∷ filter (λ call. not (seq == call.seq)) calls) (filter (λ call. not (seq == call.seq)) calls)))
     (ne_eqb seq call.seq apart) ∙ ap (λ (ns : List ℕ). call.seq ∷ ns) rest
 
--- all but the call of a number, by numbers
+-- all but the call with a number, by numbers
 pub others-leave : (below top seq place : ℕ) (calls : List Taken) → IsRising below top (map (λ call. call.seq) calls)
     → slice_get (map (λ call. call.seq) calls) place ≡ Some seq
     → map (λ call. call.seq) (filter (λ call. not (seq == call.seq)) calls) ≡ remove (map (λ call. call.seq) calls) place
@@ -145,7 +145,7 @@ all-remove P [] (suc i) all = All-nil P
 all-remove P (x ∷ xs) zero all = All-tail P x xs all
 all-remove P (x ∷ xs) (suc i) all = All-cons P x (remove xs i) (All-head P x xs all) (all-remove P xs i (All-tail P x xs all))
 
--- ---- what neither notes, nor clears, nor changes the chain
+-- ---- events that neither note, nor clear, nor change the chain
 
 pub record IsApart (past : Behind) (what : Happening) : Type 0 where
   pub chained : chain (what ∷ past) ≡ chain past
@@ -175,7 +175,7 @@ latest-same past (e ∷ es) (e' ∷ es') (l ∷ ls) same all =
     let rest : map (λ e. e.entry) es' ≡ map (λ e. e.entry) es = cc in
     (all.0 ∙ ap (λ (x : Entry). greatest (noted_calls x.name past)) first, latest-same past es es' ls rest all.1)
 
--- what holds of each entry of engines holds of those of engines with the same
+-- what holds for each entry of engines holds for engines with the same entries
 pub entries-same-all : (P : Entry → Type 0) (es es' : List EngineParts) → map (λ e. e.entry) es' ≡ map (λ e. e.entry) es → All (λ e. P e.entry) es → All (λ e. P e.entry) es'
 entries-same-all P [] [] same all = All-nil (λ e. P e.entry)
 entries-same-all P [] (e' ∷ es') same all = absurd cc

@@ -1,4 +1,4 @@
--- What a checker knows, where no malformed call waits for its refusal.
+-- What a checker knows if no malformed call awaits its refusal.
 use Rattle.std.proofs.Common.{◌≡◌, ℕ, ◌<◌, zero, suc, get_or, slice_get, List, [], ◌∷◌, length, map, refl, sym, ap, ◌∙◌, subst, arith}
 use Rattle.std.specs.Prelude.{Some}
 use Rattle.std.proofs.lemmas.List.{length-map}

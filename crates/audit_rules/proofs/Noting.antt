@@ -1,4 +1,4 @@
--- What a checker knows behind what an entry notes of a call, and what it clears from one.
+-- What a checker knows after an entry's note on a call, and after a clear.
 use Rattle.std.proofs.Common.{◌≡◌, ◌≢◌, ◌⊎◌, inl, inr, ℕ, suc, ◌+◌, ◌<◌, ◌==◌, ◌&&◌, Bool, true, false, cond, List, ◌∷◌, map, set, take}
 use Rattle.std.proofs.Common.{get_or, slice_get, refl, sym, ap, ◌∙◌, subst, arith}
 use Rattle.std.specs.Prelude.{All, None, Some, vec_capacity}
@@ -102,7 +102,7 @@ is-note past name seq (notes.Drawn window ticket) what some is = let same : Draw
     cc in subst (IsNote past name seq) same (drawn-note past name seq window ticket)
 is-note past name seq notes.Counted what some is = let same : Counted seq name ≡ what = cc in subst (IsNote past name seq) same (counted-note past name seq)
 
--- it is no refusal, and leaves nothing open unless it draws
+-- it is no refusal, and leaves no obligation unless it draws
 pub note-settles : (past : Behind) (name : List ℕ) (seq : ℕ) (n : Noted) (what : Happening) → n ≢ notes.Nothing
     → ticket_in (note n) ≡ None → note_behind name seq n past ≡ what ∷ past
     → LeavesOpen (what ∷ past) Nothing
@@ -120,7 +120,7 @@ note-other past name seq (notes.Charged left) what some is s why refused = cc
 note-other past name seq (notes.Drawn window ticket) what some is s why refused = cc
 note-other past name seq notes.Counted what some is s why refused = cc
 
--- what was noted at an engine, and how far a call is known to pass from then on
+-- an engine's note on a call, and how far the call is then known to pass
 pub noted-on : (c c1 c2 : Checker) → c1 ≡ record c { latest = c1.latest } → c2 ≡ record c1 { reached = c2.reached }
     → c2 ≡ record c { latest = c2.latest; left = c2.left; reached = c2.reached }
 noted-on c c1 c2 first then =
@@ -137,14 +137,14 @@ settled-on c c1 c2 first then =
     then ∙ (ap (λ (d : Checker). record d { left = c2.left; reached = c2.reached }) first
     ∙ ap (λ v. record c { latest = v; left = c2.left; reached = c2.reached }) (sym latest))
 
--- ---- what is known behind a turn
+-- ---- what is known after a turn
 
 module _ (T : Table) (past : Behind) (c c1 : Checker) (seq : ℕ) (name : List ℕ) (a : Asked) (knows : Knows T past c) (free : IsFree c.left)
     (asked : IsAsked (under T c) past c.attached seq name a c.calls c1.engines.items c1.calls c1.reached.items)
     (same : c1 ≡ record c { engines = c1.engines; calls = c1.calls; reached = c1.reached }) (room : HasRoom c1) (numbers : seqs_of c1.calls ≡ seqs_of c.calls)
     (entries : map (λ e. e.entry) c1.engines.items ≡ map (λ e. e.entry) c.engines.items) (of_table : All (λ s. IsCallOf T s.call) c1.calls)
     (distinct : AreDistinct (names_of (chain past).entries)) where
-  -- the entries are those of the chain
+  -- the entries are the chain's
   chained : map (λ e. e.entry) c1.engines.items ≡ (chain past).entries
   chained = entries ∙ ap (λ (x : Chain). x.entries) knows.row.ties.same_chain
 
@@ -175,7 +175,7 @@ module _ (T : Table) (past : Behind) (c c1 : Checker) (seq : ℕ) (name : List �
       asked.reaches refl numbers refl refl latest1 refl (subst (LeavesOpen past) (sym same-left) knows.left) of_table (omega arith) entries room
 
   module _ (c' : Checker) (what : Happening) (may : May (under T c) past what) where
-    -- what was noted leaves the entries at which the calls are known to be
+    -- a note preserves the entries that the calls are known to pass
     pub reaches-noted : (n : Noted) → n ≢ notes.Nothing → note_behind name seq n past ≡ what ∷ past
         → AllZip (LetsAll (under T c) (what ∷ past)) (seqs_of c1.calls) c1.reached.items
     reaches-noted n some is = note-reaches (under T c) past name seq what (is-note past name seq n what some is) 0 c.taken a.place a.at asked.entry
@@ -201,7 +201,7 @@ module _ (T : Table) (past : Behind) (c c1 : Checker) (seq : ℕ) (name : List �
         (lets-more (Lets u (what ∷ past) seq) (chain (what ∷ past)).entries a.at asked.entry there own before) in
         zip-set (LetsAll u (what ∷ past)) (seqs_of c1.calls) c1.reached.items a.place seq (a.at + 1) (reaches-noted n some is) there1 further
 
-    -- by what a ticket leaves
+    -- by the state after a ticket
     pub reaches-settled : (window ticket : ℕ) (engine : EngineParts) (reached' : List ℕ) → engine.entry ≡ asked.entry
         → noted_in a.outcome ≡ notes.Drawn window ticket → note_behind name seq (notes.Drawn window ticket) past ≡ what ∷ past
         → (reached' ≡ c1.reached.items) ⊎ ((reached' ≡ set c1.reached.items a.place (a.at + 1))
@@ -250,7 +250,7 @@ module _ (T : Table) (past : Behind) (c c1 : Checker) (seq : ℕ) (name : List �
     cleared-to : Checker
     cleared-to = record c1 { reached = c'.reached }
 
-    -- fields were cleared, and the call begins again
+    -- fields were cleared, and the call starts again at the first entry
     pub knows-cleared : (version : ℕ) → ((conn seq s version : ℕ) (name : List ℕ) (past : Behind) → seq ≢ s
         → form conn s (Redacted seq name version ∷ past) ≡ form conn s past)
         → what ≡ Redacted seq name version → c' ≡ record c1 { reached = c'.reached } → c'.reached.items ≡ set c1.reached.items a.place 0

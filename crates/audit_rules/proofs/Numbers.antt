@@ -49,7 +49,7 @@ more-behind below top ns m x seq rising is more k from inside =
 pub not-there : (ns : List ℕ) (low x seq : ℕ) → slice_get ns low ≡ Some x → x ≢ seq → get_or ns low 0 ≢ seq
 not-there ns low x seq is apart same = apart (sym (read ns low x is) ∙ same)
 
--- a search that has closed in on a place: what is before it is less, and what is behind isn't less
+-- a search that has reached an index: numbers before it are smaller, and numbers from it on aren't
 pub none-there : (below top : ℕ) (ns : List ℕ) (low seq : ℕ) → IsRising below top ns → ((k : ℕ) → k < low → get_or ns k 0 < seq)
     → ((k : ℕ) → low ≤ k → k < length ns → seq ≤ get_or ns k 0) → (low < length ns → get_or ns low 0 ≢ seq) → Contains ns seq → ⊥
 none-there below top ns low seq rising before behind apart (k, inside, is) =

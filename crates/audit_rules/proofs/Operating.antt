@@ -1,4 +1,4 @@
--- What a checker knows behind a step of an operator, and behind a call that was turned away.
+-- What a checker knows after an operation, and after a submission that was rejected.
 use Rattle.std.proofs.Common.{◌≡◌, ℕ, ◌+◌, ◌≤◌, min, zero, suc, List, [], ◌∷◌, length, map, take, refl, sym, ap, subst, arith}
 use Rattle.std.specs.Prelude.{All}
 use Rattle.std.specs.List.{AllZip}
@@ -22,7 +22,7 @@ use Rattle.audit_rules.proofs.Asked.{lets-less}
 use Rattle.audit_rules.proofs.Going.{IsApart, all-on, apart-latest, apart-lets, lets-on, zip-on}
 use Rattle.audit_rules.proofs.States.{not-left}
 
--- ---- a call is turned away
+-- ---- a submission is rejected
 
 pub knows-away : (T : Table) (past : Behind) (method number addr : ℕ) (c : Checker) → Knows T past c → May (under T c) past (Away method number addr)
     → ((conn : ℕ) (past : Behind) (es : List EngineParts) (n : ℕ) (calls : List StandingCall) (method number addr : ℕ) → AreTied conn past es n calls
@@ -52,7 +52,7 @@ knows-away T past method number addr c knows may law =
       untold = knows.untold;
     }
 
--- ---- a step of an operator
+-- ---- an operation
 
 take-fewer : {X : Type 0} (xs ys : List X) (k at : ℕ) → k ≤ at → take at xs ≡ take at ys → take k xs ≡ take k ys
 take-fewer xs ys zero at le same = refl
@@ -88,7 +88,7 @@ all-front P [] (suc k) all = All-nil P
 all-front P (x ∷ xs) zero all = All-nil P
 all-front P (x ∷ xs) (suc k) all = All-cons P x (take k xs) (All-head P x xs all) (all-front P xs k (All-tail P x xs all))
 
--- of an entry the step leaves what it noted
+-- the operation preserves the notes of an entry
 abbrev pub KeepsNotes : Behind → Step → Entry → Type 0
 KeepsNotes past step e = (seq : ℕ) → noted e.name seq (Op step ∷ past) ≡ noted e.name seq past
 

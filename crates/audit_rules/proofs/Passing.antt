@@ -1,4 +1,4 @@
--- An entry lets a call pass behind what it noted of it.
+-- An entry lets a call pass after its note on it.
 use Rattle.std.proofs.Common.{◌≡◌, ◌≢◌, ℕ, ◌-◌, ◌/◌, ◌<◌, ◌==◌, ◌&&◌, Bool, cond, min, List, ◌∷◌, refl, sym, ap, ◌∙◌, subst}
 use Rattle.std.specs.Prelude.{IsSomeAnd, Option, None, Some}
 use Rattle.std.specs.Str.{bytes_eq}
@@ -18,11 +18,11 @@ use Rattle.call_history.specs.declared.happening.Happening.{Happening}
 use Rattle.call_history.specs.declared.happening.Happening.TheVariants.{Charged, Counted, Drawn}
 use Rattle.audit_rules.proofs.Worked.{bytes-same}
 
--- a ticket that is noted is below the cap of a policy
+-- a noted ticket is below the cap of a policy
 abbrev pub IsBelow : Policy → Noted → Type 0
 IsBelow policy n = (window ticket cap : ℕ) → n ≡ notes.Drawn window ticket → cap_of policy ≡ Some cap → ticket < cap
 
--- what is noted is no ticket
+-- the note is no ticket
 pub no-ticket : (policy : Policy) (n : Noted) → ticket_in (note n) ≡ None → IsBelow policy n
 no-ticket policy n none = λ window ticket cap is quota. (let some : ticket_in (note n) ≡ Some ticket = ap (λ (k : Noted). ticket_in (note k)) is in
     let wrong : Some ticket ≡ None = sym some ∙ none in cc)
@@ -60,7 +60,7 @@ noted-here : (p rest : Past) (name : List ℕ) (seq : ℕ) → cond ((seq == seq
 noted-here p rest name seq = ap (λ (b : Bool). cond (b && bytes_eq name name) p rest) (eq-eqb seq seq refl)
     ∙ ap (λ (b : Bool). cond b p rest) (bytes-same name name refl)
 
--- what was noted is what is behind for the call at the entry
+-- the note is what the trace has for the call at the entry
 note-own : (past : Behind) (name : List ℕ) (seq : ℕ) (n : Noted) (what : Happening) → n ≢ notes.Nothing → note_behind name seq n past ≡ what ∷ past
     → noted name seq (what ∷ past) ≡ past_after n (noted name seq past)
 note-own past name seq notes.Nothing what some is = absurd (some refl)

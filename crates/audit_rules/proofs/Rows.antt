@@ -1,5 +1,6 @@
--- The definitions on a small history that was worked out by hand: a policy needs a field that another clears. The call's
--- copy has the field, so the policy lets it pass; its form doesn't, so the call is refused, and may not be sent.
+-- The definitions, evaluated on a small history that was worked out by hand. A policy needs a field that another one
+-- clears. The call's copy has the field, so the policy lets it pass. Its form doesn't, so the call is refused and can't
+-- be sent.
 use Rattle.std.proofs.Common.{◌≡◌, ℕ, true, false, ◌<◌, List, [], ◌∷◌, codes, reverse, refl, sym, ap, ◌∙◌, arith}
 use Rattle.std.specs.Prelude.{Some}
 use Rattle.std.proofs.lemmas.List.Elements.{All-head}
@@ -42,7 +43,7 @@ table = record {
 abbrev under : Under
 under = record { conn = 1; table = table; limit = 1024 }
 
--- requests with 9 in the second field are allowed, and no other
+-- requests with 9 in the second field are allowed, and no others
 abbrev need : AccessPolicy
 need = record {
   rules = record {
@@ -115,7 +116,7 @@ denies-cleared policy level moment past is (counts is_p none answer) = cc
 denies-cleared policy level moment past is (is_clear clears is_p left answer) = cc
 denies-cleared policy level moment past is (redacts clears is_p other answer) = cc
 
--- the rules before that of sendings
+-- the rules before that of sends
 earlier-kept : (other : Rule) → order_of other < order_of E → Keeps under cleared (Sent 1 18) other
 earlier-kept A less = tt
 earlier-kept B less = tt
@@ -126,7 +127,7 @@ earlier-kept F less = tt
 earlier-kept G less = absurd (omega (arith, less))
 earlier-kept Stands less = absurd (omega (arith, less))
 
--- sent, the call breaks the rule of sendings, and none before it
+-- if the call is sent, it breaks the rule of sends, and none before it
 sent-breaks : BreaksFirst under cleared (Sent 1 18) E
 sent-breaks = record {
   broken = λ sent.

@@ -1,4 +1,4 @@
--- What a checker knows behind one more happening: a moment, a call that is turned away, and one that leaves.
+-- What a checker knows after one more event: a timestamp, a rejected submission, or an event by which a call leaves.
 use Rattle.std.proofs.Common.{◌≡◌, ℕ, ◌+◌, ◌≤◌, ◌==◌, Bool, not, List, [], ◌∷◌, length, map, remove, slice_get, refl, sym, ap, ◌∙◌, subst, arith}
 use Rattle.std.specs.Prelude.{All, Some, filter, vec_capacity}
 use Rattle.std.specs.List.{AllZip}
@@ -29,7 +29,7 @@ use Rattle.audit_rules.specs.declared.left.Left.TheVariants.{Nothing, Over, Wait
 use Rattle.audit_rules.proofs.Going.{IsApart, all-on, all-remove, apart-latest, apart-lets, entries-same-all, latest-same, others-leave, remove-map, rising-remove, zip-on, zip-remove}
 use Rattle.audit_rules.proofs.Known.{known-rising, known-standing}
 
--- a happening by which the call of a number leaves
+-- an event by which the call with a number leaves
 pub record IsFate (past : Behind) (seq : ℕ) (what : Happening) : Type 0 where
   pub ties : (conn : ℕ) (es : List EngineParts) (n : ℕ) (calls : List StandingCall) → AreTied conn past es n calls → AreTied conn (what ∷ past) es n calls
   pub stands : standing (what ∷ past) ≡ filter (λ call. not (seq == call.seq)) (standing past)
@@ -93,13 +93,13 @@ module _ (T : Table) (past : Behind) (what : Happening) (c c' : Checker) (seq pl
   unfolding gone
   knows-left = subst (λ (d : Checker). Knows T (what ∷ past) d) (sym rest) knows-gone
 
--- ---- what is left open
+-- ---- obligations
 
 pub at-once : (copy : TookCopy) (seq : ℕ) (what : Happening) → HasNoCopy copy → IsRefusedAtOnce copy seq what → what ≡ Refused seq cause.Malformed
 at-once (Copy tree) seq what none is = absurd none
 at-once (Malformed reason place value) seq what none is = is
 
--- behind what leaves a refusal open only a refusal may come
+-- if a refusal is due, only a refusal can follow
 pub not-left : (past : Behind) (what : Happening) (left : Left) → LeavesOpen past left → RefusesMalformed past what → RefusesDrawn past what
     → ((seq : ℕ) (why : Cause) → what ≡ Refused seq why → ⊥) → left ≡ Nothing
 not-left past what Nothing opened malformed drawn other = refl
@@ -110,7 +110,7 @@ not-left past what (Over seq at ticket cap) opened malformed drawn other =
     let refuses : RefusesDrawn (Drawn seq opened.0.name opened.1 ticket ∷ opened.2) what = subst (λ (p : Behind). RefusesDrawn p what) opened.3 drawn in
     absurd (other seq (cause.Quota opened.0.name ticket cap) (refuses opened.6.0 cap opened.6.1 opened.6.2 opened.4))
 
--- ---- a moment
+-- ---- a timestamp
 
 shown-entries : (now : ℕ) (es : List EngineParts) → map (λ e. e.entry) (map (λ e. clocked now e) es) ≡ map (λ e. e.entry) es
 shown-entries now [] = refl

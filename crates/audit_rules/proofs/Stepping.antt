@@ -1,4 +1,4 @@
--- A step of an operator: whether the chain refuses it, and what it makes of what a checker knows.
+-- An operation: whether the chain accepts it, and what a checker knows after it.
 use Rattle.std.proofs.Common.{◌≡◌, ◌≢◌, ℕ, ◌+◌, ◌<◌, ◌≤◌, min, zero, suc, Bool, true, false, cond, not, if◌then◌else◌}
 use Rattle.std.proofs.Common.{List, [], ◌∷◌, ◌++◌, length, map, filter, take, drop, set, get_or, insert, remove}
 use Rattle.std.proofs.Common.{slice_get, Contains, Option, Some, None, is_some, refl, sym, ap, ◌∙◌, subst, arith}
@@ -31,9 +31,9 @@ use Rattle.audit_rules.proofs.Going.{all-on, all-remove, zip-on, zip-remove}
 use Rattle.audit_rules.proofs.Operating.{KeepsNotes, knows-operated}
 use Rattle.audit_rules.proofs.Worked.{bytes-other, bytes-same, names-at, none-named, zip-both}
 
--- ---- whether the chain refuses it
+-- ---- whether the chain accepts it
 
--- where nothing stands against a step, the chain doesn't refuse it
+-- if an operation has no reason for a rejection, the chain accepts it
 abbrev pub UnlessRefused : Type 0
 UnlessRefused = (before : Chain) (op : Step) → IsChain before → ((r : Refusal) → Refuses before op r → ⊥) → Changes before op (changed op before)
 
@@ -59,7 +59,7 @@ names-within [] k f name inside at same = absurd (omega arith)
 names-within (x ∷ xs) zero f name inside at same = (0, omega arith, ap (λ (e : Entry). e.name) at ∙ same)
 names-within (x ∷ xs) (suc k) f name inside at same = let rest = names-within xs k f name (omega arith) at same in (suc rest.0, omega (arith, rest.1), rest.2)
 
--- two entries of one name are one
+-- two entries with one name are equal
 one-at : (es : List Entry) (p k : ℕ) (e f : Entry) → AreDistinct (names_of es) → slice_get es p ≡ Some e → k < length es → get_or es k f ≡ f → f.name ≡ e.name → f ≡ e
 one-at [] p k e f apart is inside at same = absurd cc
 one-at (x ∷ xs) zero zero e f apart is inside at same = let first : x ≡ e = cc in sym at ∙ first
@@ -290,7 +290,7 @@ module _ (T : Table) (past : Behind) (c c' : Checker) (knows : Knows T past c) w
         calls = omega (arith, knows.room.calls, room3);
       })
 
--- ---- the entry of a name leaves
+-- ---- the entry of a name is detached
 
 none-left : (name : List ℕ) (es : List Entry) → (Contains (names_of es) name → ⊥) → filter (λ e. not (is_named name e)) es ≡ es
 none-left name [] none = refl

@@ -1,4 +1,4 @@
--- What a checker knows once a call is taken, and once a malformed one is refused.
+-- What a checker knows after a call is accepted, and after a malformed one is refused.
 use Rattle.std.proofs.Common.{◌≡◌, ◌≢◌, ℕ, ◌+◌, ◌<◌, ◌≤◌, List, [], ◌∷◌, ◌++◌, length, map, remove, take, slice_get}
 use Rattle.std.proofs.Common.{refl, sym, ap, ◌∙◌, subst, arith}
 use Rattle.std.specs.Prelude.{All, Some}
@@ -58,7 +58,7 @@ last-there : (ns : List ℕ) (n : ℕ) → slice_get (ns ++ n ∷ []) (length ns
 last-there [] n = refl
 last-there (m ∷ ns) n = last-there ns n
 
--- ---- a call is taken
+-- ---- a call is accepted
 
 abbrev pub TakesAnother : Type 0
 TakesAnother = (conn seq : ℕ) (past : Behind) (call : Taken) → call.seq ≢ seq → form conn seq (Took call ∷ past) ≡ form conn seq past

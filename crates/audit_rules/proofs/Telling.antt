@@ -1,4 +1,4 @@
--- The lines of the calls that stand.
+-- The lines of pending calls.
 use Rattle.std.proofs.Common.{◌≡◌, ◌≢◌, ℕ, ◌+◌, ◌<◌, ◌≤◌, zero, suc, List, [], ◌∷◌, ◌++◌, length, map, slice_get}
 use Rattle.std.proofs.Common.{refl, sym, ap, ◌∙◌, subst, arith}
 use Rattle.std.specs.Prelude.{All, IfNone, IfSome, IsSomeAnd, Option, Some, None}
@@ -57,7 +57,7 @@ pub first-there : (ps : List ℕ) (q : ℕ) → q ≤ lowest ps → (0 < length 
 first-there [] q le other = All-nil (λ p. q < p)
 first-there (p ∷ ps) q le other = all-below (p ∷ ps) q (omega (arith, other (omega arith)))
 
--- ---- at which level and cost a call is held
+-- ---- the level and cost of a held call
 
 within-chain : (es : List Entry) (p : ℕ) (e : Entry) → slice_get es p ≡ Some e → p < length es
 within-chain [] p e is = absurd cc
@@ -75,7 +75,7 @@ not-first u past ps call q few same level cost all held =
     let inside = within-chain (chain past).entries q held.entry held.at in
     omega (arith, below-lowest ps q (omega arith) all)
 
--- none is held at the end of the chain
+-- no call is held at the end of the chain
 pub none-holds : (u : Under) (past : Behind) (ps : List ℕ) (call : Taken) (q : ℕ) → length (chain past).entries ≤ q → TellsHeld u past ps call q None
 none-holds u past ps call q few level cost all held = none-at (chain past).entries q held.entry few held.at
 
@@ -125,7 +125,7 @@ pair-same : (h k : ℕ × ℕ) → h.0 ≡ k.0 → h.1 ≡ k.1 → Some h ≡ So
 pair-same h k first second = ap {B = Option (ℕ × ℕ)} (λ (x : ℕ). Some (let p : ℕ × ℕ = (x, h.1) in p)) first
     ∙ ap {B = Option (ℕ × ℕ)} (λ (y : ℕ). Some (let p : ℕ × ℕ = (k.0, y) in p)) second
 
--- a line tells one thing
+-- a line lists one call
 pub same-held : OneAnswer → (u : Under) (past : Behind) (ps : List ℕ) (call : Taken) (q : ℕ) (a b : Option (ℕ × ℕ))
     → TellsHeld u past ps call q a → TellsHeld u past ps call q b → a ≡ b
 same-held one u past ps call q None None tells told = refl
@@ -146,7 +146,7 @@ free-settled past Nothing opened none = tt
 free-settled past (Waits seq) opened none = none (subst AwaitsMalformed (sym opened.2) opened.3)
 free-settled past (Over seq at ticket cap) opened none = tt
 
--- where nothing is told, a checker is as it was
+-- if no call is listed, a checker is unchanged
 pub told-none : (T : Table) (past : Behind) (c : Checker) → IsSettledUp past → Knows T past c → KnowsTold T past [] c
 told-none T past c settled knows = record {
   knows = record {
@@ -181,11 +181,11 @@ module _ (T : Table) (past : Behind) (positions : List ℕ) (c : Checker) (known
   pub told-few : length (chain past).entries ≤ MAX_ENGINES
   told-few = omega (arith, told-many, known.knows.room.few_engines)
 
-  -- the number of the call that is told next
+  -- the number of the call that is listed next
   pub told-number : (call : Taken) → slice_get (standing past) c.told ≡ Some call → slice_get (seqs_of c.calls) c.told ≡ Some call.seq
   told-number call is = subst (λ (ns : List ℕ). slice_get ns c.told ≡ Some call.seq) (sym told-standing) (map-at (λ (x : Taken). x.seq) (standing past) c.told call is)
 
-  -- what a line tells is so
+  -- the line is legal
   module _ (seq position : ℕ) (name : List ℕ) (held : Option (ℕ × ℕ)) where
     pub next-call : TellsNext (under T c) past positions seq position name held → slice_get (seqs_of c.calls) c.told ≡ Some seq
     next-call next =
@@ -229,7 +229,7 @@ module _ (T : Table) (past : Behind) (positions : List ℕ) (c : Checker) (known
           tells = subst (λ (h : Option (ℕ × ℕ)). TellsHeld (under T c) past positions call.0 position h) same (tells call.0 call.1);
         }
 
-  -- one more call was told
+  -- one more call was listed
   pub told-more : (position : ℕ) → position ≤ c.position → KnowsTold T past (positions ++ position ∷ []) (record c { told = c.told + 1; position = position })
   told-more position falls = record {
     knows = known.knows;

@@ -1,4 +1,4 @@
--- A call that passes all entries before one was asked there.
+-- A call that all earlier entries let pass was asked at its entry.
 use Rattle.std.proofs.Common.{◌≡◌, ℕ, List, length, map, set, slice_get, sym, ap, ◌∙◌, subst, arith}
 use Rattle.std.specs.Prelude.{Some}
 use Rattle.std.specs.List.{AllZip, position}

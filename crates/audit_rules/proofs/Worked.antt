@@ -1,4 +1,4 @@
--- What a checker knows behind a turn of an entry.
+-- What a checker knows after a turn of an entry.
 use Rattle.std.proofs.Common.{◌≡◌, ◌≢◌, ℕ, ◌+◌, ◌<◌, ◌≤◌, max, zero, suc, Bool, true, false, cond, List, [], ◌∷◌}
 use Rattle.std.proofs.Common.{length, map, take, set, get_or, slice_get, refl, sym, ap, ◌∙◌, subst, arith}
 use Rattle.std.specs.Prelude.{All, Contains, Some}
@@ -112,7 +112,7 @@ zip-both P R R' (x ∷ xs) (y ∷ ys) on ps all = (on x y (All-head P x xs ps) a
 
 -- ---- a note
 
--- a happening that notes a call at a name
+-- an event that notes a call at a name
 pub record IsNote (past : Behind) (name : List ℕ) (seq : ℕ) (what : Happening) : Type 0 where
   pub chained : chain (what ∷ past) ≡ chain past
   pub another : (other : List ℕ) (s : ℕ) → seq ≢ s → noted other s (what ∷ past) ≡ noted other s past

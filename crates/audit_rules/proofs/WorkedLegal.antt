@@ -74,7 +74,7 @@ may-take past seq live next few malformed over = record {
   link_end = stands_open past (Took (seven seq)) live tt;
 }
 
--- ---- steps of an operator
+-- ---- operations
 
 in_nothing : (name : List ℕ) → Contains [] name → ⊥
 in_nothing name has = omega (arith, has.1)
@@ -236,7 +236,7 @@ legal-quota = record {
   closed = record { malformed = λ z. z; quota = λ z. z; link = λ link. absurd (let wrong : false ≡ true = link.failed in cc) };
 }
 
--- ---- a counted call, and a policy that is attached behind the count and denies it
+-- ---- a counted call, and a policy that is attached after the count and denies the call
 
 abbrev c : List ℕ
 c = codes "c"
@@ -495,7 +495,7 @@ prefix-taken = (
   may-take (Took (seven 2) ∷ Took (seven 1) ∷ Op (Attach 0 rl r1 holding) ∷ []) 3 refl refl (omega arith) tt tt,
 )
 
--- the second call is charged anew, and the third stands
+-- the second call is charged again, and the third is pending
 legal-again : IsLegalBehind under (Sent 2 18 ∷ charged_second)
 legal-again = record {
   prefix = ((((((prefix-taken, may-charge_first), may-send_charged), may-detach), may-attach_again), may-charge_second), may-send_second);

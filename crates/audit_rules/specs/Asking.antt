@@ -1,4 +1,4 @@
--- How far the calls that stand are known to pass, and what an entry answers to one of them.
+-- How many entries are known to let each pending call pass, and what an entry answers to one of them.
 use Rattle.std.specs.Prelude.{◌≡◌, ℕ, ◌<◌, ◌≤◌, List, [], ◌∷◌, All, length, take, slice_get, Some}
 use Rattle.std.specs.List.{AllZip}
 use Rattle.engine_core.specs.Answers.{Answer, pass, note, hold, redact}
@@ -15,16 +15,16 @@ use Rattle.call_history.specs.Rules.{Gives, IsAt, Lets, Under}
 use Rattle.call_history.specs.Ties.{AreTied, worked}
 use Rattle.audit_rules.specs.declared.ask.Asked.{Asked}
 
--- numbers ascend, from above one, and none is above another
+-- numbers strictly ascend, starting above one number, and none is above another
 abbrev pub IsRising : (below top : ℕ) → List ℕ → Type 0
 IsRising below top [] = Unit {0}
 IsRising below top (n ∷ numbers) = (below < n) × (n ≤ top) × IsRising n top numbers
 
--- so many entries from the first let a call pass
+-- this many entries from the first let a call pass
 abbrev pub LetsAll : Under → Behind → ℕ → ℕ → Type 0
 LetsAll u past seq reached = All (Lets u past seq) (take reached (chain past).entries)
 
--- What is behind has made these engines and these calls, and so many entries from the first let each of the calls pass.
+-- The trace leads to these engines and these calls, and this many entries from the first let each of the calls pass.
 pub record IsRowBehind (u : Under) (past : Behind) (engines : List EngineParts) (attached : ℕ)
     (calls : List StandingCall) (reached : List ℕ) (now : ℕ) : Type 0 where
   pub prefix : IsPrefix u past
@@ -41,7 +41,7 @@ answer_of (Refused Nothing why) = refusal why
 answer_of (Refused n why) = note n
 answer_of Redacted = redact
 
--- a call that stands at an entry, and what a turn of the entry makes of it
+-- a pending call at an entry, and the state after a turn of the entry for it
 pub record IsAsked (u : Under) (past : Behind) (attached seq : ℕ) (name : List ℕ) (asked : Asked)
     (calls : List StandingCall) (engines' : List EngineParts) (calls' : List StandingCall) (reached' : List ℕ)
     : Type 0 where
@@ -54,5 +54,5 @@ pub record IsAsked (u : Under) (past : Behind) (attached seq : ℕ) (name : List
   pub reaches : AllZip (LetsAll u past) (seqs_of calls') reached'
   pub reached_it : slice_get reached' asked.place ≡ Some asked.at
   pub within : asked.at < length engines'
-  -- it stands at no other of this name
+  -- it is at no other entry of this name
   pub only : (other : Entry) → IsAt u past seq name other → other ≡ entry

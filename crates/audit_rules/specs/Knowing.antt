@@ -1,4 +1,4 @@
--- What a checker knows of a connection: what its happenings have made (this project's own).
+-- What a checker knows of a connection: the state that its events lead to (this project's own).
 use Rattle.std.specs.Prelude.{◌≡◌, ℕ, ◌+◌, ◌<◌, ◌≤◌, ◌^◌, max, List, [], ◌∷◌, ◌++◌, All, length, map, min, slice_get, Some, vec_capacity}
 use Rattle.std.specs.List.{AllZip}
 use Rattle.std.specs.VecDeque.{deque_capacity}
@@ -30,14 +30,14 @@ use Rattle.audit_rules.specs.declared.rule.Rule.{Rule}
 use Rattle.audit_rules.specs.declared.rule.Rule.TheVariants.{C, D, E, F}
 use Rattle.audit_rules.specs.declared.left.Left.TheVariants.{Nothing, Waits, Over}
 
--- under which the happenings of its connection are judged
+-- the context under which the events of its connection are judged
 abbrev pub under : Table → Checker → Under
 under T c = record { conn = c.conn; table = T; limit = c.limit }
 
 -- ---- what may be asked of it
 
--- what is known of a happening before it is judged: a copy is a normal tree of a method of the table, and the numbers
--- of a policy are in their ranges
+-- what is known of an event before it is judged: a copy is a normal tree of a method of the table, and the numbers of a
+-- policy are in their ranges
 abbrev pub IsCopyBy : Table → Taken → TookCopy → Type 0
 IsCopyBy T call (Copy tree) = IsTakenBy T call (Copy tree)
 IsCopyBy T call (Malformed reason place value) = Unit {0}
@@ -54,7 +54,7 @@ IsReadable T _ = Unit {0}
 
 -- ---- what it knows
 
--- the numbers of the calls that stand: a malformed one that waits for its refusal stands, and has no copy
+-- the numbers of the pending calls; a malformed call that awaits its refusal is one of them, and has no copy
 abbrev pub with_waiting : Left → List ℕ → List ℕ
 with_waiting Nothing numbers = numbers
 with_waiting (Waits seq) numbers = numbers ++ seq ∷ []
@@ -63,28 +63,28 @@ with_waiting (Over seq at ticket cap) numbers = numbers
 abbrev pub numbers_of : Checker → List ℕ
 numbers_of c = with_waiting c.left (seqs_of c.calls)
 
--- no malformed call waits for its refusal
+-- no malformed call awaits its refusal
 abbrev pub IsFree : Left → Type 0
 IsFree Nothing = Unit {0}
 IsFree (Waits seq) = ⊥
 IsFree (Over seq at ticket cap) = Unit {0}
 
--- the code's own: a call is refused for being malformed where one waits for that alone
+-- the code's own: a call may be refused as malformed only if one awaits that
 abbrev pub IsFreeFor : Cause → Left → Type 0
 IsFreeFor cause.Malformed left = Unit {0}
 IsFreeFor _ left = IsFree left
 
--- the code's own: nothing is left that has to come before a happening
+-- the code's own: no obligation has to be met before this event
 abbrev pub IsFreeBefore : Happening → Left → Type 0
 IsFreeBefore (Refused seq why) left = IsFreeFor why left
 IsFreeBefore _ left = IsFree left
 
--- the greatest of some numbers, 0 where there is none
+-- the greatest of some numbers, 0 if there is none
 abbrev pub greatest : List ℕ → ℕ
 greatest [] = 0
 greatest (n ∷ numbers) = max n (greatest numbers)
 
--- a number is that of the greatest call of which an engine has noted something since its attachment
+-- a number is the greatest call that an engine has noted since its attachment
 abbrev pub IsLatest : Behind → EngineParts → ℕ → Type 0
 IsLatest past e n = n ≡ greatest (noted_calls e.entry.name past)
 
@@ -120,25 +120,25 @@ pub record Knows (T : Table) (past : Behind) (c : Checker) : Type 0 where
   pub room : HasRoom c
   pub untold : (c.told ≡ 0) × (c.position ≡ MAX_ENGINES)
 
--- it knows some happenings, of which there are fewer than 2^32 by some
+-- it knows some trace, whose length stays below 2^32 by some margin
 abbrev pub IsKnowing : Table → Checker → Type 0
 IsKnowing T c = (past : Behind) × Knows T past c × (length past + 2 < 2 ^ 32)
 
--- the lowest of the positions that were told, none of which is above the end of a chain
+-- the lowest of the listed positions; the end of a full chain if there is none
 abbrev pub lowest : List ℕ → ℕ
 lowest [] = MAX_ENGINES
 lowest (p ∷ positions) = min p (lowest positions)
 
--- It knows what is behind, and the first calls that stand were told, in order, at these positions.
+-- It knows the trace, and the first pending calls were listed, in order, at these positions.
 pub record KnowsTold (T : Table) (past : Behind) (positions : List ℕ) (c : Checker) : Type 0 where
   pub knows : Knows T past (record c { told = 0; position = MAX_ENGINES })
   pub settled : IsFree c.left
   pub told : c.told ≡ length positions
   pub position : c.position ≡ lowest positions
 
--- ---- what a happening is asked by itself
+-- ---- rules for one kind of event
 
--- the code's own: the rules that a happening is asked by its own kind
+-- the code's own: the rules of an event's own kind
 abbrev pub Owns : Under → Behind → Happening → Rule → Type 0
 Owns u past next C = KeepsChain past next
 Owns u past next D = NotesWhatIsDue u past next

@@ -1,4 +1,4 @@
--- Which refusals a happening is: the code's own. No public clause cites this module.
+-- The kinds of events, and which refusals an event is: the code's own. No public clause cites this module.
 use Rattle.std.specs.Prelude.{◌≡◌, ℕ, List, Bool, true, false, Option, Some, None}
 use Rattle.policy_access.specs.Verdict.{AccessPolicy, rule_name}
 use Rattle.engine_core.specs.declared.outcome.Noted.TheVariants.{Nothing}
@@ -16,12 +16,12 @@ use Rattle.audit_rules.specs.declared.left.Left.TheVariants as lefts
 use Rattle.audit_rules.specs.declared.rule.Rule.{Rule}
 use Rattle.audit_rules.specs.declared.rule.Rule.TheVariants as rules
 
--- the number of the call that is refused as malformed, if one is
+-- the number of the call that is refused as malformed; none for other events
 abbrev pub malformed_in : Happening → Option ℕ
 malformed_in (Refused seq cause.Malformed) = Some seq
 malformed_in _ = None
 
--- the number of the call that is refused for the link, if one is
+-- the number of the call that is refused for the link; none for other events
 abbrev pub transport_in : Happening → Option ℕ
 transport_in (Refused seq cause.Transport) = Some seq
 transport_in _ = None
@@ -31,13 +31,13 @@ abbrev pub IsNoLinkCause : Cause → Type 0
 IsNoLinkCause cause.Transport = ⊥
 IsNoLinkCause _ = Unit {0}
 
--- a step of an operator, or a moment
+-- an operation or a timestamp
 abbrev pub is_quiet : Happening → Bool
 is_quiet (Op step) = true
 is_quiet (Moment ms) = true
 is_quiet _ = false
 
--- what was noted of a call, or that it was sent
+-- a note on a call, or its send
 abbrev pub IsOfCall : Happening → Type 0
 IsOfCall (Charged seq name left) = Unit {0}
 IsOfCall (Drawn seq name window ticket) = Unit {0}
@@ -45,13 +45,13 @@ IsOfCall (Counted seq name) = Unit {0}
 IsOfCall (Sent seq bytes) = Unit {0}
 IsOfCall _ = ⊥
 
--- a malformed call waits for its refusal
+-- a malformed call awaits its refusal
 abbrev pub is_waiting : Left → Bool
 is_waiting lefts.Nothing = false
 is_waiting (lefts.Waits seq) = true
 is_waiting (lefts.Over seq at ticket cap) = false
 
--- nothing waits for a refusal but the calls of a failed link
+-- no refusal is due, except those of a failed link
 abbrev pub is_nothing : Left → Bool
 is_nothing lefts.Nothing = true
 is_nothing (lefts.Waits seq) = false
@@ -64,7 +64,7 @@ IsRuleNamed policy outcome name = (p : AccessPolicy) × (rule : ℕ) × (policy 
 
 -- ---- the first rule that is broken
 
--- the rule that a happening is asked by its own kind, besides the numbering
+-- the rule of an event's own kind, apart from the numbering
 abbrev pub own_rule : Happening → Rule
 own_rule (Took call) = rules.A
 own_rule (Away method number addr) = rules.A
@@ -77,13 +77,13 @@ own_rule (Redacted seq name version) = rules.D
 own_rule (Sent seq bytes) = rules.E
 own_rule (Refused seq why) = rules.F
 
--- a happening breaks its own rule, and refuses what was drawn or doesn't
+-- an event breaks its own rule; the flag says whether it refuses what was drawn
 abbrev pub broken_first : Rule → Bool → Rule
 broken_first rules.C drawn = rules.C
 broken_first own true = own
 broken_first own false = rules.D
 
--- by whether a happening keeps its own rule, refuses what was drawn, and keeps to a failed link
+-- the first broken rule, by whether an event keeps its own rule, refuses what was drawn, and respects a failed link
 abbrev pub first_of : Rule → (kept drawn linked : Bool) → Option Rule
 first_of own false drawn linked = Some (broken_first own drawn)
 first_of own true false linked = Some rules.D

@@ -1,4 +1,4 @@
-//! An entry is asked what it answers to a call that stands.
+//! Finds the answer of an entry to a pending call.
 
 ghost use Rattle.std.specs.Prelude.{◌≡◌, ◌≢◌, ◌<◌, ◌≤◌, ℕ, List, All, Contains, IfNone, IfSome, Some, length, map, slice_get};
 ghost use Rattle.std.specs.Bool.{OnFalse, OnTrue};
@@ -22,7 +22,7 @@ use engine_core::{CallRow, Engine, Noted, Outcome, one_answer, place_named};
 use mrpc_table::Table;
 use std::collections::VecDeque;
 
-// A call that stands, the entry of a name at which it is, and how a turn of that entry comes out for it.
+// A pending call, the entry of a name that it has reached, and the outcome of that entry's turn.
 #[derive(Clone, Copy)]
 pub(crate) struct Asked {
     pub place: usize,
@@ -30,7 +30,7 @@ pub(crate) struct Asked {
     pub outcome: Outcome,
 }
 
-// The number of the call at a place.
+// The number of the call at an index.
 pub(crate) fn seq_at(calls: &CallRow, place: usize) -> u32
     requires { place < length calls.now }
     ensures { slice_get (seqs_of calls.now) place ≡ Some result }
@@ -38,7 +38,7 @@ pub(crate) fn seq_at(calls: &CallRow, place: usize) -> u32
     calls.at(place).call().seq
 }
 
-// Where the call of a number stands: mostly as far from the first one as its number says, else by binary search.
+// Returns the index of the call with a number. It tries the distance from the first call's number, then binary search.
 pub(crate) fn place_of_call(calls: &CallRow, seq: u32) -> Option<usize>
     requires { (top : ℕ) × IsRising 0 top (seqs_of calls.now) }
     ensures found { IfSome result (λ place. slice_get (seqs_of calls.now) place ≡ Some seq) }
@@ -54,7 +54,7 @@ pub(crate) fn place_of_call(calls: &CallRow, seq: u32) -> Option<usize>
     search_call(calls, seq)
 }
 
-// The same by binary search alone.
+// Like `place_of_call`, by binary search alone.
 fn search_call(calls: &CallRow, seq: u32) -> Option<usize>
     requires { (top : ℕ) × IsRising 0 top (seqs_of calls.now) }
     ensures found { IfSome result (λ place. slice_get (seqs_of calls.now) place ≡ Some seq) }
@@ -77,7 +77,7 @@ fn search_call(calls: &CallRow, seq: u32) -> Option<usize>
     }
 }
 
-// A turn of the engine at a position for the call at a place, which is given this ticket where it draws one.
+// Runs a turn of the engine at a position for the call at an index. The engine draws `ticket` if it draws one.
 pub(crate) fn work(
     calls: &mut CallRow,
     place: usize,
@@ -99,7 +99,7 @@ pub(crate) fn work(
     calls.work(place, engines, at, table, now, &mut prepared, false)
 }
 
-// Whether every engine before a position lets the call at a place pass. Those before `from` are known to.
+// Returns true if every engine before a position lets the call at an index pass. Those before `from` are known to.
 pub(crate) fn reaches(
     calls: &mut CallRow,
     place: usize,
@@ -139,7 +139,7 @@ pub(crate) fn reaches(
     true
 }
 
-// Whether a turn comes out so that the call goes on with nothing to note.
+// Returns true if the call passes with nothing to note.
 fn is_pass(outcome: Outcome) -> bool
     ensures passes { OnTrue result (outcome ≡ Outcome.Passed Noted.Nothing) }
     ensures another { OnFalse result (answer_of outcome ≢ pass) }
@@ -147,8 +147,8 @@ fn is_pass(outcome: Outcome) -> bool
     matches!(outcome, Outcome::Passed(Noted::Nothing))
 }
 
-// The call of a number and the entry of a name, where every entry before that lets the call pass, and how a turn of the
-// entry comes out for it, which is given this ticket where it draws one.
+// Runs a turn of the entry of a name for the call with a number, if every earlier entry lets the call pass. The entry
+// draws `ticket` if it draws one.
 pub(crate) fn ask(
     calls: &mut CallRow,
     reached: &mut VecDeque<usize>,

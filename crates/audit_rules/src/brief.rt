@@ -1,4 +1,4 @@
-//! What became of a call is judged by its parts, so that no happening is made that owns its name.
+//! Checks notes and sends by their parts, so that no event with an owned name is allocated.
 
 ghost use Rattle.std.specs.Prelude.{◌≡◌, ◌∷◌, IfNone, IfSome, ℕ, not};
 ghost use Rattle.mrpc_table.specs.Valid.{IsValid};
@@ -17,7 +17,7 @@ use engine_core::Noted;
 use mrpc_table::Table;
 
 impl Checker {
-    /// Judges that an entry has charged a call, as [`Checker::check`] judges that happening.
+    /// Checks that an entry charged a call, like [`Checker::check`] on that event.
     pub fn check_charged(
         &mut self,
         table: &Table,
@@ -43,7 +43,7 @@ impl Checker {
         first_of(Rule::D, kept, drawn, linked)
     }
 
-    /// Judges that an entry has counted a call, in the same way.
+    /// Like `check_charged`, for a counted call.
     pub fn check_counted(&mut self, table: &Table, seq: u32, name: &[u8]) -> Option<Rule>
         requires knowing { IsKnowing table.now self.old }
         ensures may { (past : Behind) → Knows table.now past self.old
@@ -63,7 +63,7 @@ impl Checker {
         first_of(Rule::D, kept, drawn, linked)
     }
 
-    /// Judges that an entry has drawn a ticket for a call, in the same way.
+    /// Like `check_charged`, for a drawn ticket.
     pub fn check_drawn(
         &mut self,
         table: &Table,
@@ -90,7 +90,7 @@ impl Checker {
         first_of(Rule::D, kept, drawn, linked)
     }
 
-    /// Judges that a call was sent, in the same way.
+    /// Like `check_charged`, for a sent call.
     pub fn check_sent(&mut self, table: &Table, seq: u32, bytes: u64) -> Option<Rule>
         requires valid { IsValid table.now }
         requires knowing { IsKnowing table.now self.old }
@@ -111,21 +111,21 @@ impl Checker {
         first_of(Rule::E, kept, drawn, linked)
     }
 
-    // Whether a malformed call waits for its refusal: then nothing else may come.
+    // Returns true if a malformed call awaits its refusal. Only that refusal is legal then.
     fn is_waiting(&self) -> bool
         ensures { result ≡ is_waiting self.now.left }
     {
         matches!(self.left, Left::Waits { .. })
     }
 
-    // Whether nothing waits for a refusal but the calls of a failed link.
+    // Returns true if no refusal is due, except those of a failed link.
     fn is_settled(&self) -> bool
         ensures { result ≡ is_nothing self.now.left }
     {
         matches!(self.left, Left::Nothing)
     }
 
-    // Whether the link hasn't failed.
+    // Returns true if the link hasn't failed.
     fn is_linked(&self) -> bool
         ensures { result ≡ not self.now.failed }
     {

@@ -1,4 +1,4 @@
-//! An operator's changes of a chain.
+//! Changes of a chain by an operator.
 
 ghost use Rattle.std.specs.Bool.{OnFalse, OnTrue};
 ghost use Rattle.std.specs.Prelude.{◌≡◌, ◌+◌, ◌∷◌, ℕ, List};
@@ -20,7 +20,8 @@ use engine_core::{Engine, MAX_ENGINES, Op, Policy, change_is_changed, place_of, 
 use mrpc_table::Name;
 
 impl Checker {
-    // An operator's step, where the chain doesn't refuse it. (Seldom: a call of it keeps its values out of the others.)
+    // Applies an operation; returns false if the chain rejects it. (It is rare, and kept out of line, so that its
+    // values don't slow the other checks.)
     #[inline(never)]
     pub(crate) fn operate(&mut self, step: Op) -> bool
         requires knowing { (T : TheTable) × IsKnowing T self.old }
@@ -46,7 +47,7 @@ impl Checker {
         }
     }
 
-    // An entry is attached. No call is known to pass the entries from there on.
+    // Attaches an entry. From its position on, no entry is known to let a call pass any more.
     fn attach(&mut self, at: usize, name: Name, policy: Policy) -> bool
         requires knowing { (T : TheTable) × IsKnowing T self.old }
         requires ranges { IsPolicy policy }
@@ -79,7 +80,7 @@ impl Checker {
         true
     }
 
-    // The entry of a name leaves.
+    // Detaches the entry of a name.
     fn detach(&mut self, name: &Name) -> bool
         requires knowing { (T : TheTable) × IsKnowing T self.old }
         ensures keeps { (T : TheTable) (past : Behind) → Knows T past self.old
@@ -103,7 +104,7 @@ impl Checker {
         true
     }
 
-    // The entry of a name gets another policy of its kind.
+    // Gives the entry of a name another policy of its kind.
     fn upgrade(&mut self, name: &Name, policy: Policy) -> bool
         requires knowing { (T : TheTable) × IsKnowing T self.old }
         requires ranges { IsPolicy policy }

@@ -29,30 +29,30 @@ use mrpc_table::{Call, Memory, Table};
 use std::alloc::Global;
 use std::collections::VecDeque;
 
-/// What the happenings of one connection have made of it so far, as far as the next one is judged by it.
+/// The state of one connection after its events so far, as far as later checks need it.
 #[derive(Drop)]
 pub struct Checker {
     pub(crate) conn: u32,
     pub(crate) limit: u64,
     pub(crate) engines: Vec<Engine>,
-    // For each engine the greatest call of which it has noted something since its attachment, 0 where there is none.
+    // For each engine, the greatest call number noted since its attachment; 0 if there is none.
     pub(crate) latest: Vec<u32>,
     pub(crate) attached: u32,
     pub(crate) calls: CallRow,
-    // For each call how many entries from the first are known to let it pass.
+    // For each call, how many entries from the first are known to let it pass.
     pub(crate) reached: VecDeque<usize>,
     pub(crate) taken: u32,
     pub(crate) moment: u64,
     pub(crate) failed: bool,
     pub(crate) left: Left,
-    // How many of the calls that stand were told, and the position of the last.
+    // How many pending calls the audit has listed so far, and the position of the last one.
     pub(crate) told: usize,
     pub(crate) position: usize,
 }
 
 impl Checker {
-    /// A checker of a connection on which nothing has happened, under a limit of loads. It takes the room for all
-    /// engines and calls, so that no later call takes memory.
+    /// Makes a checker of a connection without events, under a limit of loads. It reserves room for all engines and
+    /// calls, so that later checks allocate nothing.
     pub fn open(alloc: Global, conn: u32, limit: u64) -> Result<Checker, Memory>
         ensures knows { IfOk result (λ c. (T : TheTable) → Knows T [] c) }
         ensures conn { IfOk result (λ c. (T : TheTable)
@@ -76,8 +76,8 @@ impl Checker {
         })
     }
 
-    /// Judges the next happening: answers the first rule that it breaks, if it breaks one. Where it breaks none, the
-    /// checker knows what is behind with it; of a checker that has answered a rule, nothing more is to be asked.
+    /// Checks the next event. Returns the first rule that it breaks; `None` if it breaks none, and then the checker
+    /// includes the event. After a rule was returned, the checker's state is unspecified.
     pub fn check(&mut self, table: &Table, what: Happening) -> Option<Rule>
         requires valid { IsValid table.now }
         requires knowing { IsKnowing table.now self.old }
@@ -103,9 +103,9 @@ impl Checker {
         first_of(own, kept, drawn, linked)
     }
 
-    // ---- what is asked of every happening
+    // ---- rules for every event
 
-    // How many calls stand; one that waits for its refusal stands too.
+    // The number of pending calls, including a malformed one that awaits its refusal.
     fn standing(&self) -> usize
         ensures { result ≡ length (numbers_of self.now) }
     {
@@ -115,7 +115,7 @@ impl Checker {
         }
     }
 
-    // The number of the first call that stands.
+    // The number of the first pending call.
     pub(crate) fn first(&self) -> Option<u32>
         ensures { result ≡ slice_get (numbers_of self.now) 0 }
     {
@@ -128,7 +128,8 @@ impl Checker {
         }
     }
 
-    // Whether a call that is taken has the next number, and one that is turned away is one too many.
+    // Returns true if an accepted call has the next number, or a submission was rejected while `MAX_CALLS` calls were
+    // pending. Other events have no number to check.
     fn is_numbered(&self, table: &Table, what: &Happening) -> bool
         requires { IsReadable table.now what.now }
         ensures { (past : Behind) → Knows table.now past self.now
@@ -152,7 +153,7 @@ impl Checker {
             && is_copy_by(table, call)
     }
 
-    // Whether a malformed call is refused at once, and none else is refused for that.
+    // Returns true if a malformed call is refused at once, and no other call is refused as malformed.
     fn refuses_malformed(&self, what: &Happening) -> bool
         ensures { (past : Behind) → LeavesOpen past self.now.left → IsTrue result ↔ RefusesMalformed past what.now }
     {
@@ -163,7 +164,7 @@ impl Checker {
         }
     }
 
-    // Whether a call is refused at once whose ticket isn't below the cap.
+    // Returns true if a call whose ticket isn't below the cap is refused at once.
     fn refuses_drawn(&self, what: &Happening) -> bool
         ensures { (T : TheTable) (past : Behind) → Knows T past self.now → IsTrue result ↔ RefusesDrawn past what.now }
     {
@@ -178,7 +179,7 @@ impl Checker {
         }
     }
 
-    // Whether the entry at a position refuses a call for its ticket.
+    // Returns true if the event is the refusal of a call for its ticket, by the entry at a position.
     fn refuses_over(&self, what: &Happening, seq: u32, at: usize, ticket: u64, cap: u64) -> bool
         ensures { IfSome (slice_get self.now.engines.items at) (λ e. IsTrue result
             ↔ (what.now ≡ Refused seq (cause.Quota e.entry.name ticket cap))) }
@@ -189,8 +190,8 @@ impl Checker {
         }
     }
 
-    // Whether behind a failed link the calls that stand are refused, in order, and then nothing comes but steps and
-    // moments; and whether a refusal for the link is that of the first call.
+    // Returns true if, after a link failure, the pending calls are refused in order, and then only operations and
+    // timestamps follow; and if a refusal for the link is that of the first call.
     fn keeps_link(&self, what: &Happening) -> bool
         ensures { (T : TheTable) (past : Behind) → Knows T past self.now → IsTrue result ↔ EndsWithLink past what.now }
     {
@@ -200,9 +201,9 @@ impl Checker {
         }
     }
 
-    // ---- what is asked of each by itself
+    // ---- rules for one kind of event
 
-    // Whether a happening keeps the rule of its own kind; what it makes of the connection.
+    // Applies an event, and returns true if it keeps the rule of its own kind.
     fn meets(&mut self, table: &Table, what: Happening) -> bool
         requires valid { IsValid table.now }
         requires knowing { IsKnowing table.now self.old }
@@ -247,7 +248,7 @@ impl Checker {
         }
     }
 
-    // A call is taken.
+    // Adds an accepted call.
     fn take(&mut self, call: Taken)
         requires may { (T : TheTable) × (past : Behind) × Knows T past self.old × MayTake (under T self.old) past call }
         requires free { IsFree self.old.left }
@@ -282,7 +283,7 @@ impl Checker {
         }
     }
 
-    // A call was turned away.
+    // A submission was rejected: nothing changes.
     fn turn_away(&self)
         ensures { (T : TheTable) (past : Behind) (method number addr : ℕ) → Knows T past self.now
             → May (under T self.now) past (Away method number addr)
@@ -291,7 +292,7 @@ impl Checker {
         ties_go_on();
     }
 
-    // The clock shows a later moment.
+    // Advances the clock to a later timestamp.
     fn show(&mut self, now: u64) -> bool
         ensures rises { (T : TheTable) (past : Behind) → Knows T past self.old
             → OnTrue result (KeepsChain past (Moment now)) }
@@ -312,7 +313,7 @@ impl Checker {
 
     // ---- the end
 
-    /// The first rule for which something is left open, if something is.
+    /// The first rule with an obligation; `None` if there is none.
     pub fn left_open(&self) -> Option<Rule>
         ensures settled { (T : TheTable) (past : Behind) → Knows T past self.now → IfNone result (IsSettledUp past) }
         ensures open { (T : TheTable) (past : Behind) → Knows T past self.now
@@ -326,7 +327,7 @@ impl Checker {
         }
     }
 
-    // Whether calls stand on a link that has failed.
+    // Returns true if calls are pending on a failed link.
     fn awaits_link(&self) -> bool
         ensures awaits { (T : TheTable) (past : Behind) → Knows T past self.now → OnTrue result (AwaitsLink past) }
         ensures none { (T : TheTable) (past : Behind) → Knows T past self.now → OnFalse result (AwaitsLink past → ⊥) }
@@ -335,8 +336,8 @@ impl Checker {
     }
 }
 
-// The first of the rules that a happening breaks, by whether it keeps its own, refuses what was drawn, and keeps to a
-// failed link.
+// The first rule that an event breaks; `None` if it breaks none. The flags say whether it keeps its own rule, refuses
+// what was drawn, and respects a failed link.
 pub(crate) fn first_of(own: Rule, kept: bool, drawn: bool, linked: bool) -> Option<Rule>
     ensures { result ≡ first_of own kept drawn linked }
 {
@@ -353,7 +354,7 @@ pub(crate) fn first_of(own: Rule, kept: bool, drawn: bool, linked: bool) -> Opti
     }
 }
 
-// The rule that a happening is asked by its own kind, besides the numbering.
+// The rule of an event's own kind, apart from the numbering.
 fn own_rule(what: &Happening) -> Rule
     ensures { result ≡ own_rule what.now }
 {

@@ -1,4 +1,4 @@
-//! Which tickets were drawn. Only contracts read the list, and it takes no bytes.
+//! A ghost list of drawn tickets. Only contracts read it, and it takes no bytes.
 
 ghost use Rattle.std.specs.Prelude.{◌≡◌, List, [], ◌∷◌, ℕ};
 ghost use Rattle.std.specs.Borrow.{ftrue};
@@ -12,7 +12,7 @@ pub(crate) struct Draw {
     pub window: u64,
 }
 
-// The tenant and the window of each draw, the last one first.
+// The tenant and the window of each draw, latest first.
 #[derive(Drop)]
 pub(crate) struct Draws {
     pub ghost list: { List (ℕ × ℕ) },
@@ -23,14 +23,14 @@ impl Model for Draws {
 }
 
 impl Draws {
-    // Nothing was drawn.
+    // No draws.
     pub(crate) fn new() -> Draws
         ensures { result.list ≡ [] }
     {
         Draws {}
     }
 
-    // One draw more.
+    // One more draw.
     pub(crate) fn with(_before: &Draws, _draw: &Draw) -> Draws
         ensures { result.list ≡ (_draw.now.tenant, _draw.now.window) ∷ _before.now.list }
     {

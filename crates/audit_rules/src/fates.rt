@@ -1,4 +1,4 @@
-//! What becomes of a call: what is noted of it, what is cleared, that it is sent or refused.
+//! Checks the events of a call: notes, clears, sends and refusals.
 
 ghost use Rattle.std.specs.Bool.{OnFalse, OnTrue};
 ghost use Rattle.std.specs.Prelude.{◌≡◌, ◌≢◌, ◌+◌, ◌<◌, ◌≤◌, ◌∷◌, ◌⊎◌, ℕ, All};
@@ -38,7 +38,7 @@ use engine_core::{Noted, Outcome, Why, denied_by_a_rule, one_answer};
 use mrpc_table::{Name, Table};
 
 impl Checker {
-    // The entry of a name is asked what it answers to a call, where every entry before lets the call pass.
+    // Finds the answer of the entry of a name to a call, if every earlier entry lets the call pass.
     fn ask(&mut self, table: &Table, seq: u32, name: &Name, ticket: u64) -> Option<Asked>
         requires knowing { IsKnowing table.now self.old }
         requires free { IsFree self.old.left }
@@ -65,7 +65,7 @@ impl Checker {
         self.ask_named(table, seq, name.as_slice(), ticket)
     }
 
-    // The same, by the bytes of the name.
+    // Like `ask`, by the bytes of the name.
     fn ask_named(&mut self, table: &Table, seq: u32, name: &[u8], ticket: u64) -> Option<Asked>
         requires knowing { IsKnowing table.now self.old }
         requires free { IsFree self.old.left }
@@ -101,7 +101,7 @@ impl Checker {
         )
     }
 
-    // A note of a call that isn't a ticket.
+    // Checks a note on a call other than a ticket.
     pub(crate) fn note(&mut self, table: &Table, seq: u32, name: &[u8], noted: Noted) -> bool
         requires knowing { IsKnowing table.now self.old }
         requires free { IsFree self.old.left }
@@ -131,7 +131,7 @@ impl Checker {
         true
     }
 
-    // Whether the entry at which a call was asked has noted nothing of a later one; then this is the latest.
+    // Returns true if the entry has noted nothing of a later call. If so, it records this call as the latest.
     fn is_next(&mut self, asked: &Asked, seq: u32) -> bool
         requires { asked.now.at < length self.old.latest.items }
         ensures next { OnTrue result (slice_index self.old.latest.items asked.now.at < seq) }
@@ -147,7 +147,7 @@ impl Checker {
         true
     }
 
-    // A ticket of a quota.
+    // Checks a ticket of a quota.
     pub(crate) fn draw(
         &mut self,
         table: &Table,
@@ -182,8 +182,8 @@ impl Checker {
         true
     }
 
-    // A call for which a ticket was drawn passes the entry where the ticket is below the cap, and waits for its refusal
-    // where it isn't.
+    // Records a drawn ticket: the call passes the entry if the ticket is below the cap, and awaits its refusal
+    // otherwise.
     fn settle(&mut self, asked: &Asked, seq: u32, ticket: u64)
         requires engine { asked.now.at < length self.old.engines.items }
         requires few { length self.old.engines.items ≤ 8 }
@@ -206,7 +206,7 @@ impl Checker {
         self.reached[asked.place] = asked.at + 1;
     }
 
-    // Whether the ticket of a call isn't below the cap; then it waits for its refusal.
+    // Returns true if the ticket of a call isn't below the cap. The call then awaits its refusal.
     fn awaits_refusal(&mut self, at: usize, seq: u32, ticket: u64) -> bool
         requires { at < length self.old.engines.items }
         ensures rest { self.new ≡ record self.old { left = self.new.left } }
@@ -233,7 +233,8 @@ impl Checker {
         true
     }
 
-    // Fields are cleared from a call. (Seldom: a call of it keeps its values out of the others.)
+    // Checks that fields are cleared from a call. (It is rare, and kept out of line, so that its values don't slow the
+    // other checks.)
     #[inline(never)]
     pub(crate) fn clear(&mut self, table: &Table, seq: u32, name: &Name, version: u32) -> bool
         requires knowing { IsKnowing table.now self.old }
@@ -263,7 +264,7 @@ impl Checker {
         true
     }
 
-    // The first call is sent.
+    // Checks the send of the first call.
     pub(crate) fn send(&mut self, table: &Table, seq: u32, bytes: u64) -> bool
         requires valid { IsValid table.now }
         requires knowing { IsKnowing table.now self.old }
@@ -302,7 +303,7 @@ impl Checker {
         true
     }
 
-    // A call is refused. (Seldom, too.)
+    // Checks the refusal of a call. (Rare, like `clear`.)
     #[inline(never)]
     pub(crate) fn refuse(&mut self, table: &Table, seq: u32, cause: Cause) -> bool
         requires knowing { IsKnowing table.now self.old }
@@ -339,7 +340,7 @@ impl Checker {
         }
     }
 
-    // The malformed call that waits has its refusal.
+    // The malformed call that awaited its refusal is refused.
     fn forget(&mut self)
         ensures knows { (T : TheTable) (past : Behind) (seq : ℕ) → Knows T past self.old
             → May (under T self.old) past (Refused seq cause.Malformed)
@@ -351,7 +352,7 @@ impl Checker {
         self.left = Left::Nothing;
     }
 
-    // The link has failed, and the first call that stands is refused for it.
+    // The link has failed, and the first pending call is refused for it.
     fn lose(&mut self)
         requires places { length self.old.reached.items ≡ length self.old.calls }
         ensures knows { (T : TheTable) (past : Behind) (seq : ℕ) → Knows T past self.old → IsFree self.old.left
@@ -366,7 +367,7 @@ impl Checker {
         self.failed = true;
     }
 
-    // A refusal is the answer of the entry of a name.
+    // Returns true if a refusal is the answer of the entry of a name.
     fn answers(&mut self, table: &Table, seq: u32, name: &Name, why: Why) -> bool
         requires knowing { IsKnowing table.now self.old }
         requires free { IsFree self.old.left }
@@ -391,7 +392,7 @@ impl Checker {
         true
     }
 
-    // The entry of a name denies a call by the rule of a name.
+    // Returns true if the entry of a name denies a call by the rule of a name.
     fn deny(&mut self, table: &Table, seq: u32, name: &Name, version: u32, rule: &Name) -> bool
         requires knowing { IsKnowing table.now self.old }
         requires free { IsFree self.old.left }
@@ -421,7 +422,7 @@ impl Checker {
         true
     }
 
-    // The call at a place has its fate.
+    // Removes the call at an index.
     fn leave(&mut self, place: usize)
         requires call { place < length self.old.calls }
         requires place { place < length self.old.reached.items }

@@ -1,14 +1,14 @@
-//! What a happening leaves open.
+//! Obligations after an event.
 
-// What the last happening leaves open, other than the refusals of a failed link.
+// The obligation that the last event leaves, apart from the refusals of a failed link.
 #[derive(Drop)]
 pub(crate) enum Left {
     Nothing,
-    // A malformed call waits for its refusal.
+    // A malformed call awaits its refusal.
     Waits {
         seq: u32,
     },
-    // A call whose ticket isn't below the cap waits for its refusal by the entry at a position.
+    // A call whose ticket isn't below the cap awaits its refusal by the entry at a position.
     Over {
         seq: u32,
         at: usize,

@@ -1,13 +1,13 @@
-//! The rules of legal histories, one connection at a time.
+//! The rules of legal histories, checked for one connection at a time.
 //!
-//! A [`Checker`] knows what the happenings of one connection have made of it (`specs/Knowing.antt`): its engines, the
-//! calls that stand with their marks and their forms, its clock, and what the last happening leaves open. Each of its
-//! functions judges a happening and answers the first [`Rule`] that it breaks, in time of a call's own form at most.
-//! Entries are asked by the engines themselves, which know by a call's marks what was noted of it. How far a call is
-//! known to pass is kept with it (`specs/Asking.antt`), so that each entry is asked once for each change of the chain.
-//! At the end a checker says what is left open (`specs/First.antt`).
+//! A [`Checker`] tracks what the events of one connection lead to (`specs/Knowing.antt`): the engines, the pending
+//! calls with their marks and forms, the clock, and the obligations that the last event leaves. Each check takes an
+//! event and returns the first [`Rule`] that it breaks. Its time is at most linear in the size of one call's form. The
+//! checker runs the engines themselves to find the answers of entries; a call's marks record what was noted of it. For
+//! each call it caches how many entries are known to pass it (`specs/Asking.antt`), so that each entry is run once per
+//! change of the chain. At the end, a checker returns the first rule with an obligation (`specs/First.antt`).
 //!
-//! It stands on histories and their rules, on engines, and on the length of an encoding.
+//! The crate depends on histories and their rules, on engines, and on the length of an encoding.
 #![tactic(auto)]
 
 mod ask;

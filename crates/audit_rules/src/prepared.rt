@@ -1,11 +1,11 @@
-//! A ticket that was drawn elsewhere.
+//! A source of tickets that were drawn elsewhere.
 
 ghost use Rattle.std.specs.Prelude.{◌≡◌, ◌≢◌, ◌<◌, ◌⊎◌, ◌∷◌, [], ◌++◌, ℕ, IfSome, IsSomeAnd};
 
 use crate::drawn::{Draw, Draws};
 use mrpc_base::Tickets;
 
-// Gives a ticket that an audit tells, in each draw the same one.
+// Returns the ticket of an audit line, the same one in each draw.
 #[derive(Drop)]
 pub(crate) struct Prepared {
     pub ticket: u64,

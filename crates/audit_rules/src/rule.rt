@@ -1,24 +1,25 @@
-//! The rules that a history is judged by.
+//! The rules of legal histories.
 
 /// A rule of legal histories.
 #[derive(Clone, Copy, PartialEq, Eq)]
 pub enum Rule {
-    /// Calls are numbered one after another, few enough stand, no more was loaded than the limit, one that lacks its
-    /// method is told so, and one is turned away exactly where as many stand as may.
+    /// Calls are numbered consecutively, few enough are pending, and no more words were loaded than the limit. A call
+    /// is malformed for a missing method exactly if the table lacks its method. A submission is rejected exactly if as
+    /// many calls are pending as allowed.
     A,
-    /// A malformed call is refused at once, and for this cause no other is.
+    /// A malformed call is refused at once, and no other call is refused as malformed.
     B,
-    /// The chain doesn't refuse a step, and moments rise.
+    /// The chain accepts each operation, and timestamps ascend.
     C,
-    /// What is noted of a call is what the entry calls for, behind that of earlier calls, and a ticket that isn't below
+    /// A note on a call is the one that the entry calls for, after those on earlier calls. A ticket that isn't below
     /// the cap is followed by its refusal.
     D,
-    /// The first call that stands is sent, where every entry lets it pass, in a frame as long as its form.
+    /// The first pending call is sent, if every entry lets it pass, in a frame of the size of its form.
     E,
-    /// A refusal of an entry is its answer.
+    /// A refusal by an entry is the entry's answer.
     F,
-    /// A failed link refuses the calls that stand, in order, and then nothing comes but steps and moments.
+    /// After a link failure, the pending calls are refused in order, and then only operations and timestamps follow.
     G,
-    /// The lines of the calls that stand tell those, in order, at places where they may stand, and held where they are.
+    /// The lines of pending calls list them in order, at legal positions, and with the level and cost of held calls.
     Stands,
 }

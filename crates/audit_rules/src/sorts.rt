@@ -1,4 +1,4 @@
-//! What a happening is by itself, and what a turn of an entry says.
+//! Classifies events and outcomes of turns.
 
 ghost use Rattle.std.specs.Bool.{OnFalse, OnTrue};
 ghost use Rattle.std.specs.Prelude.{◌≡◌, ◌↔◌, ◌+◌, ◌≤◌, ℕ, IsTrue, length};
@@ -19,9 +19,9 @@ use graph_form::Reason;
 use mrpc_table::{Call, Name, Table};
 use wire_encode::encoded_len;
 
-// ---- happenings
+// ---- events
 
-// The number of the call that is refused as malformed, if one is.
+// The number of the call that is refused as malformed; `None` for other events.
 pub(crate) fn malformed_in(what: &Happening) -> Option<u32>
     ensures { result ≡ malformed_in what.now }
 {
@@ -34,7 +34,7 @@ pub(crate) fn malformed_in(what: &Happening) -> Option<u32>
     }
 }
 
-// The number of the call that is refused for the link, if one is.
+// The number of the call that is refused for the link; `None` for other events.
 pub(crate) fn transport_in(what: &Happening) -> Option<u32>
     ensures { result ≡ transport_in what.now }
 {
@@ -47,14 +47,14 @@ pub(crate) fn transport_in(what: &Happening) -> Option<u32>
     }
 }
 
-// A step of an operator, or a moment.
+// Returns true for an operation or a timestamp.
 pub(crate) fn is_quiet(what: &Happening) -> bool
     ensures { result ≡ is_quiet what.now }
 {
     matches!(what, Happening::Op(_) | Happening::Moment { .. })
 }
 
-// A call is malformed for lack of a method exactly where the table lacks it.
+// Returns true if the call is malformed for a missing method exactly if the table lacks its method.
 pub(crate) fn is_copy_by(table: &Table, call: &Taken) -> bool
     requires { IsCopyBy table.now call.now call.now.copy }
     ensures { IsTrue result ↔ IsTakenBy table.now call.now call.now.copy }
@@ -67,7 +67,7 @@ pub(crate) fn is_copy_by(table: &Table, call: &Taken) -> bool
     }
 }
 
-// The happening refuses a call for a ticket.
+// Returns true if the event refuses this call for this ticket.
 pub(crate) fn is_over(what: &Happening, seq: u32, name: &Name, ticket: u64, cap: u64) -> bool
     ensures { IsTrue result ↔ (what.now ≡ Refused seq (cause.Quota name.now ticket cap)) }
 {
@@ -88,7 +88,7 @@ pub(crate) fn is_over(what: &Happening, seq: u32, name: &Name, ticket: u64, cap:
 
 // ---- turns
 
-// What a turn noted.
+// The note of a turn.
 pub(crate) fn noted_in(outcome: Outcome) -> Noted
     ensures { result ≡ noted_in outcome }
 {
@@ -98,7 +98,7 @@ pub(crate) fn noted_in(outcome: Outcome) -> Noted
     }
 }
 
-// The cap of a policy, if it is a quota.
+// The cap of a quota; `None` for other policies.
 pub(crate) fn cap_of(policy: &Policy) -> Option<u64>
     ensures { result ≡ cap_of policy.now }
 {
@@ -108,7 +108,7 @@ pub(crate) fn cap_of(policy: &Policy) -> Option<u64>
     }
 }
 
-// A frame of so many bytes is that of a call in its form.
+// Returns true if this is the size of the frame of a call in its form.
 pub(crate) fn is_frame_of(table: &Table, call: &Call, bytes: u64) -> bool
     requires valid { IsValid table.now }
     requires of_table { IsCallOf table.now call.now }
@@ -119,7 +119,7 @@ pub(crate) fn is_frame_of(table: &Table, call: &Call, bytes: u64) -> bool
         && bytes - HEADER_LEN as u64 == encoded_len(&call.tree, table, message)
 }
 
-// An entry denies a call by the rule of a name.
+// Returns true if an entry denies a call by the rule of a name.
 pub(crate) fn is_named_rule(engine: &Engine, outcome: Outcome, name: &Name) -> bool
     requires { (p : AccessPolicy) (rule : ℕ) → engine.now.entry.policy ≡ Policy.Access p
         → outcome ≡ Outcome.Refused Noted.Nothing (Why.Denied rule) → rule ≤ length p.rules }

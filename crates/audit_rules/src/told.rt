@@ -1,4 +1,4 @@
-//! The calls that stand are told.
+//! Checks the lines of pending calls.
 
 ghost use Rattle.std.specs.Bool.{OnFalse, OnTrue};
 ghost use Rattle.std.specs.Prelude.{◌≡◌, ◌≢◌, ◌↔◌, ◌<◌, ◌≤◌, ◌∷◌, ◌++◌, [], ℕ, List, IsTrue, Some, length, map};
@@ -21,8 +21,8 @@ use engine_core::{Engine, one_answer};
 use mrpc_table::Table;
 
 impl Checker {
-    /// Judges a line that tells the next of the calls that stand: its number, its position, the name of the entry there
-    /// (`-` at the end of the chain), and the level and the cost at which it is held, where it is.
+    /// Checks a line of the next pending call: its number, its position, the name of the entry there (`-` at the end of
+    /// the chain), and the level and cost if it is held. Returns true if the line is legal.
     pub fn stands(
         &mut self,
         table: &Table,
@@ -58,8 +58,8 @@ impl Checker {
         true
     }
 
-    // Whether the next call that isn't told has this number, and may stand at a position as far as the chain and the
-    // calls before go.
+    // Returns true if the next unlisted call has this number, and the position is legal by the chain's length and the
+    // calls listed before.
     fn is_next_told(&self, seq: u32, at: usize) -> bool
         ensures next { OnTrue result (slice_get (seqs_of self.now.calls) self.now.told ≡ Some seq) }
         ensures within { OnTrue result (at ≤ length self.now.engines.items) }
@@ -74,7 +74,7 @@ impl Checker {
         at <= self.engines.len() && at <= self.position
     }
 
-    // Whether every entry before a position lets the next call that isn't told pass.
+    // Returns true if every entry before a position lets the next unlisted call pass.
     fn reaches_place(&mut self, table: &Table, at: usize) -> bool
         requires known { (past : Behind) × (positions : List ℕ) × KnowsTold table.now past positions self.old }
         requires call { self.old.told < length self.old.calls }
@@ -105,7 +105,7 @@ impl Checker {
         )
     }
 
-    // Whether no call that was told stands at a position.
+    // Returns true if no listed call is at a position.
     fn is_first_at(&self, at: usize) -> bool
         ensures first { OnTrue result (0 < self.now.told → at ≢ self.now.position) }
         ensures not_first { OnFalse result (at ≡ self.now.position) }
@@ -113,8 +113,7 @@ impl Checker {
         self.told == 0 || at != self.position
     }
 
-    // The level and the cost at which the next call that isn't told is held at a position, where it is the first there
-    // and is held.
+    // The level and cost at which the next unlisted call is held at a position, if it is the first there and held.
     fn held_at(&self, at: usize) -> Option<(u64, u64)>
         requires call { self.now.told < length self.now.calls }
         ensures { (T : TheTable) (past : Behind) (positions : List ℕ) (call : Taken) → KnowsTold T past positions self.now
@@ -128,7 +127,7 @@ impl Checker {
         engine.held(self.calls.at(self.told))
     }
 
-    /// Whether all calls that stand were told.
+    /// Returns true if all pending calls were listed.
     pub fn all_stood(&self) -> bool
         ensures { (T : TheTable) (past : Behind) (positions : List ℕ) → KnowsTold T past positions self.now
             → IsTrue result ↔ (length positions ≡ length (standing past)) }
@@ -137,13 +136,13 @@ impl Checker {
     }
 }
 
-/// Where nothing is left open, a checker may be told the calls that stand, the first one first. A law; it does nothing.
+/// If there is no obligation, the pending calls can be listed from the first one on. A law; it does nothing.
 pub fn nothing_told()
     ensures { (T : TheTable) (past : Behind) (c : TheChecker) → IsSettledUp past → Knows T past c
         → KnowsTold T past [] c }
 {}
 
-// The entry at a position has this name; at the end of the chain it is `-`.
+// Returns true if the entry at a position has this name; the end of the chain has the name `-`.
 fn is_named_at(engines: &[Engine], at: usize, name: &[u8]) -> bool
     ensures { IsTrue result ↔ (name.now ≡ name_at (map (λ e. e.entry) engines.now) at) }
 {
@@ -153,7 +152,7 @@ fn is_named_at(engines: &[Engine], at: usize, name: &[u8]) -> bool
     }
 }
 
-// Both say that a call is held, and at the same level and cost, or that it isn't.
+// Returns true if both are held at the same level and cost, or neither is held.
 fn is_same_hold(one: Option<(u64, u64)>, other: Option<(u64, u64)>) -> bool
     ensures { IsTrue result ↔ (one ≡ other) }
 {

@@ -1,4 +1,4 @@
--- What the words of causes and of steps say is what they spell, and the other way round.
+-- The words of causes and operations are read exactly as they are written.
 use Rattle.std.proofs.Common.{◌≡◌, ℕ, ◌<◌, ◌^◌, List, [], ◌∷◌, refl, ap, sym, ◌∙◌, arith, Some, None, subst, inl, inr, codes}
 use Rattle.std.specs.Fmt.{decimal}
 use Rattle.mrpc_table.specs.declared.table.Table.{Table}
@@ -32,7 +32,7 @@ first-said (w ∷ ws) p e = let P : List ℕ × Words → Type 0 = λ p. w ∷ w
 abbrev pub SaysCause : Words → Cause → Type 0
 SaysCause ws why = IsCause why × (ws ≡ cause_words why)
 
--- a cause behind its word
+-- a cause after its word
 cause-along : (word : List ℕ) (ws all : Words) (why by : Cause) → Some why ≡ Some by → all ≡ word ∷ ws → SaysCause (word ∷ ws) why → SaysCause all by
 cause-along word ws all why by e is h =
     let P : Cause → Type 0 = λ x. SaysCause all x in subst P (unsome why by e) (h.0, is ∙ h.1)
@@ -96,7 +96,7 @@ quota-is ws why e =
     let P : Cause → Type 0 = λ x. SaysCause (codes "quota" ∷ ws) x in
     subst P (unsome (cause.Quota a.0.0 a.0.1 a.0.2) why a.2) ((h.0, h.1, h.2), ap (λ r. codes "quota" ∷ r) h.3)
 
--- the word is this one, and what stands behind it says the cause
+-- the word is this one, and the words after it mean the cause
 behind-word : (word this : List ℕ) (ws : Words) (why : Cause) → word ≡ this → SaysCause (this ∷ ws) why → SaysCause (word ∷ ws) why
 behind-word word this ws why is h = (h.0, ap (λ w. w ∷ ws) is ∙ h.1)
 
@@ -157,7 +157,7 @@ refused-read T declared (Refused seq why) h =
     rw (number-read (2 ^ 32) seq (cause_words why) (omega arith) h.0.0, cause-read why h.0.1) refl
 refused-read T declared _ h = absurd (let wrong = h.1 in cc)
 
--- ---- steps
+-- ---- operations
 
 abbrev pub SaysStep : Declared → Words → Step → Type 0
 SaysStep declared ws step = IsStep declared step × (ws ≡ step_words step)

@@ -1,4 +1,4 @@
--- What the words of an acceptance say is what they spell, and the other way round.
+-- The words of an accepted call are read exactly as they are written.
 use Rattle.std.proofs.Common.{◌≡◌, ℕ, ◌<◌, ◌^◌, List, [], ◌∷◌, get_or, refl, ap, sym, ◌∙◌, arith, Some, None, Option, subst, inl, inr, codes}
 use Rattle.std.specs.Prelude.{Result, Ok}
 use Rattle.std.specs.Fmt.{decimal}
@@ -163,7 +163,7 @@ pub malformed-reads : (T : Table) (call : Taken) (msg : ℕ) (all ws : Words) (f
 malformed-reads T call msg all ws None is h = λ x holds e. malformed-lost T call msg ws (sym h) x holds (sym is ∙ e)
 malformed-reads T call msg all ws (Some copy) is h = let said = malformed-said T call msg ws copy (sym h) in (said.0, is ∙ said.1)
 
--- ---- acceptances
+-- ---- accepted calls
 
 abbrev head_of : Taken → CallNumbers
 head_of x = record { seq = x.seq; method = x.method; number = x.number; addr = x.addr; after = x.after; count = x.count }
@@ -174,7 +174,7 @@ head-told x T h = head-read (head_of x) (copy_words T (message_at T x.method x.n
 pub no-head : (T : Table) (ws : Words) → head_said ws ≡ None → (x : Taken) → IsAcceptance T x → ws ≡ taken_words T x → ⊥
 no-head T ws none x h e = not-some (head_of x, copy_words T (message_at T x.method x.number) x.copy) (sym (head-told x T h) ∙ ap head_said (sym e) ∙ none)
 
--- the copy is read behind the numbers, for a call of these numbers
+-- the copy is read after the numbers, for a call with these numbers
 abbrev pub ReadsFor : Table → CallNumbers → Words → Result (Option TookCopy) Memory → Type 0
 ReadsFor T h rest r = (call : Taken) → call.method ≡ h.method → call.number ≡ h.number → Reads (IsCopyTaken T call) (copy_words T (message_at T h.method h.number)) rest r
 

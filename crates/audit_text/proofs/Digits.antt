@@ -1,4 +1,4 @@
--- Hexadecimal digits in lower case, two for each byte.
+-- Hexadecimal digits in lower case, two per byte.
 use Rattle.std.proofs.Common.{◌≡◌, ℕ, zero, suc, ◌<◌, ◌≤◌, List, [], ◌∷◌, ◌++◌, drop, length}
 use Rattle.std.proofs.Common.{take, refl, ap, sym, ◌∙◌, arith, codes, false, true, Ok, Option, Some, None}
 use Rattle.std.specs.Prelude.{MatchOption}
@@ -16,7 +16,7 @@ unfolding encode_with
 one-more [] b rest = refl
 one-more (x ∷ a) b rest = ap (λ (l : List ℕ). with_digits x l) (one-more a b rest)
 
--- what stands behind the digits of bytes is the digits of others
+-- the remainder after the digits of some bytes is the digits of the other bytes
 pub behind-digits : (a left bytes : List ℕ) → encode_lower a ++ left ≡ encode_lower bytes → left ≡ encode_lower (drop (length a) bytes)
 unfolding encode_with
 behind-digits [] left bytes e = e
@@ -28,7 +28,7 @@ bytes-behind zero bytes are = are
 bytes-behind (suc n) [] are = are
 bytes-behind (suc n) (b ∷ bytes) are = bytes-behind n bytes (λ i. are (suc i))
 
--- no digits stand in front where none of a byte do
+-- if the digits of no byte are a prefix, nothing remains
 pub no-digits : (left bytes : List ℕ) → IsBytes bytes → ((byte : ℕ) (rest : List ℕ) → byte < 256 → left ≡ with_digits byte rest → ⊥)
     → left ≡ encode_lower bytes → left ≡ []
 unfolding encode_with
@@ -45,7 +45,7 @@ bytes-more [] b are less (suc i) = no-bytes i
 bytes-more (x ∷ a) b are less zero = are 0
 bytes-more (x ∷ a) b are less (suc i) = bytes-more a b (λ k. are (suc k)) less i
 
--- digits tell their bytes
+-- digits determine their bytes
 pub digits-tell : (a b : List ℕ) → IsBytes a → IsBytes b → hex_word a ≡ hex_word b → a ≡ b
 digits-tell [] [] are be e = refl
 digits-tell [] (y ∷ b) are be e = absurd (omega (arith, ap length e, length-encode_with lower_digits (y ∷ b)))
@@ -68,7 +68,7 @@ unfolding encode_with
 none-empty [] e = absurd cc
 none-empty (b ∷ bytes) e = absurd cc
 
--- the bytes whose digits a word has, where it has some and is no `-`, are those that it spells
+-- if a word has digits and isn't `-`, the bytes of its digits are those that it spells
 pub spelled-by-digits : (word row : List ℕ) (r : Option ℕ) → bytes_eq word (codes "-") ≡ false → (word ≡ [] → ⊥)
     → MatchOption r ((bytes : List ℕ) → IsBytes bytes → word ≡ encode_lower bytes → ⊥) (λ n. (n ≤ length row) × IsBytes (take n row) × (word ≡ encode_lower (take n row)))
     → MatchOption r ((bytes : List ℕ) → IsBytes bytes → word ≡ hex_word bytes → ⊥) (λ n. (n ≤ length row) × IsBytes (take n row) × (word ≡ hex_word (take n row)))

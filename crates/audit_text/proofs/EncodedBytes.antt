@@ -1,4 +1,4 @@
--- The encoding of a normal tree has bytes alone.
+-- The encoding of a normal tree consists of bytes.
 use Rattle.std.proofs.Common.{◌≡◌, ℕ, zero, suc, ◌+◌, ◌*◌, ◌/◌, ◌%◌, ◌^◌, ◌<◌, ◌≤◌, List, [], ◌∷◌, ◌++◌, length, All}
 use Rattle.std.proofs.Common.{Some, Bool, true, false, cond, ◌&&◌, refl, ap, sym, subst, ◌∙◌, arith, inl, inr}
 use Rattle.std.proofs.Common.{slice_get, option_map, unwrap_or, length-append, nat_lt}
@@ -29,7 +29,7 @@ use Rattle.audit_text.proofs.Bytes.{AreBytes, bytes-append, bytes-all}
 
 -- ---- varints
 
--- below this the last of so many groups is a byte
+-- below this bound the last of so many groups is a byte
 abbrev room : ℕ → ℕ
 room zero = 256
 room (suc more) = 128 * room more
@@ -174,14 +174,14 @@ type-small (Choice i) = omega arith
 tag-bytes : (n w : ℕ) → n < 2 ^ 29 → w < 8 → AreBytes (tag n w)
 tag-bytes n w small below = varint-bytes (8 * n + w) (omega (arith, small, below))
 
--- the label and the kind that a field has
+-- the label and the kind of a field
 kind-found : (fs : List Field) (n : ℕ) (f : Field) → field_at fs n ≡ Some f → kind_at fs n ≡ f.kind
 kind-found fs n f found = ap (λ o. unwrap_or (option_map (λ f. f.kind) o) Uint64) found
 
 label-found : (fs : List Field) (n : ℕ) (f : Field) → field_at fs n ≡ Some f → label_at fs n ≡ f.label
 label-found fs n f found = ap (λ o. unwrap_or (option_map (λ f. f.label) o) Plain) found
 
--- the length of a part is at most that of the whole
+-- a part is at most as long as the whole
 few-left : (a b : List ℕ) → length (a ++ b) < 2 ^ 64 → length a < 2 ^ 64
 few-left a b few = omega (arith, length-append a b)
 

@@ -1,4 +1,4 @@
--- A line at the front of a text.
+-- A line at the start of a text.
 use Rattle.std.proofs.Common.{◌≡◌, ℕ, List, [], ◌∷◌, ◌++◌, refl, ap, sym, ◌∙◌, append_assoc}
 use Rattle.std.specs.Fmt.{decimal}
 use Rattle.mrpc_table.specs.Text.{line, spaced}
@@ -22,7 +22,7 @@ fed-line w (v ∷ ws) rest =
     ∙ sym (append_assoc w (32 ∷ line (v ∷ ws)) rest)
     ∙ ap (λ l. l ++ rest) (sym (append_assoc w (32 ∷ spaced (v ∷ ws)) (10 ∷ [])))
 
--- the word of a kind, a connection, and the words behind it are the line of a happening
+-- the word of a kind, a connection, and the words after it are the line of an event
 line-told : (T : Table) (conn : ℕ) (kind : Kind) (x : Happening) (w : List ℕ) (ws : Words) (text at behind rest : List ℕ) → kind_of x ≡ kind
     → tail_words T x ≡ w ∷ ws → text ≡ kind_word kind ++ 32 ∷ at → at ≡ decimal conn ++ 32 ∷ behind
     → behind ≡ fed (tail_words T x) rest → text ≡ audit_line T (record { conn = conn; what = x }) ++ rest

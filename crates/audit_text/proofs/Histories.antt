@@ -26,7 +26,7 @@ use Rattle.audit_text.proofs.WordsOfLines.{not-some}
 
 -- ---- the first line
 
--- a text is cut at its first line feed
+-- a text splits at its first line feed
 pub feed-cut : (front behind : List ℕ) → All (λ c. c ≢ 10) front → slice_split (λ c. c == 10) (front ++ 10 ∷ behind) ≡ front ∷ slice_split (λ c. c == 10) behind
 feed-cut [] behind none = refl
 feed-cut (c ∷ front) behind none =
@@ -64,7 +64,7 @@ line-long T x = omega (arith, length-append (spaced (happening_words T x.conn x.
 line-some : (T : Table) (x : Happened) (rest : List ℕ) → audit_line T x ++ rest ≢ []
 line-some T x rest e = omega (arith, ap length e, length-append (audit_line T x) rest, line-long T x)
 
--- a text that breaks off behind some happenings isn't that of a history
+-- a text whose remainder after some events is no event's line isn't the audit of a history
 pub no-history : OneHappening → (T : Table) → IsValid T → (declared : Declared) (before h : History) (rest : List ℕ)
     → All (IsWritable T declared) before → All (IsWritable T declared) h → rest ≢ [] → HasNoLine T declared rest
     → audit T before ++ rest ≢ audit T h
@@ -77,7 +77,7 @@ no-history one T valid declared (b ∷ before) (x ∷ h) rest told all some none
     (sym (append_assoc (audit_line T b) (audit T before) rest) ∙ e) in
     no-history one T valid declared before h rest (All-tail (IsWritable T declared) b before told) (All-tail (IsWritable T declared) x h all) some none same.1
 
--- of two ways in which a text breaks off behind some happenings, each has as many happenings as the other
+-- if a text has such a remainder after some events and after others, the numbers of events are equal
 one-end : OneHappening → (T : Table) → IsValid T → (declared : Declared) (before other : History) (rest left : List ℕ)
     → All (IsWritable T declared) before → All (IsWritable T declared) other → HasNoLine T declared rest
     → HasNoLine T declared left → audit T before ++ rest ≡ audit T other ++ left → length before ≡ length other
@@ -106,14 +106,14 @@ pub not-both : OneHappening → (T : Table) → IsValid T → (declared : Declar
 not-both one T valid declared text h line all is bad =
     no-history one T valid declared bad.before h bad.rest bad.told all bad.some_left bad.none_next (sym bad.text_is ∙ is)
 
--- one more happening
+-- one more event
 pub audit-more : (T : Table) (h : History) (x : Happened) (text rest behind : List ℕ) → text ≡ audit T h ++ rest
     → rest ≡ audit_line T x ++ behind → text ≡ audit T (h ++ x ∷ []) ++ behind
 audit-more T h x text rest behind is front =
     is ∙ ap (λ l. audit T h ++ l) front ∙ sym (append_assoc (audit T h) (audit_line T x) behind)
     ∙ ap (λ l. l ++ behind) (ap (λ l. audit T h ++ l) (sym (append-nil (audit_line T x))) ∙ sym (flat_map-append (audit_line T) h (x ∷ [])))
 
--- ---- the happening at the front
+-- ---- the event at the start
 
 pub front-none : CutHappening → (T : Table) → IsValid T → (declared : Declared) (text line : List ℕ)
     → ((front behind : List ℕ) → text ≡ front ++ 10 ∷ behind → All (λ c. c ≢ 10) front → line ≡ front ++ 10 ∷ [])

@@ -1,4 +1,4 @@
--- What the words of each kind of line say is what they spell, and the other way round.
+-- The words of each kind of line are read exactly as they are written.
 use Rattle.std.proofs.Common.{◌≡◌, ℕ, ◌<◌, ◌^◌, List, [], ◌∷◌, refl, ap, ◌∙◌, arith, Some, subst}
 use Rattle.std.specs.Fmt.{decimal}
 use Rattle.mrpc_table.specs.declared.table.Table.{Table}
@@ -14,11 +14,11 @@ use Rattle.audit_text.specs.declared.what.Kind.{Kind}
 use Rattle.audit_text.specs.declared.what.Kind.TheVariants as kinds
 use Rattle.audit_text.proofs.Said.{chained, end-said, last-read, last-said, name-read, name-said, number-read, number-said, unsome}
 
--- a happening of a kind that can be told
+-- a writable event of a kind
 abbrev pub IsTold : Table → Declared → Kind → Happening → Type 0
 IsTold T declared kind x = CanBeTold T declared x × (kind_of x ≡ kind)
 
--- words say a happening that can be told, in these words
+-- words mean a writable event, and are its words
 abbrev pub Tells : Table → Declared → Kind → Words → Happening → Type 0
 Tells T declared kind ws x = IsTold T declared kind x × (ws ≡ tail_words T x)
 

@@ -1,4 +1,4 @@
--- The policy that is found by the place of its name.
+-- The policy that is found by the index of its name.
 use Rattle.std.proofs.Common.{◌≡◌, ◌∙◌, ap, ℕ, ◌≤◌, List, Bool, true, false, Option, Some, None, refl, sym, arith, cond, length, option_map, slice_get}
 use Rattle.std.specs.Prelude.{find, nat_lt, option_and_then, position}
 use Rattle.std.specs.Str.{bytes_eq}
@@ -18,11 +18,11 @@ by_test false n xs past = sym (slice_get_past xs n (past refl))
 past_all : (n m : ℕ) → nat_lt n m ≡ false → m ≤ n
 past_all n m is = grind (arith, nat_tests)
 
--- the first of these items is that at their first place
+-- the first match is the element at the first match's index
 found-at : {X : Type 0} (p : X → Bool) (xs : List X) → option_and_then (slice_get xs) (position p xs) ≡ find p xs
 found-at p xs = by_test (nat_lt (position_or_len p xs) (length xs)) (position_or_len p xs) xs (past_all (position_or_len p xs) (length xs)) ∙ sym (find_at p xs)
 
--- the policy under a label is that at the place of its name
+-- the policy under a label is the one at the index of its name
 pub under-place : (label : List ℕ) (d : Declared) (place : Option ℕ) (there : Option NamedPolicy)
     → policy_place d label ≡ place → option_and_then (slice_get d.policies) place ≡ there
     → policy_under label d ≡ option_map (λ p. p.policy) there

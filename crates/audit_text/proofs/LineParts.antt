@@ -1,4 +1,4 @@
--- Lines by their kind, their connection, and what stands behind it.
+-- Lines by their kind, their connection, and the words after it.
 use Rattle.std.proofs.Common.{◌≡◌, ℕ, ◌<◌, ◌^◌, true, false, List, [], ◌∷◌, refl, ap, sym, ◌∙◌, arith, Some, None, Option, subst, inl, inr, codes, Ok, Err}
 use Rattle.std.specs.Prelude.{IfOk, Result}
 use Rattle.std.specs.Fmt.{decimal}
@@ -24,7 +24,7 @@ use Rattle.audit_text.proofs.Said.{by-word, number-read, number-said, unsome}
 use Rattle.audit_text.proofs.Stands.{SaysLine, stands-read, stands-said}
 use Rattle.audit_text.proofs.WordsOfLines.{not-some, some-pair}
 
--- a list's first, and its others
+-- a list's first element, and its others
 pub cons-same : {X : Type 0} (x y : X) (xs ys : List X) → x ∷ xs ≡ y ∷ ys → (x ≡ y) × (xs ≡ ys)
 cons-same x y xs ys e = (cc, cc)
 
@@ -95,14 +95,14 @@ kind-is w k e =
 stands-kind : kind_said (codes "stands") ≡ None
 stands-kind = refl
 
--- another kind for the same
+-- another name of the same kind
 pub reads-kind : (T : Table) (declared : Declared) (k l : Kind) (ws : Words) (r : Result (Option Happening) Memory)
     → l ≡ k → Reads (IsTold T declared k) (tail_words T) ws r → Reads (IsTold T declared l) (tail_words T) ws r
 reads-kind T declared k l ws r e h = let P : Kind → Type 0 = λ k. Reads (IsTold T declared k) (tail_words T) ws r in subst P (sym e) h
 
 -- ---- lines
 
--- the parts of a line: its first word, its connection, and what stands behind it
+-- the parts of a line: its first word, its connection, and the words after it
 pub record HasParts (T : Table) (x : AuditLine) (word : List ℕ) (conn : ℕ) (tail : Words) : Type 0 where
   pub words : line_words T x ≡ word ∷ decimal conn ∷ tail
   pub small : conn < 2 ^ 32
@@ -120,7 +120,7 @@ no-number T declared ws word rest first none x h e =
     let same = cons-same word parts.0 rest (decimal parts.1 ∷ parts.2) (sym (first-said ws (word, rest) first) ∙ e ∙ parts.3.words) in
     not-some (parts.1, parts.2) (sym (number-read (2 ^ 32) parts.1 parts.2 (omega arith) parts.3.small) ∙ ap (number_said (2 ^ 32)) (sym same.1) ∙ none)
 
--- the words by their first, the connection and the others
+-- the words by the first one, the connection and the others
 pub words-are : (ws : Words) (word : List ℕ) (rest tail : Words) (conn : ℕ) → first_said ws ≡ Some (word, rest)
     → number_said (2 ^ 32) rest ≡ Some (conn, tail) → (ws ≡ word ∷ decimal conn ∷ tail) × (conn < 2 ^ 32)
 words-are ws word rest tail conn first number =
@@ -149,7 +149,7 @@ stands-reads T declared conn ws tail (Ok (Some x)) small is h = let said = stand
 stands-reads T declared conn ws tail (Ok None) small is h = λ x holds e. stands-lost T declared conn tail small (sym h) x holds (sym is ∙ e)
 stands-reads T declared conn ws tail (Err e) small is h = tt
 
--- what stands behind the connection says no happening of the kind
+-- the words after the connection mean no event of the kind
 pub no-what : (T : Table) (declared : Declared) (ws tail : Words) (word : List ℕ) (conn : ℕ) (kind : Kind)
     → conn < 2 ^ 32 → ws ≡ word ∷ decimal conn ∷ tail → bytes_eq word (codes "stands") ≡ false
     → kind_said word ≡ Some kind
@@ -173,7 +173,7 @@ some-what T declared ws tail word conn kind x small is said told e = (
       ∙ ap (λ r. kind_word (kind_of x) ∷ decimal conn ∷ r) e ∙ sym (told-words T conn x),
 )
 
--- what was read, by the value that came
+-- what was read, by the result
 pub reads-none : (T : Table) (declared : Declared) (kind : Kind) (ws : Words) (r : Result (Option Happening) Memory)
     → Reads (IsTold T declared kind) (tail_words T) ws r → r ≡ Ok None → (x : Happening) → IsTold T declared kind x
     → ws ≡ tail_words T x → ⊥

@@ -1,4 +1,4 @@
--- Lines by the pieces that are appended one after another.
+-- Lines by the pieces in which they are appended.
 use Rattle.std.proofs.Common.{◌≡◌, ℕ, List, [], ◌∷◌, ◌++◌, refl, sym, ap, ◌∙◌, append_assoc, append-nil, codes}
 use Rattle.std.specs.Prelude.{Result, Ok, Err, OnOk}
 use Rattle.mrpc_table.specs.Calls.{message_at}
@@ -11,7 +11,7 @@ use Rattle.call_history.specs.declared.happening.TookCopy.TheVariants.{Copy, Mal
 use Rattle.audit_text.specs.Lines.{copy_words, encoding_of, hex_word}
 use Rattle.audit_text.specs.Pieces.{told_copy}
 
--- words with a space between each two are the first, and the others each behind a space
+-- words joined by spaces are the first, and the others after a space each
 pub spaced-pieces : (w : List ℕ) (ws : List (List ℕ)) → spaced (w ∷ ws) ≡ w ++ behind_spaces ws
 spaced-pieces w [] = sym (append-nil w)
 spaced-pieces w (v ∷ ws) = ap (λ l. w ++ 32 ∷ l) (spaced-pieces v ws)
@@ -23,7 +23,7 @@ pub spaced-append : (vs ws : List (List ℕ)) → behind_spaces (vs ++ ws) ≡ b
 spaced-append [] ws = refl
 spaced-append (v ∷ vs) ws = ap (λ l. 32 ∷ v ++ l) (spaced-append vs ws) ∙ sym (append_assoc (32 ∷ v) (behind_spaces vs) (behind_spaces ws))
 
--- a copy is told by its encoding
+-- the words of a copy are determined by its encoding
 copy-told : (T : Table) (call : Taken) (copy : TookCopy) (encoding : List ℕ) → encoding ≡ encoding_of T call copy
     → copy_words T (message_at T call.method call.number) copy ≡ told_copy encoding copy
 copy-told T call (Copy tree) encoding is = ap (λ l. codes "copy" ∷ hex_word l ∷ []) (sym is)
@@ -33,7 +33,7 @@ pub told-copy : (T : Table) (call : Taken) (encoding : List ℕ) → encoding �
     → copy_words T (message_at T call.method call.number) call.copy ≡ told_copy encoding call.copy
 told-copy T call encoding is = copy-told T call call.copy encoding is
 
--- what holds where a step was made, holds by it
+-- what holds on success implies what follows from it
 pub on-ok : {T E : Type 0} (r : Result T E) (P Q : Type 0) → OnOk r P → (P → Q) → OnOk r Q
 on-ok (Ok x) P Q h f = f h
 on-ok (Err e) P Q h f = tt

@@ -25,7 +25,7 @@ use Rattle.call_history.specs.declared.happening.TookCopy.TheVariants.{Copy, Mal
 use Rattle.call_history.specs.Frames.{frames}
 use Rattle.audit_text.specs.Lines.{audit, stands_line, transport}
 
--- a message of these fields, and a method that takes it
+-- a message with these fields, and a method that takes it
 abbrev table_of : List Field → Table
 table_of fields = record {
   messages = record { name = codes "M"; fields = fields; oneofs = [] } ∷ [];
@@ -42,11 +42,11 @@ table = table_of (number_field 1 (codes "a") ∷ [])
 abbrev with_number : ℕ → Node
 with_number v = field 1 (one (number v)) no_fields
 
--- on connection 1
+-- an event on connection 1
 abbrev happens : Happening → Happened
 happens what = record { conn = 1; what = what }
 
--- a call, by its method and by the number that it answers
+-- a call, by its method and the number that it answers
 abbrev call : ℕ → ℕ → ℕ → ℕ → ℕ → ℕ → TookCopy → Happened
 call seq method answered addr after count copy = happens (Took (record { seq = seq; method = method; number = answered; addr = addr; after = after; count = count; copy = copy }))
 
@@ -71,7 +71,7 @@ audit-sent : audit table sent ≡ codes "took 1 1 0 0 2 1 1 copy 089601\nsent 1 
 unfolding varint groups digits encode_with
 audit-sent = refl
 
--- frames, one behind another
+-- frames, one after another
 abbrev joined : List (List ℕ) → List ℕ
 joined [] = []
 joined (frame ∷ frames) = frame ++ joined frames
@@ -142,7 +142,7 @@ stands-ready : stands_line 1 3 1 transport None ≡ codes "stands 1 3 1 -\n"
 unfolding digits
 stands-ready = refl
 
--- ---- an upgrade with two calls behind the old version
+-- ---- an upgrade with two calls after the old version
 
 abbrev upgraded : History
 upgraded = happens (Op (Attach 0 (codes "acl") (codes "p1") opening)) ∷ happens (Op (Attach 1 (codes "rl") (codes "rl") (holding 2)))
@@ -173,7 +173,7 @@ stands-again : stands_line 1 3 0 (codes "rl") (Some (record { level = 0; cost = 
 unfolding digits
 stands-again = refl
 
--- ---- a link that fails, a ticket past the cap, a rate that refuses, and a call that isn't accepted
+-- ---- a link that fails, a ticket past the cap, a rate that refuses, and a submission that is rejected
 
 abbrev failing : History
 failing = happens (Sent 1 18) ∷ happens (Refused 2 cause.Transport) ∷ happens (Refused 3 cause.Transport) ∷ []
@@ -198,12 +198,12 @@ audit-others : audit table others ≡ codes "counted 1 4 c\nrefused 1 4 rate rl 
 unfolding digits
 audit-others = refl
 
--- ---- a field is cleared before the frame leaves: the line has the copy, and the frame the form
+-- ---- a field is cleared before the send: the line has the copy, and the frame has the form
 
 abbrev two_fields : Table
 two_fields = table_of (number_field 1 (codes "a") ∷ number_field 2 (codes "b") ∷ [])
 
--- it clears the field 2 of requests
+-- it clears field 2 of requests
 abbrev cutting : Policy
 cutting = Redact (record { method = 0; sort = Request; path = record { way = []; number = 2; kind = Uint64; label = Plain } } ∷ [])
 

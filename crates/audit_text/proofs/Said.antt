@@ -1,4 +1,4 @@
--- What words say is what they spell, and the other way round.
+-- Words are read exactly as they are written.
 use Rattle.std.proofs.Common.{◌≡◌, ℕ, ◌≤◌, ◌<◌, ◌^◌, ◌==◌, ◌&&◌, ◌||◌, not, Bool, true, false, List, [], ◌∷◌, length}
 use Rattle.std.proofs.Common.{get_or, cond, refl, ap, sym, ◌∙◌, arith, rules, Some, None, Option, subst, inl, inr}
 use Rattle.std.proofs.Common.{◌⊎◌}
@@ -20,7 +20,7 @@ use Rattle.audit_text.specs.Writable.{HasNameForm}
 use Rattle.audit_text.specs.Reading.{◌>>=◌, Reads, end_said, last_said, name_said, number_from, number_said}
 use Rattle.audit_text.proofs.WordsOfLines.{below-none, below-some, not-some, some-pair}
 
--- ---- steps that may fail
+-- ---- steps that can fail
 
 pub unsome : {X : Type 0} (x y : X) → Some x ≡ Some y → x ≡ y
 unsome x y e = cc
@@ -29,7 +29,7 @@ pub chained : {X Y : Type 0} (f : X → Option Y) (o : Option X) (y : Y) → (o 
 chained f None y e = absurd cc
 chained f (Some x) y e = (x, refl, e)
 
--- a word is this one, or the next is asked
+-- a word is this one, or the next one is tried
 pub by-word : {X : Type 0} (w v : List ℕ) (a b : Option X) (x : X) → cond (bytes_eq w v) a b ≡ Some x → ((w ≡ v) × (a ≡ Some x)) ⊎ (b ≡ Some x)
 by-word w v a b x e = go (bytes_eq w v) refl e
   where
@@ -37,7 +37,7 @@ by-word w v a b x e = go (bytes_eq w v) refl e
     go true is e = inl ((bytes_eq-Decides w v).0 is, e)
     go false is e = inr e
 
--- a function of words that says exactly what they spell reads them
+-- a function that returns a value exactly for the value's words reads them
 pub reads-by : {A : Type 0} (Holds : A → Type 0) (words_for : A → Words) (said : Words → Option A)
     → ((ws : Words) (x : A) → said ws ≡ Some x → Holds x × (ws ≡ words_for x))
     → ((x : A) → Holds x → said (words_for x) ≡ Some x)

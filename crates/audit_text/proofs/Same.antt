@@ -1,4 +1,4 @@
--- Happenings of the same words are the same, of those that can be told.
+-- Writable events with the same words are equal.
 use Rattle.std.proofs.Common.{◌≡◌, ℕ, zero, suc, ◌+◌, ◌*◌, ◌<◌, ◌^◌, nat_eq, true, false, List, [], ◌∷◌, length}
 use Rattle.std.proofs.Common.{get_or, codes, refl, ap, sym, subst, ◌∙◌, arith, Some, All, if◌then◌else◌}
 use Rattle.std.specs.Fmt.{decimal}
@@ -40,7 +40,7 @@ use Rattle.audit_text.proofs.EncodedBytes.{encoding-bytes}
 use Rattle.audit_text.proofs.Telling.{low16, low32}
 use Rattle.audit_text.proofs.Words.{decimal-same}
 
--- ---- what tells words apart
+-- ---- distinguishing words
 
 -- the first three letters of the first word
 abbrev pub mark_of : List ℕ → ℕ
@@ -61,7 +61,7 @@ same-mark a b e = subst (λ (b : Words). nat_eq (mark a) (mark b) ≡ true) e (s
 
 -- ---- copies
 
--- the laws on which a copy's bytes rest
+-- the laws about a copy's bytes
 abbrev pub OneMeaning : Type 0
 OneMeaning = (T : Table) (msg : ℕ) (bytes : List ℕ) (t u : Node) → Means T msg bytes t → Means T msg bytes u → t ≡ u
 
@@ -117,7 +117,7 @@ reason-told NoMethod = refl
 reason-same : (r s : Reason) → reason_word r ≡ reason_word s → r ≡ s
 reason-same r s e = sym (reason-told r) ∙ ap reason_of e ∙ reason-told s
 
--- what was taken of a call of this message
+-- the copy of a call with this message, or why it has none
 IsTakenAt : Table → ℕ → TookCopy → Type 0
 IsTakenAt T msg (Copy tree) = (msg < length T.messages) × IsNormal T msg tree × (length (encoding T msg tree) < 2 ^ 64)
 IsTakenAt T msg (Malformed reason place value) = (place < 2 ^ 64) × (value < 2 ^ 64)
@@ -144,7 +144,7 @@ copy-same one means T valid msg (Malformed r p v) (Malformed s q w) h k m e =
 copy-same one means T valid msg (Copy t) (Malformed s q w) h k m e = absurd (false-true m)
 copy-same one means T valid msg (Malformed r p v) (Copy u) h k m e = absurd (false-true m)
 
--- ---- steps
+-- ---- operations
 
 policy-same : (declared : Declared) (a b : List ℕ) (p q : Policy) → a ≡ b → IsDeclared declared a p → IsDeclared declared b q → p ≡ q
 policy-same declared a b p q e h k =
@@ -189,7 +189,7 @@ cause-same (cause.Quota name ticket cap) (cause.Quota other drawn most) h k m e 
 cause-same cause.Transport cause.Transport h k m e = refl
 cause-same _ _ h k m e = absurd (false-true m)
 
--- ---- acceptances
+-- ---- accepted calls
 
 made : ℕ → ℕ → ℕ → ℕ → ℕ → ℕ → TookCopy → Taken
 made seq method number addr after count copy = record { seq = seq; method = method; number = number; addr = addr; after = after; count = count; copy = copy }
@@ -224,7 +224,7 @@ call-same one means T valid c d a b h k e =
     let copy = copy-same one means T valid (message_at T a.method a.number) a.copy b.copy (taken-at T valid a a.copy h.copy) taken (same-mark _ _ words) words in
     taken-same a b seq method number addr after count copy
 
--- ---- happenings
+-- ---- events
 
 what-same : OneMeaning → EncodingMeans → (T : Table) → IsValid T → (declared : Declared) (c d : ℕ) (x y : Happening)
     → CanBeTold T declared x → CanBeTold T declared y

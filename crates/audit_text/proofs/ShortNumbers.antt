@@ -1,4 +1,4 @@
--- Decimal digits, few enough for a number of 64 bits, and the words of a text that begins with them.
+-- Decimal digits, few enough for 64 bits, and the words of a text that starts with them.
 use Rattle.std.proofs.Common.{◌≡◌, ℕ, suc, ◌+◌, ◌-◌, ◌*◌, ◌^◌, ◌<◌, ◌≤◌, ◌==◌, ◌&&◌, true, false, nat_le, Bool, All}
 use Rattle.std.proofs.Common.{List, [], ◌∷◌, Option, length, take, get_or, Some, ap, sym, ◌∙◌, refl, arith, leb-true}
 use Rattle.std.proofs.Common.{le-ltb, lt-ltb, append-nil}

@@ -1,4 +1,4 @@
--- A word that has the digits of an encoding, alone in a text.
+-- A word with the digits of an encoding, as the whole remainder.
 use Rattle.std.proofs.Common.{◌≡◌, ℕ, List, [], ◌∷◌, ap, sym, ◌∙◌, Some, None, Option, Ok, Err}
 use Rattle.std.specs.Prelude.{Result}
 use Rattle.std.specs.List.{join_with_byte}
@@ -28,7 +28,7 @@ hex-cut T valid msg t h = cut-none 32 (hex_word (encoding T msg t)) (hex-word (e
 first-same : (x y : List ℕ) → ◌≡◌ {A = Words} (x ∷ []) (y ∷ []) → x ≡ y
 first-same x y e = cc
 
--- no space is a digit, so that a text which spells an encoding is one word
+-- a space is no digit, so a remainder that spells an encoding is one word
 pub read-alone : (T : Table) → IsValid T → (msg : ℕ) (text : List ℕ) (r : Result (Option Node) Memory) → ReadsTree T msg (text ∷ []) r → ReadsTree T msg (words_of text) r
 read-alone T valid msg text (Ok (Some t)) h = (h.0, ap words_of (first-same text (hex_word (encoding T msg t)) h.1) ∙ hex-cut T valid msg t h.0)
 read-alone T valid msg text (Ok None) none = λ t holds e.
@@ -42,7 +42,7 @@ read-alone T valid msg text (Err fault) h = tt
 abbrev pub ReadsBytes : Table → ℕ → List ℕ → Result (Option Node) Memory → Type 0
 ReadsBytes T msg bytes r = Reads (HasShortEncoding T msg) (λ t. encoding T msg t ∷ []) (bytes ∷ []) r
 
--- a message is read of a word as it is of the bytes that have these digits
+-- a word is read as the bytes of its digits are
 pub by-bytes : (T : Table) → IsValid T → (msg : ℕ) (word bytes : List ℕ) (r : Result (Option Node) Memory) → IsBytes bytes → word ≡ hex_word bytes
     → ReadsBytes T msg bytes r → ReadsTree T msg (word ∷ []) r
 by-bytes T valid msg word bytes (Ok (Some t)) are is h =
@@ -53,7 +53,7 @@ by-bytes T valid msg word bytes (Ok None) are is none = λ t holds e.
     none t holds (ap (λ (b : List ℕ). b ∷ []) (digits-tell bytes (encoding T msg t) are other digits))
 by-bytes T valid msg word bytes (Err fault) are is h = tt
 
--- no message is read of a word that spells no bytes
+-- a word that spells no bytes has no message
 pub spells-nothing : (T : Table) → IsValid T → (msg : ℕ) (word : List ℕ) → ((bytes : List ℕ) → IsBytes bytes → word ≡ hex_word bytes → ⊥)
     → ReadsTree T msg (word ∷ []) (Ok None)
 spells-nothing T valid msg word none = λ t holds e.

@@ -1,4 +1,4 @@
--- What the words of a line of a call that stands say is what they spell, and the other way round.
+-- The words of a pending call's line are read exactly as they are written.
 use Rattle.std.proofs.Common.{◌≡◌, ℕ, ◌<◌, ◌^◌, ◌||◌, Bool, true, false, List, [], ◌∷◌, cond, refl, ap, ◌∙◌, arith}
 use Rattle.std.proofs.Common.{Some, None, Option, subst, inl, inr, ◌⊎◌, codes}
 use Rattle.std.specs.Fmt.{decimal}

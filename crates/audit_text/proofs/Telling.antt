@@ -1,4 +1,4 @@
--- The words of a happening tell it, of those that can be told.
+-- The words of a writable event determine it.
 use Rattle.std.proofs.Common.{◌≡◌, ℕ, zero, suc, ◌<◌, ◌^◌, nat_lt, true, List, [], ◌∷◌, length, get_or, codes, refl, arith}
 use Rattle.std.specs.Fmt.{decimal}
 use Rattle.std.specs.List.{list_all}
@@ -25,7 +25,7 @@ use Rattle.audit_text.proofs.Bytes.{AreBytes}
 use Rattle.audit_text.proofs.EncodedBytes.{encoding-bytes}
 use Rattle.audit_text.proofs.Words.{IsWord, AreWords, decimal-word, name-word, literal, lt-from, both-left, both-right}
 
--- ---- the words of each happening are words
+-- ---- the words of each event are words
 
 reason-words : (r : Reason) → IsWord (reason_word r)
 reason-words Address = literal (codes "Address") refl

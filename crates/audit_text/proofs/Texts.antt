@@ -1,4 +1,4 @@
--- Texts of histories, and lines of calls that stand.
+-- Texts of histories, and lines of pending calls.
 use Rattle.std.proofs.Common.{◌≡◌, ℕ, ◌<◌, List, [], ◌∷◌, ◌++◌, length, codes, refl, ap, sym, subst, arith, All, Option, Some, None, length-append, inl, inr}
 use Rattle.std.specs.Fmt.{decimal}
 use Rattle.std.proofs.lemmas.List.Elements.{All-head, All-tail}
@@ -20,7 +20,7 @@ use Rattle.audit_text.proofs.Words.{AreWords, IsWord, decimal-same, decimal-word
 line-told : (T : Table) → IsValid T → (declared : Declared) (x : Happened) → IsWritable T declared x → AreWords (happening_words T x.conn x.what)
 line-told T valid declared x h = are-words T valid declared x.conn x.what h.conn h.told
 
--- a line at the front of a text tells its happening, and what stands behind it
+-- a line at the start of a text determines its event and the remainder
 pub front-same : OneMeaning → EncodingMeans → (T : Table) → IsValid T
     → (declared : Declared) (x y : Happened) (a b : List ℕ) → IsWritable T declared x → IsWritable T declared y
     → audit_line T x ++ a ≡ audit_line T y ++ b → (x ≡ y) × (a ≡ b)
@@ -48,7 +48,7 @@ text-same one means T valid declared (x ∷ h) (y ∷ k) all every e =
 pub line-cut : (T : Table) (declared : Declared) (x : Happened) → IsValid T → IsWritable T declared x → IsCutInto (happening_words T x.conn x.what)
 line-cut T declared x valid h = cut-into (happening_words T x.conn x.what) (some-words T x.conn x.what) (line-told T valid declared x h)
 
--- ---- calls that stand
+-- ---- pending calls
 
 queue-word : (name : List ℕ) → IsQueueName name → IsWord name
 queue-word name (inl form) = name-word name form

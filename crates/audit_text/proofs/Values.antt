@@ -5,7 +5,7 @@ use Rattle.std.proofs.lemmas.Bool.Decides.{eqb_tells, nat_tests}
 use Rattle.hex.specs.Hex.{lower_digits}
 use Rattle.audit_text.specs.declared.hexadecimal.TheConstants.{VALUES}
 
--- a test holds of each number below another
+-- a test holds for each number below a bound
 abbrev all_below : (ℕ → Bool) → ℕ → Bool
 all_below test zero = true
 all_below test (suc n) = test n && all_below test n

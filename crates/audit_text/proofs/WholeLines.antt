@@ -18,7 +18,7 @@ use Rattle.audit_text.specs.Told.{IsLine, bytes_of}
 use Rattle.audit_text.specs.declared.line.AuditLine.{AuditLine}
 use Rattle.audit_text.specs.declared.line.AuditLine.TheVariants as lines
 
--- what the text's own laws say
+-- what the laws of the text state
 abbrev pub OneHappening : Type 0
 OneHappening = (T : Table) (declared : Declared) (x y : Happened) (a b : List ℕ) → IsValid T → IsWritable T declared x
     → IsWritable T declared y → audit_line T x ++ a ≡ audit_line T y ++ b → (x ≡ y) × (a ≡ b)
@@ -57,7 +57,7 @@ line-same one apart stands T valid declared (lines.Stands conn seq position name
 line-same one apart stands T valid declared (lines.Stands conn seq position name holding) (lines.Stands conn' seq' position' name' holding') h k e =
     let same = stands conn seq position conn' seq' position' name name' holding holding' h k e in cc (same.0, same.1, same.2, same.3, same.4)
 
--- what stands before the last
+-- a list without its last element
 abbrev front : List ℕ → List ℕ
 front [] = []
 front (x ∷ []) = []

@@ -1,4 +1,4 @@
--- Words that have no blank and no line feed, and lines of them: a line tells its words.
+-- Words without spaces and line feeds, and lines of them: a line determines its words.
 use Rattle.std.proofs.Common.{◌≡◌, ℕ, zero, suc, ◌<◌, ◌≤◌, ◌^◌, ◌==◌, ◌&&◌, nat_lt, Bool, true, false, List, [], ◌∷◌}
 use Rattle.std.proofs.Common.{◌++◌, length, refl, ap, sym, ◌∙◌, arith, rules, append_assoc, All, ◌≢◌}
 use Rattle.std.specs.Prelude.{slice_index_or}
@@ -47,9 +47,9 @@ pub above-test : (p : ℕ → Bool) (bound : ℕ) (w : List ℕ) → ((c : ℕ) 
 above-test p bound [] each h = tt
 above-test p bound (c ∷ w) each h = (each c (both-left (p c) (list_all p w) h), above-test p bound w each (both-right (p c) (list_all p w) h))
 
--- ---- cuts
+-- ---- splits
 
--- a list is cut at the first separator
+-- a list splits at its first separator
 pub cut-first : (sep : ℕ) (w rest : List ℕ) → AreAbove sep w → slice_split (λ c. c == sep) (w ++ sep ∷ rest) ≡ w ∷ slice_split (λ c. c == sep) rest
 cut-first sep [] rest h = let e : (sep == sep) ≡ true = eq-eqb sep sep refl in rw e refl
 cut-first sep (c ∷ w) rest h =
@@ -64,7 +64,7 @@ cut-none sep (c ∷ w) h =
 
 -- ---- words
 
--- no blank and no line feed stands in the word
+-- the word has no space and no line feed
 abbrev pub IsWord : List ℕ → Type 0
 IsWord w = AreAbove 32 w
 
@@ -91,7 +91,7 @@ first-same x y xs ys e = (cc, cc)
 pub line-cut : (ws : List (List ℕ)) (a : List ℕ) → AreWords ws → slice_split (λ c. c == 10) (line ws ++ a) ≡ spaced ws ∷ slice_split (λ c. c == 10) a
 line-cut ws a h = ap (slice_split (λ c. c == 10)) (append_assoc (spaced ws) (10 ∷ []) a) ∙ cut-first 10 (spaced ws) a (spaced-above ws h)
 
--- a line at the front of a text tells its words, and what stands behind it
+-- a line at the start of a text determines its words and the remainder
 pub line-words : (ws vs : List (List ℕ)) (a b : List ℕ) → 0 < length ws → 0 < length vs → AreWords ws → AreWords vs → line ws ++ a ≡ line vs ++ b → (ws ≡ vs) × (a ≡ b)
 line-words ws vs a b some more h k e =
     let parts : spaced ws ∷ slice_split (λ c. c == 10) a ≡ spaced vs ∷ slice_split (λ c. c == 10) b =

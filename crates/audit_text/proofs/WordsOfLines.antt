@@ -1,4 +1,4 @@
--- The words that are left, and numbers of fewer bits.
+-- The remaining words, and numbers of fewer bits.
 use Rattle.std.proofs.Common.{◌≡◌, ℕ, ◌≤◌, ◌<◌, ◌==◌, List, [], ◌∷◌, length, refl, ap, sym, ◌∙◌, arith, Some, None, Option, inl, inr}
 use Rattle.std.proofs.lemmas.Bool.{cases_lt, lt-ltb, le-ltb}
 use Rattle.std.proofs.lemmas.List.Splits.{length-slice_split}
@@ -46,7 +46,7 @@ narrow-lost low high (Some m) words le e =
       | inr more ↦ below-none low m words (omega (arith, le, more))
     ]
 
--- a number of 64 bits, and whether it is below a smaller bound
+-- a 64-bit number that is, or isn't, below a smaller bound
 pub narrow-some : (low high n : ℕ) (words rest : Words) → number_said high words ≡ Some (n, rest) → number_said low words ≡ below low n rest
 unfolding number_said
 narrow-some low high n [] rest e = absurd cc

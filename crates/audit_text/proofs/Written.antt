@@ -4,12 +4,12 @@ use Rattle.std.proofs.lemmas.List.{length-append}
 use Rattle.std.specs.Prelude.{IfSome}
 use Rattle.wire_encode.specs.Written.{StandBefore}
 
--- what holds of a place where some were written, holds by it
+-- what holds of an index where some bytes were written implies what follows from it
 pub if-some : {X : Type 0} (r : Option X) (P Q : X → Type 0) → IfSome r P → ((x : X) → P x → Q x) → IfSome r Q
 if-some (Some x) P Q h f = f x h
 if-some None P Q h f = tt
 
--- bytes are written in front of others
+-- bytes are written before others
 pub in-front : {old mid new : List ℕ} {end place : ℕ} {behind front : List ℕ} (start : ℕ) → StandBefore old mid end place behind
     → StandBefore mid new place start front → StandBefore old new end start (front ++ behind)
 in-front {old} {mid} {new} {end} {place} {behind} {front} start b f =

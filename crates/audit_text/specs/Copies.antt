@@ -1,4 +1,4 @@
--- The code's own: how the words of an acceptance are read.
+-- The code's own: how the words of an accepted call are read.
 use Rattle.std.specs.Prelude.{ℕ, ◌<◌, ◌^◌, List, ◌∷◌, codes, length, Option, Some, None, if◌then◌else◌}
 use Rattle.std.specs.Fmt.{decimal}
 use Rattle.std.specs.Str.{bytes_eq}
@@ -16,12 +16,12 @@ use Rattle.audit_text.specs.Lines.{Words, copy_words}
 use Rattle.audit_text.specs.Reading.{◌>>=◌, first_said, last_said, number_said}
 use Rattle.audit_text.specs.declared.copy.CallNumbers.{CallNumbers}
 
--- a normal tree of a message, whose encoding has a length of 64 bits
+-- a normal tree of a message, whose encoding has fewer than 2^64 bytes
 pub record HasShortEncoding (T : Table) (msg : ℕ) (tree : Node) : Type 0 where
   pub normal : IsNormal T msg tree
   pub short : length (encoding T msg tree) < 2 ^ 64
 
--- the words of an acceptance behind its connection
+-- the words of an accepted call, after its connection
 abbrev pub taken_words : Table → Taken → Words
 taken_words T call =
     decimal call.seq ∷ decimal call.method ∷ decimal call.number ∷ decimal call.addr ∷ decimal call.after

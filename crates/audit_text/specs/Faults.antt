@@ -1,4 +1,4 @@
--- Which line of a text is the first that is no line of a history (this project's own).
+-- The first line of a text that isn't an event's (this project's own).
 use Rattle.std.specs.Prelude.{◌≡◌, ◌≢◌, ℕ, ◌+◌, List, [], ◌++◌, All, length}
 use Rattle.mrpc_table.specs.declared.table.Table.{Table}
 use Rattle.call_history.specs.Legal.{History}
@@ -9,11 +9,11 @@ use Rattle.audit_text.specs.Writable.{IsWritable}
 use Rattle.audit_text.specs.declared.reading.AuditFault.{AuditFault}
 use Rattle.audit_text.specs.declared.reading.AuditFault.TheVariants.{Bad, Memory}
 
--- no line of a happening that can be told stands at the front of a text
+-- no line of a writable event is a prefix of the text
 abbrev pub HasNoLine : Table → Declared → List ℕ → Type 0
 HasNoLine T declared text = (x : Happened) (behind : List ℕ) → IsWritable T declared x → text ≢ audit_line T x ++ behind
 
--- before the line stand those of some happenings, and behind these something, but no line of one
+-- the lines before are those of writable events, and the remainder isn't empty and starts with no such line
 pub record IsFirstBad (T : Table) (declared : Declared) (text : List ℕ) (line : ℕ) : Type 0 where
   pub before : History
   pub rest : List ℕ

@@ -1,4 +1,4 @@
--- The policy that a step of an operator names: by the label under which it was declared (this project's own).
+-- The policy of an operation: the one declared under its label (this project's own).
 use Rattle.std.specs.Prelude.{ℕ, List, find, Option, option_map}
 use Rattle.std.specs.Str.{bytes_eq}
 use Rattle.engine_core.specs.declared.policy.Policy.{Policy}

@@ -1,4 +1,4 @@
--- The code's own: the words of a line, behind its kind and its connection.
+-- The code's own: the words of a line after its kind and its connection.
 use Rattle.std.specs.Prelude.{ℕ, ◌^◌, ◌||◌, Bool, List, [], ◌∷◌, codes, Option, Some, None, if◌then◌else◌}
 use Rattle.std.specs.Fmt.{decimal}
 use Rattle.std.specs.Str.{bytes_eq}
@@ -40,7 +40,7 @@ kind_word kinds.Redacted = codes "redacted"
 kind_word kinds.Sent = codes "sent"
 kind_word kinds.Refused = codes "refused"
 
--- the words behind the connection
+-- the words after the connection
 abbrev pub tail_words : Table → Happening → Words
 tail_words T (happen.Took call) = taken_words T call
 tail_words T (happen.Away method number addr) = decimal method ∷ decimal number ∷ decimal addr ∷ []
@@ -57,7 +57,7 @@ abbrev pub line_words : Table → AuditLine → Words
 line_words T (lines.Happened x) = happening_words T x.conn x.what
 line_words T (lines.Stands conn seq position name holding) = standing_words conn seq position name holding
 
--- ---- calls that stand
+-- ---- pending calls
 
 abbrev pub is_queue_name : List ℕ → Bool
 is_queue_name word = is_name_form word || bytes_eq word transport
@@ -82,9 +82,9 @@ stands_said conn words = do
   name ← first_said position.1
   stands_from conn seq.0 position.0 name.0 name.1
 
--- ---- happenings
+-- ---- events
 
--- the happening of a line, if it is one of a happening
+-- the event of a line, if it has one
 abbrev pub happening_in : Option AuditLine → Option Happened
 happening_in None = None
 happening_in (Some (lines.Happened x)) = Some x

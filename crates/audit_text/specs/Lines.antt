@@ -1,5 +1,4 @@
--- The audit text of a history: a line for each happening, and a line for each call that stands (this project's own
--- format).
+-- The audit text of a history: one line for each event, and one line for each pending call (this project's own format).
 use Rattle.std.specs.Prelude.{◌≡◌, ◌≢◌, ℕ, ◌<◌, All, List, [], ◌∷◌, codes, length, Option, Some, None}
 use Rattle.std.specs.List.{flat_map}
 use Rattle.std.specs.Fmt.{decimal}
@@ -33,13 +32,13 @@ abbrev pub hex_word : List ℕ → List ℕ
 hex_word [] = codes "-"
 hex_word (b ∷ bytes) = encode_lower (b ∷ bytes)
 
--- what was taken of a call, its copy in the encoding of this message
+-- the copy of a call, in the encoding of this message, or why it has none
 abbrev pub copy_words : Table → ℕ → TookCopy → Words
 copy_words T message (Copy tree) = codes "copy" ∷ hex_word (encoding T message tree) ∷ []
 copy_words T message (Malformed reason place value) =
     codes "malformed" ∷ reason_word reason ∷ decimal place ∷ decimal value ∷ []
 
--- an operator's step
+-- an operation
 abbrev pub step_words : Step → Words
 step_words (Attach at name label policy) = codes "attach" ∷ decimal at ∷ name ∷ label ∷ []
 step_words (Detach name) = codes "detach" ∷ name ∷ []
@@ -53,7 +52,7 @@ cause_words (cause.Rate name left cost) = codes "rate" ∷ name ∷ decimal left
 cause_words (cause.Quota name ticket cap) = codes "quota" ∷ name ∷ decimal ticket ∷ decimal cap ∷ []
 cause_words cause.Transport = codes "transport" ∷ []
 
--- a happening on a connection: its word, the connection, and what it tells
+-- an event of a connection: its word, the connection, and its content
 abbrev pub happening_words : Table → ℕ → Happening → Words
 happening_words T conn (Took call) =
     codes "took" ∷ decimal conn ∷ decimal call.seq ∷ decimal call.method ∷ decimal call.number ∷ decimal call.addr
@@ -79,14 +78,14 @@ audit_line T x = line (happening_words T x.conn x.what)
 abbrev pub audit : Table → History → List ℕ
 audit T h = flat_map (audit_line T) h
 
--- ---- calls that stand
+-- ---- pending calls
 
--- at which level and cost a call is held, if it is
+-- the level and cost of a held call; nothing if the call isn't held
 abbrev pub held_words : Option Holding → Words
 held_words None = []
 held_words (Some holding) = codes "held" ∷ decimal holding.level ∷ decimal holding.cost ∷ []
 
--- a call that stands at a position of the chain, with the name of the engine there
+-- a pending call at a position of the chain, with the name of the engine there
 abbrev pub standing_words : ℕ → ℕ → ℕ → List ℕ → Option Holding → Words
 standing_words conn seq position name holding =
     codes "stands" ∷ decimal conn ∷ decimal seq ∷ decimal position ∷ name ∷ held_words holding
@@ -94,20 +93,20 @@ standing_words conn seq position name holding =
 abbrev pub stands_line : ℕ → ℕ → ℕ → List ℕ → Option Holding → List ℕ
 stands_line conn seq position name holding = line (standing_words conn seq position name holding)
 
--- the name of the queue for transport, behind the last engine
+-- the name of the transport queue, after the last engine
 abbrev pub transport : List ℕ
 transport = codes "-"
 
 -- ---- lines and their words
 
--- the words, with a space between each two, have no line feed, and are cut into these words at the spaces
+-- the words, joined by spaces, have no line feed, and split into these words at the spaces
 pub record IsCutInto (words : Words) : Type 0 where
   pub cut : words_of (spaced words) ≡ words
   pub one_line : All (λ c. c ≢ 10) (spaced words)
 
--- ---- what a table can print
+-- ---- what can be written under a table
 
--- where there is a copy, the table has the method, and the copy is a normal tree of its message
+-- if there is a copy, the table has the method, and the copy is a normal tree of its message
 abbrev pub FitsCall : Table → Taken → TookCopy → Type 0
 FitsCall T call (Copy tree) = (call.method < length T.methods) × IsNormal T (message_at T call.method call.number) tree
 FitsCall T call (Malformed reason place value) = Unit {0}
@@ -116,7 +115,7 @@ abbrev pub FitsTable : Table → Happening → Type 0
 FitsTable T (Took call) = FitsCall T call call.copy
 FitsTable T _ = Unit {0}
 
--- the encoding of a copy; without a copy there is none
+-- the encoding of a copy; empty without a copy
 abbrev pub encoding_of : Table → Taken → TookCopy → List ℕ
 encoding_of T call (Copy tree) = encoding T (message_at T call.method call.number) tree
 encoding_of T call (Malformed reason place value) = []

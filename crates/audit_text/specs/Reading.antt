@@ -10,12 +10,12 @@ infixl 10 ◌>>=◌
 abbrev pub ◌>>=◌ : {A B : Type 0} → Option A → (A → Option B) → Option B
 o >>= f = option_and_then f o
 
--- the words that are left
+-- the remaining words
 abbrev pub words_in : Option (Bor (List ℕ)) → Words
 words_in None = []
 words_in (Some text) = words_of text.now
 
--- a value is read of words exactly where they tell it, unless no memory was found
+-- a value is read exactly if the words are its words, unless the call runs out of memory
 abbrev pub Reads : {A : Type 0} → (A → Type 0) → (A → Words) → Words → Result (Option A) Memory → Type 0
 Reads Holds words_for words (Ok (Some x)) = Holds x × (words ≡ words_for x)
 Reads {A} Holds words_for words (Ok None) = (x : A) → Holds x → words ≡ words_for x → ⊥

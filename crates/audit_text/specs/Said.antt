@@ -1,4 +1,4 @@
--- The code's own: what the words of a line tell behind the connection.
+-- The code's own: what the words of a line after the connection mean.
 use Rattle.std.specs.Prelude.{ℕ, ◌^◌, List, codes, Option, Some, None, if◌then◌else◌}
 use Rattle.std.specs.Str.{bytes_eq}
 use Rattle.engine_core.specs.declared.op.Op.{Op as Step}
@@ -116,9 +116,9 @@ refused_said words = do
   why ← cause_said seq.1
   Some (Refused seq.0 why)
 
--- ---- steps
+-- ---- operations
 
--- the label of a policy that was declared, as the last word, and the policy
+-- a declared label as the last word, and its policy
 unfoldable pub label_said : Declared → Words → Option (List ℕ × Policy)
 label_said declared words = do
   label ← name_said words

@@ -1,4 +1,4 @@
--- Which lines there are in an audit text (this project's own).
+-- The lines of an audit text (this project's own).
 use Rattle.std.specs.Prelude.{ℕ, List}
 use Rattle.mrpc_table.specs.declared.table.Table.{Table}
 use Rattle.policy_blocks.specs.Declarations.{Declared}
@@ -12,7 +12,7 @@ abbrev pub bytes_of : Table → AuditLine → List ℕ
 bytes_of T (lines.Happened x) = audit_line T x
 bytes_of T (lines.Stands conn seq position name holding) = stands_line conn seq position name holding
 
--- a line can be written, under a table and the policies that were declared
+-- a line can be written, under a table and declared policies
 abbrev pub IsLine : Table → Declared → AuditLine → Type 0
 IsLine T declared (lines.Happened x) = IsWritable T declared x
 IsLine T declared (lines.Stands conn seq position name holding) = IsStanding conn seq position name holding

@@ -1,6 +1,6 @@
--- Which happenings the audit text can tell: their numbers are in the ranges of their types, their names have the form
--- of a name, an operator's policy is the one that was declared under its label, and a copy is a normal tree whose
--- encoding has a length of 64 bits (this project's own).
+-- The events that have an audit line: numbers are in the ranges of their types, names have the form of a name, an
+-- operation's policy is the one declared under its label, and a copy is a normal tree whose encoding has fewer than
+-- 2^64 bytes (this project's own).
 use Rattle.std.specs.Prelude.{◌≡◌, ℕ, ◌<◌, ◌^◌, ◌⊎◌, List, IsTrue, length, Option, Some, None}
 use Rattle.mrpc_table.specs.Calls.{message_at}
 use Rattle.mrpc_table.specs.Names.{is_name_form}
@@ -28,9 +28,9 @@ use Rattle.audit_text.specs.declared.holding.Holding.{Holding}
 abbrev pub HasNameForm : List ℕ → Type 0
 HasNameForm name = IsTrue (is_name_form name)
 
--- ---- an operator's step
+-- ---- an operation
 
--- the policy is the one under the label
+-- the policy is the one declared under the label
 pub record IsDeclared (declared : Declared) (label : List ℕ) (policy : Policy) : Type 0 where
   pub form : HasNameForm label
   pub under : policy_under label declared ≡ Some policy
@@ -42,7 +42,7 @@ IsStep declared (Upgrade name label policy) = HasNameForm name × IsDeclared dec
 
 -- ---- an accepted call
 
--- what was taken of a call: a normal tree of its message, with an encoding of fewer than 2^64 bytes, or it is malformed
+-- a copy is a normal tree of the call's message, and its encoding has fewer than 2^64 bytes
 pub record IsCopy (T : Table) (call : Taken) (tree : Node) : Type 0 where
   pub method : call.method < length T.methods
   pub normal : IsNormal T (message_at T call.method call.number) tree
@@ -70,9 +70,9 @@ IsCause (cause.Rate name left cost) = HasNameForm name × (left < 2 ^ 64) × (co
 IsCause (cause.Quota name ticket cap) = HasNameForm name × (ticket < 2 ^ 64) × (cap < 2 ^ 64)
 IsCause cause.Transport = Unit {0}
 
--- ---- happenings
+-- ---- events
 
--- the text can tell what happened, under a table and the policies that were declared
+-- the event can be written, under a table and declared policies
 abbrev pub CanBeTold : Table → Declared → Happening → Type 0
 CanBeTold T declared (Took call) = IsAcceptance T call
 CanBeTold T declared (Away method number addr) = (method < 2 ^ 16) × (number < 2 ^ 32) × (addr < 2 ^ 64)
@@ -90,9 +90,9 @@ pub record IsWritable (T : Table) (declared : Declared) (x : Happened) : Type 0 
   pub conn : x.conn < 2 ^ 32
   pub told : CanBeTold T declared x.what
 
--- ---- calls that stand
+-- ---- pending calls
 
--- the name of an engine, or that of the queue for transport
+-- the name of an engine or of the transport queue
 abbrev pub IsQueueName : List ℕ → Type 0
 IsQueueName name = HasNameForm name ⊎ (name ≡ transport)
 
@@ -100,7 +100,7 @@ abbrev pub IsHolding : Option Holding → Type 0
 IsHolding None = Unit {0}
 IsHolding (Some holding) = (holding.level < 2 ^ 64) × (holding.cost < 2 ^ 64)
 
--- the numbers of a call that stands are in the ranges of their types, and its queue has a name
+-- the numbers of a pending call are in the ranges of their types, and its queue has a name
 pub record IsStanding (call_conn call_seq place : ℕ) (queue : List ℕ) (held : Option Holding) : Type 0 where
   pub conn : call_conn < 2 ^ 32
   pub seq : call_seq < 2 ^ 32

@@ -1,4 +1,4 @@
-//! Lines of acceptances.
+//! Lines of accepted calls.
 
 ghost use Rattle.std.specs.Prelude.{◌≡◌, ◌*◌, ◌<◌, ◌≤◌, ◌^◌, ℕ, [], ◌∷◌, Some, length, option_map, IfOk, IfSome};
 ghost use Rattle.std.specs.Str.{bytes_eq};
@@ -22,10 +22,10 @@ use std::alloc::Global;
 use wire_decode::{DecodeFault, decode, meaning_of_encoding};
 use wire_encode::{Output, encode_into};
 
-// How many bytes of a copy are read into a row at hand. For more, memory is taken.
+// Copies of up to this many bytes are read into an array on the stack. Longer ones need an allocation.
 const ROOM: usize = 128;
 
-// The numbers of an accepted call, as its line has them before the copy.
+// The numbers of an accepted call, in the order of its line, before the copy.
 #[derive(Clone, Copy)]
 pub(crate) struct CallNumbers {
     pub seq: u32,
@@ -36,7 +36,7 @@ pub(crate) struct CallNumbers {
     pub count: u64,
 }
 
-// `SEQ METHOD NUMBER ADDR AFTER COUNT`, and what is left.
+// Reads `SEQ METHOD NUMBER ADDR AFTER COUNT`, and returns the remainder too.
 #[tactic(auto, unfolding(crate::specs::Copies::head_said))]
 fn numbers(rest: Rest<'_>) -> Option<(CallNumbers, Rest<'_>)>
     ensures { option_map (λ p. (p.0, words_in p.1)) result ≡ head_said (words_in rest.entry) }
@@ -58,7 +58,7 @@ fn numbers(rest: Rest<'_>) -> Option<(CallNumbers, Rest<'_>)>
     Some((head, rest))
 }
 
-// The reason that a word names.
+// Returns the reason that a word names.
 fn reason_of(word: &[u8]) -> Option<Reason>
     ensures { result ≡ reason_said word.now }
 {
@@ -101,8 +101,8 @@ fn malformed(rest: Rest<'_>) -> Option<TookCopy>
     })
 }
 
-// The message whose encoding is these bytes. What they mean is encoded again, in the room of `out`, so that no other
-// bytes are taken.
+// Returns the message whose encoding these bytes are. Encodes it again, into `out`, to reject bytes that decode to a
+// message but aren't its encoding.
 fn meant(
     alloc: Global,
     out: &mut Output,
@@ -124,7 +124,7 @@ fn meant(
     }
 }
 
-// The message that bytes mean.
+// Decodes bytes; `None` if they have a decode fault.
 fn decoded(alloc: Global, bytes: &[u8], table: &Table, message: u32) -> Result<Option<Tree>, Memory>
     requires valid { IsValid table.now }
     requires known { message < length table.now.messages }
@@ -140,7 +140,7 @@ fn decoded(alloc: Global, bytes: &[u8], table: &Table, message: u32) -> Result<O
     }
 }
 
-// Whether bytes are the encoding of a message.
+// Returns true if bytes are the encoding of a message.
 fn is_encoding(
     out: &mut Output,
     bytes: &[u8],
@@ -157,7 +157,7 @@ fn is_encoding(
     Ok(bytes == out.as_slice())
 }
 
-// The message whose encoding a word spells, whose bytes are put into a row that is long enough.
+// Returns the message whose encoding a word spells in hexadecimal digits. `row` has room for its bytes.
 fn spelled(
     alloc: Global,
     out: &mut Output,
@@ -178,7 +178,7 @@ fn spelled(
     }
 }
 
-// The message whose encoding a word spells.
+// Returns the message whose encoding a word spells in hexadecimal digits.
 fn copied(
     alloc: Global,
     out: &mut Output,
@@ -199,7 +199,7 @@ fn copied(
     spelled(alloc, out, &mut row, word, table, message)
 }
 
-// The word of a copy, as the last one. (No other text spells an encoding: no space is a digit.)
+// Reads a copy as the last word. (The whole remainder may be passed as one word, since a space is no digit.)
 fn copy_at(
     alloc: Global,
     out: &mut Output,
@@ -218,7 +218,7 @@ fn copy_at(
     }
 }
 
-// What was taken of a call of a method. A copy has a method that the table has.
+// Reads the copy of an accepted call, or why it has none. A copy needs a method of the table.
 fn copy(
     alloc: Global,
     out: &mut Output,
@@ -248,7 +248,7 @@ fn copy(
     }
 }
 
-// An accepted call.
+// Reads an accepted call.
 pub(crate) fn taken(
     alloc: Global,
     out: &mut Output,

@@ -1,5 +1,5 @@
-//! What a text begins with: some bytes, a number or a name, and a byte behind it. A line that stands at the front of a
-//! text is read so before it is known where it ends.
+//! Reads the prefix of a text: given bytes, a number or a name, each with the byte after it. So a line is read before
+//! its end is known.
 
 ghost use Rattle.std.specs.Prelude.{◌≡◌, ◌<◌, ◌^◌, ◌++◌, ◌∷◌, IfSome};
 ghost use Rattle.std.specs.Fmt.{decimal};
@@ -8,7 +8,7 @@ ghost use Rattle.audit_text.specs.Writable.{HasNameForm};
 use crate::word::{behind_byte, front_number, is_word};
 use mrpc_table::is_name_form;
 
-// What stands behind some bytes with which a text begins.
+// Returns the remainder of a text after a prefix.
 #[inline(always)]
 pub(crate) fn behind<'a>(text: &'a [u8], front: &[u8]) -> Option<&'a [u8]>
     ensures { IfSome result (λ rest. text.now ≡ front.now ++ rest.now) }
@@ -20,7 +20,7 @@ pub(crate) fn behind<'a>(text: &'a [u8], front: &[u8]) -> Option<&'a [u8]>
     Some(&text[len..])
 }
 
-// A number of 64 bits with a byte behind it, and what stands behind that.
+// Reads a 64-bit number and the byte after it. Returns the number and the remainder.
 #[inline(always)]
 pub(crate) fn front64(text: &[u8], byte: u8) -> Option<(u64, &[u8])>
     ensures { IfSome result (λ r. (r.0 < 2 ^ 64) × (text.now ≡ decimal r.0 ++ byte ∷ r.1.now)) }
@@ -30,7 +30,7 @@ pub(crate) fn front64(text: &[u8], byte: u8) -> Option<(u64, &[u8])>
     Some((number, rest))
 }
 
-// A number of 32 bits with a byte behind it, and what stands behind that.
+// Reads a 32-bit number and the byte after it. Returns the number and the remainder.
 #[inline(always)]
 pub(crate) fn front32(text: &[u8], byte: u8) -> Option<(u32, &[u8])>
     ensures { IfSome result (λ r. (r.0 < 2 ^ 32) × (text.now ≡ decimal r.0 ++ byte ∷ r.1.now)) }
@@ -42,7 +42,7 @@ pub(crate) fn front32(text: &[u8], byte: u8) -> Option<(u32, &[u8])>
     Some((number as u32, rest))
 }
 
-// The bytes up to a space or a line feed, and what stands from there on.
+// Splits a text before its first space or line feed.
 #[inline(always)]
 fn front_word(text: &[u8]) -> (&[u8], &[u8])
     ensures { text.now ≡ result.0.now ++ result.1.now }
@@ -54,7 +54,7 @@ fn front_word(text: &[u8]) -> (&[u8], &[u8])
     (&text[..count], &text[count..])
 }
 
-// A name with a byte behind it, and what stands behind that.
+// Reads a name and the byte after it. Returns the name and the remainder.
 #[inline(always)]
 pub(crate) fn front_name(text: &[u8], byte: u8) -> Option<(&[u8], &[u8])>
     ensures { IfSome result (λ r. HasNameForm r.0.now × (text.now ≡ r.0.now ++ byte ∷ r.1.now)) }

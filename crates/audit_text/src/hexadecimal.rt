@@ -1,5 +1,5 @@
-//! Bytes by their hexadecimal digits, in lower case alone, as audit lines have them. (`hex::decode` reads either case, so
-//! that digits would have to be looked at a second time, and takes memory for the bytes.)
+//! Bytes from hexadecimal digits, lower case alone, as in audit lines. (`hex::decode` accepts upper case too, so digits
+//! would have to be checked a second time, and it allocates the bytes.)
 
 ghost use Rattle.std.specs.Prelude.{◌≡◌, ◌*◌, ◌<◌, ◌≤◌, ℕ, List, length, slice_index, take, MatchOption};
 ghost use Rattle.hex.specs.Hex.{IsBytes, encode_lower, lower_digits};
@@ -8,7 +8,7 @@ ghost use Rattle.audit_text.specs.Lines.{hex_word};
 
 use crate::word::is_word;
 
-// The value of each digit, and for each byte that is none a number that is no value.
+// The value of each digit, and a number that is no value for each other byte.
 const VALUES: [u8; 256] = [
     255, 255, 255, 255, 255, 255, 255, 255, 255, 255, 255, 255, 255, 255, 255, 255, 255, 255, 255,
     255, 255, 255, 255, 255, 255, 255, 255, 255, 255, 255, 255, 255, 255, 255, 255, 255, 255, 255,
@@ -26,7 +26,7 @@ const VALUES: [u8; 256] = [
     255, 255, 255, 255,
 ];
 
-// The value of a digit.
+// Returns the value of a digit.
 #[inline(always)]
 fn value_of(digit: u8) -> Option<u8>
     ensures { MatchOption result ((value : ℕ) → value < 16 → digit ≡ slice_index lower_digits value → ⊥)
@@ -36,7 +36,7 @@ fn value_of(digit: u8) -> Option<u8>
     if value < 16 { Some(value) } else { None }
 }
 
-// The byte whose digits a word begins with, and what stands behind them.
+// Reads the first two digits of a word as a byte. Returns the byte and the remainder.
 #[inline(always)]
 fn front_byte(word: &[u8]) -> Option<(u8, &[u8])>
     ensures { MatchOption result ((byte : ℕ) (rest : List ℕ) → byte < 256 → word.now ≡ with_digits byte rest → ⊥)
@@ -50,7 +50,7 @@ fn front_byte(word: &[u8]) -> Option<(u8, &[u8])>
     Some((high * 16 + low, others))
 }
 
-// Puts the bytes whose digits a word has at the front of a row, and says how many they are.
+// Decodes the digits of a word into the prefix of a row, and returns the number of bytes.
 fn read_digits(row: &mut [u8], word: &[u8]) -> Option<usize>
     requires { length word.now ≤ 2 * length row.old }
     ensures { MatchOption result ((bytes : List ℕ) → IsBytes bytes → word.now ≡ encode_lower bytes → ⊥)
@@ -67,8 +67,8 @@ fn read_digits(row: &mut [u8], word: &[u8]) -> Option<usize>
     if left.is_empty() { Some(count) } else { None }
 }
 
-// Puts the bytes that a word spells at the front of a row, and says how many they are: none where the word is `-`. `None`
-// comes where it spells no bytes.
+// Decodes a word into the prefix of a row, and returns the number of bytes: 0 if the word is `-`. Returns `None` if the
+// word spells no bytes.
 pub(crate) fn read_bytes(row: &mut [u8], word: &[u8]) -> Option<usize>
     requires { length word.now ≤ 2 * length row.old }
     ensures { MatchOption result ((bytes : List ℕ) → IsBytes bytes → word.now ≡ hex_word bytes → ⊥)

@@ -1,6 +1,6 @@
-//! Calls that are held.
+//! Held calls.
 
-/// A rate policy holds a call: the level of its bucket is below the cost.
+/// The level of a rate policy's bucket and the cost of a call that the policy holds: the level is below the cost.
 #[derive(Clone, Copy)]
 pub struct Holding {
     pub level: u64,

@@ -1,4 +1,4 @@
-//! Laws of the audit text. These functions do nothing; their clauses hold.
+//! Laws of the audit text. These functions do nothing; each contract is a law.
 
 ghost use Rattle.std.specs.Prelude.{◌≡◌, ◌≢◌, ◌++◌, ℕ, List, All, Option};
 ghost use Rattle.mrpc_table.specs.Valid.{IsValid};
@@ -13,8 +13,8 @@ ghost use Rattle.audit_text.specs.declared.holding.Holding.{Holding};
 
 use wire_decode::{meaning_of_encoding, one_meaning};
 
-/// Under a valid table and declared policies a text tells one history at most, of those that can be told: the line at
-/// its front tells one happening, and what stands behind it.
+/// Under a valid table and declared policies, a text is the audit of at most one history of writable events. Its first
+/// line determines one event and the remainder.
 pub fn a_text_has_one_history()
     ensures front { (T : Table) (declared : Declared) (x y : Happened) (a b : List ℕ) → IsValid T
         → IsWritable T declared x → IsWritable T declared y → audit_line T x ++ a ≡ audit_line T y ++ b
@@ -26,8 +26,8 @@ pub fn a_text_has_one_history()
     one_meaning();
 }
 
-/// Under a valid table a text is never both that of a history that can be told and one with a first line that is none of
-/// one, and it has one such line at most.
+/// Under a valid table, a text has at most one first invalid line, and none if it is the audit of a history of writable
+/// events.
 pub fn a_text_has_one_bad_line()
     ensures bad { (T : Table) (declared : Declared) (text : List ℕ) (line other : ℕ) → IsValid T
         → IsFirstBad T declared text line → IsFirstBad T declared text other → line ≡ other }
@@ -37,7 +37,7 @@ pub fn a_text_has_one_bad_line()
     a_text_has_one_history();
 }
 
-/// A line of a call that stands is never that of a happening, and tells one call.
+/// The line of a pending call is never the line of an event, and it determines the call.
 pub fn a_stands_line_tells_one_call()
     ensures apart { (T : Table) (x : Happened) (conn seq position : ℕ) (name : List ℕ) (holding : Option Holding)
         → stands_line conn seq position name holding ≢ audit_line T x }
@@ -47,7 +47,7 @@ pub fn a_stands_line_tells_one_call()
         → (conn ≡ conn') × (seq ≡ seq') × (position ≡ position') × (name ≡ name') × (holding ≡ holding') }
 {}
 
-/// A line has one line feed, at its end, and is cut into its words at its blanks.
+/// A line has one line feed, at its end, and splits into its words at its spaces.
 pub fn a_line_is_cut_into_its_words()
     ensures happening { (T : Table) (declared : Declared) (x : Happened) → IsValid T → IsWritable T declared x
         → IsCutInto (happening_words T x.conn x.what) }

@@ -1,17 +1,19 @@
-//! The audit text of histories: a line for each happening, and the lines of the calls that stand (this project's own
-//! format). It is written and read here.
+//! The audit text of histories: one line for each event, and one for each pending call (this project's own format). The
+//! crate writes and reads it.
 //!
-//! `specs/Lines.antt` says which line tells a happening, `specs/Writable.antt` which happenings a text can tell, under
-//! the policies that were declared. [`append_record`] and the others write lines. [`read_brief`] reads most lines where a
-//! text begins with them, before it is known where they end. [`read_line`] cuts a line into words, which are read one
-//! after another: the bytes that a copy's digits spell are decoded, what they mean is encoded again, and the line is one
-//! of an acceptance only where that gives the same bytes. `specs/Told.antt` says which lines there are, and
-//! `specs/Faults.antt` which line of a text is the first that is none of a history. A line is written and read in time
-//! in proportion to it, but for the look-up of a step's policy by its label and the copy of that policy.
+//! `specs/Lines.antt` defines the line of an event, and `specs/Writable.antt` which events have a line, given the
+//! declared policies. `specs/Told.antt` defines all lines, and `specs/Faults.antt` the first line of a text that isn't
+//! an event's.
 //!
-//! It stands on histories, on what is declared, and on the encoding and its meaning. The layers above use three
-//! contracts: what is appended for a happening is its line; a text tells one history; and a line is read exactly where
-//! it is one that can be written, and a text exactly where it is that of a history that can be told.
+//! [`append_record`] and the other `append_*` calls write lines. [`read_brief`] reads the most frequent lines directly
+//! from the prefix of a text, without finding their end first. [`read_line`] splits a line into words and reads them
+//! one after another. It decodes the bytes of a copy and encodes the message again; the line is an acceptance only if
+//! that yields the same bytes. Reading and writing take linear time, apart from the look-up of a policy by its label
+//! and the copy of that policy.
+//!
+//! The crate depends on histories, on declarations, and on the encoding and its meaning. It has three contracts for the
+//! layers above. What is appended for an event is its line. A text is the audit of at most one history. A line is read
+//! exactly if it can be written, and a text exactly if it is the audit of a history of writable events.
 #![tactic(auto)]
 
 mod copy;

@@ -26,31 +26,31 @@ use wire_encode::Output;
 /// A line of an audit text.
 #[derive(Drop)]
 pub enum AuditLine {
-    /// A happening, with its connection.
+    /// An event and its connection.
     Happened(Happened),
-    /// A call that stands in the queue of an engine, or in that for transport, whose name is `-`.
+    /// A pending call in the queue of an engine, or in the transport queue, whose name is `-`.
     Stands {
         /// The connection.
         conn: u32,
         /// The number of the call.
         seq: u32,
-        /// The engine's position on the chain, from 0.
+        /// The engine's position in the chain, counted from 0.
         position: u32,
-        /// The engine's name.
+        /// The name of the engine, or `-`.
         name: Name,
-        /// At which level and cost the call is held, if it is.
+        /// The level and cost at which the call is held; `None` if it isn't held.
         holding: Option<Holding>,
     },
 }
 
-// Whether a word is the name of an engine, or that of the queue for transport.
+// Returns true if a word is the name of an engine or of the transport queue.
 fn is_queue_name(word: &[u8]) -> bool
     ensures { result ≡ is_queue_name word.now }
 {
     is_name_form(word) || is_word(word, b"-")
 }
 
-// `held LEVEL COST`, or nothing.
+// Reads `held LEVEL COST`, or nothing.
 #[tactic(auto, unfolding(crate::specs::LineWords::holding_said))]
 fn holding(rest: Rest<'_>) -> Option<Option<Holding>>
     ensures { result ≡ holding_said (words_in rest.entry) }
@@ -66,7 +66,7 @@ fn holding(rest: Rest<'_>) -> Option<Option<Holding>>
     Some(Some(Holding { level, cost }))
 }
 
-// `SEQ POSITION NAME`, and whether the call is held.
+// Reads `SEQ POSITION NAME`, and whether the call is held.
 #[tactic(auto, unfolding(crate::specs::LineWords::stands_said))]
 fn stands(alloc: Global, conn: u32, rest: Rest<'_>) -> Result<Option<AuditLine>, Memory>
     ensures { IfOk result (λ x. x ≡ stands_said conn (words_in rest.entry)) }
@@ -96,7 +96,7 @@ fn stands(alloc: Global, conn: u32, rest: Rest<'_>) -> Result<Option<AuditLine>,
     }))
 }
 
-// A happening of a kind, by the words behind the connection.
+// Reads an event of a kind from the words after the connection.
 fn what(
     alloc: Global,
     encoding: &mut Output,
@@ -129,7 +129,7 @@ fn what(
     }
 }
 
-// A line, by its words.
+// Reads a line from its words.
 fn line_of(
     alloc: Global,
     encoding: &mut Output,
@@ -158,7 +158,7 @@ fn line_of(
     }
 }
 
-// What stands before the line feed at the end.
+// Returns the line without the line feed at its end.
 pub(crate) fn before_feed(line: &[u8]) -> Option<&[u8]>
     ensures { MatchOption result ((front : List ℕ) → line.now ≡ front ++ 10 ∷ [] → ⊥)
         (λ text. line.now ≡ text.now ++ 10 ∷ []) }
@@ -169,13 +169,14 @@ pub(crate) fn before_feed(line: &[u8]) -> Option<&[u8]>
     }
 }
 
-/// The line that the bytes are, with its line feed, under a table and the policies that were declared.
+/// Reads a line, with its line feed, under a table and declared policies.
 ///
-/// `None` comes exactly where they are no line that can be written: hexadecimal digits are lower-case, and those of the
-/// encoding of a normal tree of the method's message, numbers are decimal without sign or leading zero and in the
-/// ranges of their types, names have their form, and a step's label is one that was declared. The only error is
-/// `Memory`. Copies are encoded in the room of `encoding`, whatever stands in it, so that many lines take memory for it
-/// once.
+/// Returns `None` exactly if the bytes are no line that can be written. Hexadecimal digits are lower-case, and spell
+/// the encoding of a normal tree of the method's message. Numbers are decimal, without sign or leading zero, and in the
+/// ranges of their types. Names have the form of a name, and the label of an operation is a declared one. The only
+/// error is `Memory`.
+///
+/// Copies are encoded into `encoding`, which is overwritten, so that many lines share one allocation.
 pub fn read_line(
     alloc: Global,
     encoding: &mut Output,

@@ -1,4 +1,4 @@
-//! The history that a text tells.
+//! Reads the history of an audit text.
 
 ghost use Rattle.std.specs.Prelude.{◌≡◌, ◌≢◌, ◌+◌, ◌<◌, ◌≤◌, ◌++◌, ◌∷◌, ◌⊎◌, ℕ, List, [], All, IfOk, IfErr, IfSome, MatchOption, MatchResult, length};
 ghost use Rattle.mrpc_table.specs.Valid.{IsValid};
@@ -18,13 +18,13 @@ use std::alloc::Global;
 use thiserror::Error;
 use wire_encode::Output;
 
-/// Why a text isn't read as a history.
+/// Why a text can't be read as a history.
 #[derive(Clone, Copy, Debug, PartialEq, Eq, Error)]
 pub enum AuditFault {
-    /// The text is that of no history: this line, counted from 1, is the first that is none of one.
+    /// The text isn't the audit of a history. This line, counted from 1, is the first that isn't an event's.
     #[error("line {line} is no line of a history")]
     Bad { line: u64 },
-    /// No memory was found.
+    /// Out of memory.
     #[error("out of memory")]
     Memory,
 }
@@ -37,7 +37,7 @@ impl From<Memory> for AuditFault {
     }
 }
 
-// The place behind the first line feed of a text, or its end where there is none.
+// Returns the offset after the first line feed of a text, or the text's length if it has none.
 fn line_end(text: &[u8]) -> usize
     ensures first { (front behind : List ℕ) → text.now ≡ front ++ 10 ∷ behind → All (λ c. c ≢ 10) front
         → result ≡ length front + 1 }
@@ -50,7 +50,7 @@ fn line_end(text: &[u8]) -> usize
     }
 }
 
-// The first line of a text, with its line feed if it has one, and what stands behind it.
+// Splits a text after its first line. The line keeps its line feed, if it has one.
 fn first_line(text: &[u8]) -> (&[u8], &[u8])
     ensures joined { text.now ≡ result.0.now ++ result.1.now }
     ensures ends { (front behind : List ℕ) → text.now ≡ front ++ 10 ∷ behind → All (λ c. c ≢ 10) front
@@ -61,7 +61,7 @@ fn first_line(text: &[u8]) -> (&[u8], &[u8])
     (&text[..end], &text[end..])
 }
 
-// The happening of a line, if it is one of a happening.
+// Returns the event of a line, if it has one.
 fn happening_in(line: Option<AuditLine>) -> Option<Happened>
     ensures { result ≡ happening_in line }
 {
@@ -72,7 +72,7 @@ fn happening_in(line: Option<AuditLine>) -> Option<Happened>
     }
 }
 
-// The happening whose line stands at the front of a text, and what stands behind it; none where no such line does.
+// Reads the event whose line is a prefix of a text. Returns it with the remainder; `None` if there is no such event.
 fn front_happening<'a>(
     alloc: Global,
     encoding: &mut Output,
@@ -95,10 +95,12 @@ fn front_happening<'a>(
     }
 }
 
-/// The history that a text tells, under a table and the policies that were declared.
+/// Reads the history whose audit a text is, under a table and declared policies.
 ///
-/// `Bad` comes exactly where the text is that of no history that can be told, with the first line that is none of one.
-/// `Memory` comes only where no memory was found.
+/// # Errors
+///
+/// `Bad` comes exactly if the text is the audit of no history of writable events, and has its first line that isn't an
+/// event's. `Memory` means out of memory.
 pub fn read_audit(
     alloc: Global,
     text: &[u8],

@@ -1,4 +1,4 @@
-//! The lines of what a history keeps.
+//! Lines of the records that a history keeps.
 
 ghost use Rattle.std.specs.Prelude.{◌≡◌, ◌<◌, ◌∷◌, ◌++◌, codes, length, slice_get, OnOk, Some};
 ghost use Rattle.std.specs.Fmt.{decimal};
@@ -19,8 +19,8 @@ use engine_core::{Op, Policy};
 use mrpc_table::{Bytes, Memory, Table};
 use wire_encode::Output;
 
-/// Appends the audit line of what happened at a place, from 0, of the history of a connection, with its line feed. No
-/// name is copied, and a copy is encoded into `encoding`, whose room is used again. The only error is `Memory`.
+/// Appends the audit line of the event at an index, from 0, of a connection's history, with its line feed. It copies no
+/// names, and encodes a copy into `encoding`, whose capacity is reused. The only error is `Memory`.
 pub fn append_record(
     out: &mut Bytes,
     encoding: &mut Output,
@@ -38,7 +38,7 @@ pub fn append_record(
     append_kept(out, encoding, conn, history, history.at(place), table)
 }
 
-// The line of what a record tells.
+// Appends the line of a record.
 fn append_kept(
     out: &mut Bytes,
     encoding: &mut Output,
@@ -87,7 +87,7 @@ fn append_kept(
     }
 }
 
-// The line of a refusal.
+// Appends the line of a refusal.
 fn append_kept_refusal(
     out: &mut Bytes,
     conn: u32,
@@ -126,7 +126,7 @@ fn append_kept_refusal(
     out.push(b'\n')
 }
 
-// The name in a step of an operator.
+// The entry's name in an operation.
 fn name_at(history: &History, step: usize) -> &[u8]
     requires { step < length history.now.steps }
     ensures { result.now ≡ name_in (step_at history.now.steps step) }
@@ -138,7 +138,7 @@ fn name_at(history: &History, step: usize) -> &[u8]
     }
 }
 
-// The name of a rule of the policy that a step puts in.
+// The name of a rule of the policy that an operation installs.
 fn rule_at(history: &History, step: usize, rule: u32) -> &[u8]
     requires there { step < length history.now.steps }
     requires rule { HasRule (step_at history.now.steps step) rule }
@@ -151,7 +151,7 @@ fn rule_at(history: &History, step: usize, rule: u32) -> &[u8]
     }
 }
 
-// The name of a rule of a policy of rules.
+// The name of a rule of an access policy.
 fn rule_name(policy: &Policy, rule: u32) -> &[u8]
     requires { IsRuleOf policy.now rule }
     ensures { result.now ≡ rule_of policy.now rule }

@@ -1,4 +1,4 @@
-//! Rows of bytes that are written from the last byte to the first, since so the digits of a number come.
+//! Rows of bytes that are filled from their end, because the digits of a number come last digit first.
 
 ghost use Rattle.std.specs.Prelude.{◌≡◌, ◌≤◌, ◌∷◌, ◌++◌, [], IfSome, drop, length, map};
 ghost use Rattle.std.specs.Fmt.{decimal};
@@ -7,7 +7,7 @@ ghost use Rattle.mrpc_table.specs.Text.{line};
 ghost use Rattle.audit_text.specs.Pieces.{note_line};
 ghost use Rattle.wire_encode.specs.Written.{StandBefore};
 
-// Writes a byte in front of what stands from `end` on, and says where it stands; none where no room is left.
+// Writes a byte before `end`. Returns its index; `None` if there is no room.
 #[inline(always)]
 pub(crate) fn put_byte(row: &mut [u8], end: usize, byte: u8) -> Option<usize>
     requires { end ≤ length row.old }
@@ -20,7 +20,7 @@ pub(crate) fn put_byte(row: &mut [u8], end: usize, byte: u8) -> Option<usize>
     Some(end - 1)
 }
 
-// The same for bytes.
+// Like `put_byte`, for several bytes.
 #[inline(always)]
 pub(crate) fn put_bytes(row: &mut [u8], end: usize, bytes: &[u8]) -> Option<usize>
     requires { end ≤ length row.old }
@@ -34,7 +34,7 @@ pub(crate) fn put_bytes(row: &mut [u8], end: usize, bytes: &[u8]) -> Option<usiz
     Some(start)
 }
 
-// The same for the digits of a decimal number, behind a space.
+// Like `put_byte`, for a space and the digits of a decimal number.
 pub(crate) fn put_number(row: &mut [u8], end: usize, number: u64) -> Option<usize>
     requires { end ≤ length row.old }
     ensures { IfSome result (λ start. StandBefore row.old row.new end start (32 ∷ decimal number)) }
@@ -49,7 +49,7 @@ pub(crate) fn put_number(row: &mut [u8], end: usize, number: u64) -> Option<usiz
     put_byte(row, start, b' ')
 }
 
-// The same for numbers, each behind a space.
+// Like `put_number`, for several numbers.
 #[inline(always)]
 pub(crate) fn put_numbers(row: &mut [u8], end: usize, numbers: &[u64]) -> Option<usize>
     requires { end ≤ length row.old }
@@ -62,7 +62,7 @@ pub(crate) fn put_numbers(row: &mut [u8], end: usize, numbers: &[u64]) -> Option
     Some(start)
 }
 
-// The same for what a line begins with, and numbers behind it.
+// Like `put_numbers`, with a prefix before the numbers.
 #[inline(always)]
 pub(crate) fn put_front(row: &mut [u8], end: usize, front: &[u8], numbers: &[u64]) -> Option<usize>
     requires { end ≤ length row.old }
@@ -72,7 +72,7 @@ pub(crate) fn put_front(row: &mut [u8], end: usize, front: &[u8], numbers: &[u64
     put_bytes(row, start, front)
 }
 
-// The same at the end of a row for a line of a word and numbers.
+// Fills the end of a row with the line of a word and numbers. Returns its index; `None` if there is no room.
 pub(crate) fn put_line(row: &mut [u8], word: &[u8], numbers: &[u64]) -> Option<usize>
     ensures { IfSome result (λ start. StandBefore row.old row.new (length row.old) start (line (word.now ∷ map decimal numbers.now))) }
 {
@@ -81,7 +81,7 @@ pub(crate) fn put_line(row: &mut [u8], word: &[u8], numbers: &[u64]) -> Option<u
     put_front(row, feed, word, numbers)
 }
 
-// The same for the line of what an entry noted of a call.
+// Like `put_line`, for the line of an entry's note on a call.
 pub(crate) fn put_note(
     row: &mut [u8],
     word: &[u8],

@@ -1,4 +1,4 @@
-//! Lines that are read without memory: what was noted of a call, and that it was sent. Most lines of an audit are such.
+//! Lines that are read without allocation: notes on a call, and sends. Most lines of an audit are of these kinds.
 
 ghost use Rattle.std.specs.Prelude.{◌≡◌, ◌∷◌, ◌++◌, IfSome};
 ghost use Rattle.mrpc_table.specs.declared.table.Table.{Table};
@@ -13,43 +13,43 @@ ghost use Rattle.audit_text.specs.declared.what.Kind.TheVariants as kinds;
 use crate::front::{behind, front_name, front32, front64};
 use crate::what::Kind;
 
-/// What became of a call, as its line tells it: a name stands where the line has it. Each is a happening of its own
-/// name (`told_by` of `specs/Briefs.antt`).
+/// A note on a call, or its send, as read from its line, with a borrowed name. Each corresponds to an event with an
+/// owned name (`told_by` of `specs/Briefs.antt`).
 #[derive(Clone, Copy)]
 pub enum Brief<'a> {
-    /// An engine has charged the call, and has this level left.
+    /// An engine charged the call, and its bucket then has this level.
     Charged {
         seq: u32,
         name: &'a [u8],
         level: u64,
     },
-    /// An engine has drawn a ticket for the call, in a window.
+    /// An engine drew a ticket for the call, in a window.
     Drawn {
         seq: u32,
         name: &'a [u8],
         window: u64,
         ticket: u64,
     },
-    /// An engine has counted the call.
+    /// An engine counted the call.
     Counted {
         seq: u32,
         name: &'a [u8],
     },
-    /// The call was sent, in a frame of so many bytes.
+    /// The call was sent in a frame of this many bytes.
     Sent {
         seq: u32,
         bytes: u64,
     },
 }
 
-/// The same, with its connection.
+/// A [`Brief`] with its connection.
 #[derive(Clone, Copy)]
 pub struct BriefLine<'a> {
     pub conn: u32,
     pub what: Brief<'a>,
 }
 
-// `SEQ NAME LEVEL`, and what stands behind the line.
+// Reads `SEQ NAME LEVEL`, and returns the remainder after the line too.
 fn charged(text: &[u8]) -> Option<(Brief<'_>, &[u8])>
     ensures { IfSome result (λ r. IsToldBefore kinds.Charged text.now r.0 r.1.now) }
 {
@@ -59,7 +59,7 @@ fn charged(text: &[u8]) -> Option<(Brief<'_>, &[u8])>
     Some((Brief::Charged { seq, name, level }, rest))
 }
 
-// `SEQ NAME WINDOW TICKET`, in the same way.
+// Like `charged`, for `SEQ NAME WINDOW TICKET`.
 fn drawn(text: &[u8]) -> Option<(Brief<'_>, &[u8])>
     ensures { IfSome result (λ r. IsToldBefore kinds.Drawn text.now r.0 r.1.now) }
 {
@@ -76,7 +76,7 @@ fn drawn(text: &[u8]) -> Option<(Brief<'_>, &[u8])>
     Some((what, rest))
 }
 
-// `SEQ NAME`, in the same way.
+// Like `charged`, for `SEQ NAME`.
 fn counted(text: &[u8]) -> Option<(Brief<'_>, &[u8])>
     ensures { IfSome result (λ r. IsToldBefore kinds.Counted text.now r.0 r.1.now) }
 {
@@ -85,7 +85,7 @@ fn counted(text: &[u8]) -> Option<(Brief<'_>, &[u8])>
     Some((Brief::Counted { seq, name }, rest))
 }
 
-// `SEQ BYTES`, in the same way.
+// Like `charged`, for `SEQ BYTES`.
 fn sent(text: &[u8]) -> Option<(Brief<'_>, &[u8])>
     ensures { IfSome result (λ r. IsToldBefore kinds.Sent text.now r.0 r.1.now) }
 {
@@ -94,7 +94,8 @@ fn sent(text: &[u8]) -> Option<(Brief<'_>, &[u8])>
     Some((Brief::Sent { seq, bytes }, rest))
 }
 
-// The kind whose word a text begins with, where lines of it take no memory, and what stands behind its space.
+// Reads the first word of a line and its space, if it names a kind that is read without allocation. Returns the kind
+// and the remainder.
 #[inline(always)]
 fn front_kind(text: &[u8]) -> Option<(Kind, &[u8])>
     ensures { IfSome result (λ r. text.now ≡ kind_word r.0 ++ 32 ∷ r.1.now) }
@@ -112,7 +113,7 @@ fn front_kind(text: &[u8]) -> Option<(Kind, &[u8])>
     Some((Kind::Sent, rest))
 }
 
-// What the words behind the connection tell, where they are of a kind that takes no memory.
+// Reads the words after the connection, if they are of a kind that is read without allocation.
 fn told_of_kind(kind: Kind, text: &[u8]) -> Option<(Brief<'_>, &[u8])>
     ensures { IfSome result (λ r. IsToldBefore kind text.now r.0 r.1.now) }
 {
@@ -125,9 +126,8 @@ fn told_of_kind(kind: Kind, text: &[u8]) -> Option<(Brief<'_>, &[u8])>
     }
 }
 
-/// What the line tells with which a text begins, where it is a line of an audit text that notes something of a call or
-/// tells that it was sent, and what stands behind its line feed. It takes no memory. Where nothing comes, as of any other
-/// line, [`read_line`](crate::read_line) reads it.
+/// Reads the first line of a text, if it is a note on a call or a send. Returns it with the remainder after its line
+/// feed. It allocates no memory. `None` claims nothing of the line; use [`read_line`](crate::read_line) then.
 pub fn read_brief(text: &[u8]) -> Option<(BriefLine<'_>, &[u8])>
     ensures told { IfSome result (λ r. (T : Table) (declared : Declared)
         → text.now ≡ audit_line T (told_in r.0) ++ r.1.now) }

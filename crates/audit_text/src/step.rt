@@ -1,4 +1,4 @@
-//! Lines of an operator's steps.
+//! Lines of an operator's operations.
 
 ghost use Rattle.std.specs.Prelude.{◌≡◌, IfOk};
 ghost use Rattle.std.specs.Option.{option_copied};
@@ -12,7 +12,7 @@ use mrpc_table::{Memory, Name};
 use policy_blocks::Declarations;
 use std::alloc::Global;
 
-// The policy that was declared under a label.
+// Returns the policy that was declared under a label.
 fn policy_under<'a>(declared: &'a Declarations, label: &[u8]) -> Option<&'a Policy>
     ensures { option_copied result ≡ policy_under label.now declared.now }
 {
@@ -20,7 +20,7 @@ fn policy_under<'a>(declared: &'a Declarations, label: &[u8]) -> Option<&'a Poli
     Some(&declared.policies().get(place)?.policy)
 }
 
-// The label of a policy that was declared, as the last word, and the policy.
+// Reads a declared label as the last word, and returns it with its policy.
 #[tactic(auto, unfolding(crate::specs::Said::label_said))]
 fn labelled(
     alloc: Global,
@@ -100,7 +100,7 @@ fn upgrade(alloc: Global, rest: Rest<'_>, declared: &Declarations) -> Result<Opt
     }))
 }
 
-// What an operator did.
+// Reads an operation.
 #[tactic(auto, unfolding(crate::specs::Said::step_said))]
 pub(crate) fn step(
     alloc: Global,

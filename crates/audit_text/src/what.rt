@@ -1,4 +1,4 @@
-//! What the words of a line tell behind the connection.
+//! Reads the words of an event after the connection.
 
 ghost use Rattle.std.specs.Prelude.{◌≡◌, ◌^◌, IfOk, option_map};
 ghost use Rattle.audit_text.specs.Kinds.{kind_said};
@@ -10,7 +10,7 @@ use call_history::{Cause, Happening};
 use mrpc_table::{Memory, Name};
 use std::alloc::Global;
 
-// What the first word of a line says that it tells.
+// The kind of a line, by its first word.
 #[derive(Clone, Copy)]
 pub(crate) enum Kind {
     Took,
@@ -26,7 +26,7 @@ pub(crate) enum Kind {
 }
 
 impl Kind {
-    // The kind that a word names. (Those that most lines are of come first.)
+    // Returns the kind that a word names. (The most frequent kinds are compared first.)
     pub(crate) fn of_word(word: &[u8]) -> Option<Kind>
         ensures { result ≡ kind_said word.now }
     {
@@ -90,7 +90,7 @@ pub(crate) fn sent(rest: Rest<'_>) -> Option<Happening>
     Some(Happening::Sent { seq, bytes })
 }
 
-// `SEQ NAME`, and what is left.
+// Reads `SEQ NAME`, and returns the remainder too.
 #[tactic(auto, unfolding(crate::specs::Said::noted_said))]
 pub(crate) fn noted(rest: Rest<'_>) -> Option<(u32, &[u8], Rest<'_>)>
     ensures { option_map (λ p. (p.0, p.1.now, words_in p.2)) result ≡ noted_said (words_in rest.entry) }
@@ -194,7 +194,7 @@ fn access(alloc: Global, rest: Rest<'_>) -> Result<Option<Cause>, Memory>
     }))
 }
 
-// A name and two numbers, of a refusal by an entry that counts.
+// Reads the name and the two numbers of a refusal by a rate or quota entry.
 #[tactic(auto, unfolding(crate::specs::Said::by_entry_said))]
 fn by_entry(rest: Rest<'_>) -> Option<(&[u8], u64, u64)>
     ensures { option_map (λ p. (p.0.now, p.1, p.2)) result ≡ by_entry_said (words_in rest.entry) }
@@ -229,7 +229,7 @@ fn quota(alloc: Global, rest: Rest<'_>) -> Result<Option<Cause>, Memory>
     Ok(Some(Cause::Quota { name, ticket, cap }))
 }
 
-// Why a call was refused.
+// Reads the cause of a refusal.
 #[tactic(auto, unfolding(crate::specs::Said::cause_said))]
 fn cause(alloc: Global, rest: Rest<'_>) -> Result<Option<Cause>, Memory>
     ensures { IfOk result (λ x. x ≡ cause_said (words_in rest.entry)) }

@@ -10,11 +10,11 @@ ghost use Rattle.audit_text.specs.Reading.{end_said, first_said, last_said, name
 
 use mrpc_table::{Decimal, cut, is_name_form, number_of};
 
-// What is left of a line behind some of its words: the words behind a space, or nothing.
+// The remainder of a line after some of its words: the text after a space, or `None` at the end of the line.
 pub(crate) type Rest<'a> = Option<&'a [u8]>;
 
-// Whether a word is this one. (Words of lines are short, and most differ in their length or in their first byte, so that
-// they are compared byte by byte: `is_word` of `mrpc_table` looks at many bytes at once, as serves longer ones.)
+// Returns true if a word is the expected one. (Words of lines are short, and most differ in length or in the first
+// byte, so a loop over bytes is faster than `is_word` of `mrpc_table`, which serves longer ones.)
 #[inline(always)]
 pub(crate) fn is_word(word: &[u8], expected: &[u8]) -> bool
     ensures { result ≡ bytes_eq word.now expected.now }
@@ -32,7 +32,7 @@ pub(crate) fn is_word(word: &[u8], expected: &[u8]) -> bool
     true
 }
 
-// The first word, and what is left behind it.
+// Returns the first word, and the remainder after it.
 pub(crate) fn next(rest: Rest<'_>) -> Option<(&[u8], Rest<'_>)>
     ensures { option_map (λ p. (p.0.now, words_in p.1)) result ≡ first_said (words_in rest.entry) }
 {
@@ -43,7 +43,7 @@ pub(crate) fn next(rest: Rest<'_>) -> Option<(&[u8], Rest<'_>)>
     }
 }
 
-// Nothing is left.
+// Succeeds if nothing remains.
 pub(crate) fn end(rest: Rest<'_>) -> Option<()>
     ensures { result ≡ end_said (words_in rest.entry) }
 {
@@ -53,13 +53,13 @@ pub(crate) fn end(rest: Rest<'_>) -> Option<()>
     }
 }
 
-// Most numbers have one to four digits, and a call whose result has several words costs as much as some digits. So what
-// reads a number stands where it is read, but for the way of other words.
+// Most numbers have one to four digits, and a call that returns several words costs as much as some digits. So the fast
+// path for numbers is inlined; the slow path isn't.
 
-// So many digits spell a number of 64 bits, whichever they are.
+// Any number of this many digits fits 64 bits.
 const FEW_DIGITS: usize = 19;
 
-// Whether digits are a number: there are some, and no zero stands in front of others.
+// Returns true if digits are a number: there is at least one, and no leading zero before others.
 #[inline(always)]
 fn is_number(digits: &[u8]) -> bool
     requires { list_all is_ascii_digit digits.now ≡ true }
@@ -71,8 +71,7 @@ fn is_number(digits: &[u8]) -> bool
     }
 }
 
-// The number that the first digits of a text spell, at most 19 of them, and what stands behind these; none where they
-// are no number.
+// Reads up to 19 leading digits of a text as a number. Returns it with the remainder; `None` if they aren't a number.
 #[inline(always)]
 pub(crate) fn front_number(text: &[u8]) -> Option<(u64, &[u8])>
     ensures { IfSome result (λ r. IsNumberBefore text.now r.0 r.1.now) }
@@ -90,7 +89,7 @@ pub(crate) fn front_number(text: &[u8]) -> Option<(u64, &[u8])>
     Some((number, &text[count..]))
 }
 
-// What stands behind a byte with which a text begins.
+// Returns the remainder of a text after its first byte, if that is the expected one.
 #[inline(always)]
 pub(crate) fn behind_byte(text: &[u8], byte: u8) -> Option<&[u8]>
     ensures { IfSome result (λ r. text.now ≡ byte ∷ r.now) }
@@ -101,7 +100,7 @@ pub(crate) fn behind_byte(text: &[u8], byte: u8) -> Option<&[u8]>
     }
 }
 
-// A number of few digits as the first word, and what is left. None where the first word is another.
+// Reads a number of up to 19 digits as the first word. Returns it with the remainder; `None` for any other word.
 #[inline(always)]
 fn short_number(text: &[u8]) -> Option<(u64, Rest<'_>)>
     ensures { IfSome result (λ p. number_said (2 ^ 64) (words_of text.now) ≡ Some (p.0, words_in p.1)) }
@@ -114,7 +113,7 @@ fn short_number(text: &[u8]) -> Option<(u64, Rest<'_>)>
     Some((number, Some(others)))
 }
 
-// A number of 64 bits, by its whole word.
+// Reads a 64-bit number, by its whole word.
 #[inline(never)]
 #[tactic(auto, unfolding(crate::specs::Reading::number_said))]
 fn any_number(rest: Rest<'_>) -> Option<(u64, Rest<'_>)>
@@ -127,7 +126,7 @@ fn any_number(rest: Rest<'_>) -> Option<(u64, Rest<'_>)>
     }
 }
 
-// A number of 64 bits. (Most words of an audit are short numbers, whose digits are looked at once.)
+// Reads a 64-bit number. (Most words of an audit are short numbers, so `short_number` is tried first.)
 #[inline(always)]
 #[tactic(auto, unfolding(crate::specs::Reading::number_said))]
 pub(crate) fn number64(rest: Rest<'_>) -> Option<(u64, Rest<'_>)>
@@ -139,7 +138,7 @@ pub(crate) fn number64(rest: Rest<'_>) -> Option<(u64, Rest<'_>)>
     }
 }
 
-// A number of 32 bits.
+// Reads a 32-bit number.
 #[inline(always)]
 pub(crate) fn number32(rest: Rest<'_>) -> Option<(u32, Rest<'_>)>
     ensures { option_map (λ p. (p.0, words_in p.1)) result ≡ number_said (2 ^ 32) (words_in rest.entry) }
@@ -151,7 +150,7 @@ pub(crate) fn number32(rest: Rest<'_>) -> Option<(u32, Rest<'_>)>
     Some((number as u32, behind))
 }
 
-// A number of 16 bits.
+// Reads a 16-bit number.
 #[inline(always)]
 pub(crate) fn number16(rest: Rest<'_>) -> Option<(u16, Rest<'_>)>
     ensures { option_map (λ p. (p.0, words_in p.1)) result ≡ number_said (2 ^ 16) (words_in rest.entry) }
@@ -163,7 +162,7 @@ pub(crate) fn number16(rest: Rest<'_>) -> Option<(u16, Rest<'_>)>
     Some((number as u16, behind))
 }
 
-// A number of 64 bits, as the last word.
+// Reads a 64-bit number as the last word.
 #[inline(always)]
 #[tactic(auto, unfolding(crate::specs::Reading::last_said))]
 pub(crate) fn last64(rest: Rest<'_>) -> Option<u64>
@@ -174,7 +173,7 @@ pub(crate) fn last64(rest: Rest<'_>) -> Option<u64>
     Some(number)
 }
 
-// A number of 32 bits, as the last word.
+// Reads a 32-bit number as the last word.
 #[tactic(auto, unfolding(crate::specs::Reading::last_said))]
 pub(crate) fn last32(rest: Rest<'_>) -> Option<u32>
     ensures { result ≡ last_said (2 ^ 32) (words_in rest.entry) }
@@ -184,7 +183,7 @@ pub(crate) fn last32(rest: Rest<'_>) -> Option<u32>
     Some(number)
 }
 
-// A name, of any length.
+// Reads a name of any length.
 #[tactic(auto, unfolding(crate::specs::Reading::name_said))]
 pub(crate) fn name(rest: Rest<'_>) -> Option<(&[u8], Rest<'_>)>
     ensures { option_map (λ p. (p.0.now, words_in p.1)) result ≡ name_said (words_in rest.entry) }

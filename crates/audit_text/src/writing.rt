@@ -1,4 +1,4 @@
-//! The lines of happenings, and of calls that stand.
+//! Writes the lines of events and of pending calls.
 
 ghost use Rattle.std.specs.Prelude.{◌≡◌, ◌∷◌, ◌++◌, [], codes, map, IfOk, OnOk};
 ghost use Rattle.std.specs.Fmt.{decimal};
@@ -18,10 +18,11 @@ use mrpc_table::{Bytes, Memory, Table};
 use std::alloc::Global;
 use wire_encode::{Output, encode_into};
 
-// How many bytes are made in a row, before they are appended at once. What is longer is appended word by word.
+// A line of up to this many bytes is made in an array and appended at once. A longer one is appended word by word.
 const ROOM: usize = 128;
 
-/// The audit line of a happening, with its line feed. The format is this project's own. The only error is `Memory`.
+/// Returns the audit line of an event, with its line feed. The format is this project's own. The only error is
+/// `Memory`.
 pub fn audit_line(alloc: Global, happened: &Happened, table: &Table) -> Result<Bytes, Memory>
     requires valid { IsValid table.now }
     requires fits { FitsTable table.now happened.now.what }
@@ -32,7 +33,7 @@ pub fn audit_line(alloc: Global, happened: &Happened, table: &Table) -> Result<B
     Ok(out)
 }
 
-/// Appends the audit line of a happening, with its line feed. The only error is `Memory`.
+/// Appends the audit line of an event, with its line feed. The only error is `Memory`.
 pub fn append_audit_line(
     alloc: Global,
     out: &mut Bytes,
@@ -81,7 +82,7 @@ pub fn append_audit_line(
     }
 }
 
-// The line of an acceptance, whose copy is encoded for it.
+// Appends the line of an accepted call, whose copy it encodes into `encoding`.
 pub(crate) fn append_took(
     out: &mut Bytes,
     encoding: &mut Output,
@@ -103,8 +104,8 @@ pub(crate) fn append_took(
     }
 }
 
-/// Appends the audit line of an acceptance, with its line feed, where the encoding of the call's copy is at hand, as
-/// for its frame. So no tree is encoded twice. The only error is `Memory`.
+/// Appends the audit line of an accepted call, with its line feed. The caller passes the encoding of the call's copy,
+/// for example from its frame, so that no tree is encoded twice. The only error is `Memory`.
 pub fn append_took_line(
     out: &mut Bytes,
     conn: u32,
@@ -128,9 +129,9 @@ pub fn append_took_line(
     out.push(b'\n')
 }
 
-/// Appends the line of a call that stands in the queue of an engine, with its line feed: the engine's position on the
-/// chain and its name, which is `-` for the queue for transport, and the level and the cost at which it is held, if it
-/// is. The only error is `Memory`.
+/// Appends the line of a pending call in the queue of an engine, with its line feed. It has the engine's position in
+/// the chain, the engine's name, or `-` for the transport queue, and the level and cost if the call is held. The only
+/// error is `Memory`.
 pub fn append_stands_line(
     out: &mut Bytes,
     conn: u32,
@@ -150,7 +151,7 @@ pub fn append_stands_line(
     out.push(b'\n')
 }
 
-/// Appends bytes in lower-case hexadecimal digits, or `-` where there is none, as a further word of a line. The only
+/// Appends bytes as a further word of a line: in lower-case hexadecimal digits, or `-` if there are none. The only
 /// error is `Memory`.
 pub fn append_hex_word(out: &mut Bytes, bytes: &[u8]) -> Result<(), Memory>
     ensures { OnOk result (out.new ≡ out.old ++ 32 ∷ hex_word bytes.now) }
@@ -162,7 +163,7 @@ pub fn append_hex_word(out: &mut Bytes, bytes: &[u8]) -> Result<(), Memory>
     out.append_hex(bytes)
 }
 
-// What a line begins with, and numbers behind it.
+// Appends a prefix, and numbers after it.
 pub(crate) fn begin(out: &mut Bytes, front: &[u8], numbers: &[u64]) -> Result<(), Memory>
     ensures { OnOk result (out.new ≡ out.old ++ (front.now ++ behind_spaces (map decimal numbers.now))) }
 {
@@ -173,7 +174,7 @@ pub(crate) fn begin(out: &mut Bytes, front: &[u8], numbers: &[u64]) -> Result<()
     }
 }
 
-// A line of a word and numbers.
+// Appends a line of a word and numbers.
 pub(crate) fn append_numbers(out: &mut Bytes, word: &[u8], numbers: &[u64]) -> Result<(), Memory>
     ensures { OnOk result (out.new ≡ out.old ++ line (word.now ∷ map decimal numbers.now)) }
 {
@@ -184,7 +185,7 @@ pub(crate) fn append_numbers(out: &mut Bytes, word: &[u8], numbers: &[u64]) -> R
     }
 }
 
-// The same, a word after another.
+// Like `append_numbers`, one word after another.
 #[cold]
 #[inline(never)]
 fn append_numbers_by_words(out: &mut Bytes, word: &[u8], numbers: &[u64]) -> Result<(), Memory>
@@ -194,7 +195,7 @@ fn append_numbers_by_words(out: &mut Bytes, word: &[u8], numbers: &[u64]) -> Res
     out.push(b'\n')
 }
 
-// The line of what an entry noted of a call.
+// Appends the line of an entry's note on a call.
 pub(crate) fn append_note(
     out: &mut Bytes,
     word: &[u8],
@@ -212,7 +213,7 @@ pub(crate) fn append_note(
     }
 }
 
-// The same, a word after another.
+// Like `append_note`, one word after another.
 #[cold]
 #[inline(never)]
 fn append_note_by_words(
@@ -231,7 +232,7 @@ fn append_note_by_words(
     out.push(b'\n')
 }
 
-// The words that tell the copy of a call by its encoding, or why it has none.
+// Appends the words of a call's copy, given its encoding, or the reason why it has none.
 fn append_copy(out: &mut Bytes, copy: &TookCopy, encoding: &[u8]) -> Result<(), Memory>
     ensures { OnOk result (out.new ≡ out.old ++ behind_spaces (told_copy encoding.now copy.now)) }
 {
@@ -251,7 +252,7 @@ fn append_copy(out: &mut Bytes, copy: &TookCopy, encoding: &[u8]) -> Result<(), 
     }
 }
 
-// The line of a call that was submitted where as many stood as may.
+// Appends the line of a submission that was rejected because too many calls were pending.
 pub(crate) fn append_away(
     out: &mut Bytes,
     conn: u32,
@@ -266,7 +267,7 @@ pub(crate) fn append_away(
     append_numbers(out, b"away", &numbers)
 }
 
-// The line of a call that was sent, with the bytes of its frame.
+// Appends the line of a sent call, with the size of its frame in bytes.
 pub(crate) fn append_sent(out: &mut Bytes, conn: u32, seq: u32, bytes: u64) -> Result<(), Memory>
     ensures { OnOk result (out.new
         ≡ out.old ++ line (codes "sent" ∷ decimal conn ∷ decimal seq ∷ decimal bytes ∷ [])) }
@@ -274,7 +275,7 @@ pub(crate) fn append_sent(out: &mut Bytes, conn: u32, seq: u32, bytes: u64) -> R
     append_numbers(out, b"sent", &[u64::from(conn), u64::from(seq), bytes])
 }
 
-// The line of an operator's step.
+// Appends the line of an operation.
 pub(crate) fn append_step(out: &mut Bytes, conn: u32, step: &Op) -> Result<(), Memory>
     ensures { OnOk result (out.new ≡ out.old ++ line (codes "op" ∷ decimal conn ∷ step_words step.now)) }
 {
@@ -303,7 +304,7 @@ pub(crate) fn append_step(out: &mut Bytes, conn: u32, step: &Op) -> Result<(), M
     out.push(b'\n')
 }
 
-// The line of a refusal.
+// Appends the line of a refusal.
 fn append_refusal(out: &mut Bytes, conn: u32, seq: u32, cause: &Cause) -> Result<(), Memory>
     ensures { OnOk result (out.new
         ≡ out.old ++ line (codes "refused" ∷ decimal conn ∷ decimal seq ∷ cause_words cause.now)) }
@@ -330,7 +331,7 @@ fn append_refusal(out: &mut Bytes, conn: u32, seq: u32, cause: &Cause) -> Result
     out.push(b'\n')
 }
 
-// A cause that an entry gives: its kind behind a space, the entry's name, and numbers.
+// Appends a cause that an entry gives: a space and its kind, the entry's name, and numbers.
 pub(crate) fn append_cause(
     out: &mut Bytes,
     kind: &[u8],

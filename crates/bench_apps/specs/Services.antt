@@ -1,4 +1,4 @@
--- The code's own: heaps and rings at which nothing has happened yet, and a service that has done nothing.
+-- The code's own: new heaps and rings, and a service that has done nothing.
 use Rattle.std.specs.Prelude.{◌≡◌, []}
 use Rattle.shared_heap.specs.Fresh.{HeapId}
 use Rattle.bench_apps.specs.declared.plain_service.Service.{Service}
@@ -22,7 +22,7 @@ pub record IsNewRing (ring : Ring) : Type 0 where
   pub sent : ring.sender.sent ≡ []
   pub taken : ring.receiver.taken ≡ []
 
--- nothing has happened at the rings of an application
+-- nothing was sent through the rings of an application
 pub record AreNewRings (rings : Rings) : Type 0 where
   pub calls : IsNewRing rings.calls
   pub notices : IsNewRing rings.notices

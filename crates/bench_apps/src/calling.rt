@@ -19,15 +19,15 @@ use std::sync::Wait;
 use std::thread::{Threads, join};
 use stop_flag::RunFlag;
 
-/// How many calls a client makes at most here.
+/// The most calls that a client makes here.
 pub const MAX_CALLS: u32 = 500_000;
 
-// Messages lie at so many places in turn, in two words each. They are more than two rings hold and three threads have at
-// hand, so no word is stored again before it was copied.
+// The number of slots for messages, of two words each, that are used in turn. There are more than two rings
+// and three threads hold, so that no word is overwritten before it was copied.
 const MESSAGES: u32 = 256;
 
-/// Has so many calls of a client echoed, of methods of this table, and gives what came of the replies; none where one of
-/// them found no memory, which ends all.
+/// Runs a client whose `count` calls of methods of this table are echoed, and returns the results of the
+/// replies; `None` if one of the threads or the setup ran out of memory, which ends all.
 pub fn call<R: Threads + Wait + Sync>(
     rt: &R,
     alloc: Global,
@@ -57,7 +57,7 @@ fn add(program: &mut Program, line: ProgramLine) -> Result<(), Memory>
     program.push(line)
 }
 
-// A client that stores a message of one word and submits it, so many times.
+// A client that stores a message of one word and submits it, this many times.
 fn client_program(alloc: Global, count: u32) -> Result<Program, Memory>
     requires few { count ≤ MAX_CALLS }
     ensures { IfOk result (IsClientProgram WORDS) }
@@ -109,7 +109,7 @@ fn in_three_threads<R: Threads + Wait + Sync>(
     if called && echoed { served } else { None }
 }
 
-// Whether an application came to its end, and wasn't stopped.
+// Whether an application finished, and wasn't stopped.
 fn is_whole(end: AppEnd) -> bool {
     end.sent.is_some()
 }

@@ -15,7 +15,7 @@ pub(crate) struct Side {
     pub(crate) notices: Sender,
 }
 
-// By hand, so that a drop is one call where it is needed, and not a drop of each part.
+// Written by hand, so that a drop is one call, not a drop of each part.
 impl Drop for Side {
     fn drop(self) {
         let Side {
@@ -26,7 +26,8 @@ impl Drop for Side {
 }
 
 impl Side {
-    // Closes the ring of notices of the application, and takes what it sends to the closing of its own.
+    // Closes the application's ring of notices, and takes what the application sends until it closes its own
+    // ring.
     fn finish<R: Wait>(self, rt: &R, stop: &RunFlag) -> Option<Found> {
         let Side {
             mut taking,
@@ -37,7 +38,7 @@ impl Side {
     }
 }
 
-// What the service has of both. Nothing is stored by its writer, to whose heap the client's notices belong.
+// The service's sides of both. The writer stores nothing; the client's notices belong to its heap.
 pub(crate) struct Service {
     pub(crate) client: Side,
     pub(crate) echo: Side,
@@ -55,9 +56,9 @@ impl Drop for Service {
 }
 
 impl Service {
-    // Passes the client's calls on to the echo, and takes the replies. A client takes its notices once its calls are
-    // done, so it is told of the replies then, of at most so many. Gives what came of the echo; none once the flag is
-    // set, here and below.
+    // Forwards the client's calls to the echo, and takes the replies. A client takes its notices after its
+    // calls are done, so it gets the notices of the replies then, at most `count`. Returns the results of the
+    // echo; `None` once the flag is set, here and below.
     pub(crate) fn serve<R: Wait>(self, rt: &R, stop: &RunFlag, count: u32) -> Option<Found>
         requires few { count < 4294967294 }
         requires unused { IsUnused self }
@@ -79,7 +80,7 @@ impl Service {
     }
 }
 
-// Has the calls of a ring echoed, up to its closing, and gives what came of the echo.
+// Has the calls of a ring echoed until the ring is closed, and returns the results of the echo.
 fn serve_echo<R: Wait>(rt: &R, stop: &RunFlag, calls: &mut Receiver, echo: Side) -> Option<Found>
     requires heap { calls.old.heap ≡ echo.notices.heap }
     requires new { (calls.old.taken ≡ []) × (echo.notices.sent ≡ []) }
@@ -89,7 +90,7 @@ fn serve_echo<R: Wait>(rt: &R, stop: &RunFlag, calls: &mut Receiver, echo: Side)
     echo.finish(rt, stop)
 }
 
-// Makes a notice of each call, up to the closing of their ring.
+// Sends a notice for each call, until their ring is closed.
 fn pass_calls<R: Wait>(rt: &R, stop: &RunFlag, calls: &mut Receiver, echo: &mut Side) -> Option<()>
     requires heap { calls.old.heap ≡ echo.old.notices.heap }
     requires new { (calls.old.taken ≡ []) × (echo.old.notices.sent ≡ []) }
@@ -111,7 +112,7 @@ fn pass_calls<R: Wait>(rt: &R, stop: &RunFlag, calls: &mut Receiver, echo: &mut 
     unreachable!()
 }
 
-// Tells an application of so many replies.
+// Sends an application the notices of this number of replies.
 fn tell<R: Wait>(
     rt: &R,
     stop: &RunFlag,

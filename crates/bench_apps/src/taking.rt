@@ -1,4 +1,4 @@
-//! What a plain service takes of an application.
+//! What a plain service takes from an application.
 ghost use Rattle.std.specs.Prelude.{◌≡◌};
 
 use crate::discard;
@@ -7,16 +7,16 @@ use std::sync::Wait;
 use std::thread;
 use stop_flag::{RunFlag, StopFlag};
 
-/// What was taken of an application.
+/// What was taken from an application.
 #[derive(Clone, Copy)]
 pub struct Found {
-    /// How many calls came.
+    /// The number of calls.
     pub calls: u64,
     /// The sum of their numbers, modulo 2^64.
     pub numbers: u64,
 }
 
-// What came of a ring.
+// What a ring returned.
 #[derive(Clone, Copy)]
 enum Came {
     Item,
@@ -41,8 +41,8 @@ impl Taking {
         Taking { calls, found }
     }
 
-    // Takes a call, where one waits; where none does, it gives the processor away. True once the ring is closed; none
-    // once the flag is set.
+    // Takes a call if there is one, and otherwise yields. True once the ring is closed; `None` once the flag
+    // is set.
     pub(crate) fn turn<R: Wait>(&mut self, rt: &R, stop: &RunFlag) -> Option<bool> {
         let came = self.take_call(rt);
         if stop.is_set() {

@@ -13,19 +13,19 @@ use std::alloc::{AllocError, Global};
 use std::sync::Wait;
 use stop_flag::RunFlag;
 
-// How many items each ring holds.
+// The number of items of each ring.
 pub(crate) const CAPACITY: u64 = 64;
 
-// How many words each heap has. The echo's slices have room for a message of one field.
+// The number of words of each heap. The echo's slices have room for a message of one field.
 pub(crate) const WORDS: u64 = 1024;
 
-// A heap, by both its ends.
+// Both ends of a heap.
 pub(crate) struct Heap {
     pub(crate) writer: Writer,
     pub(crate) reader: Reader,
 }
 
-// By hand, as of the others below, so that a drop is one call where it is needed, and not a drop of each part.
+// Written by hand, like those below, so that a drop is one call, not a drop of each part.
 impl Drop for Heap {
     fn drop(self) {
         let Heap {
@@ -44,7 +44,7 @@ impl Heap {
     }
 }
 
-// A ring of descriptors, by both its ends.
+// Both ends of a ring of descriptors.
 pub(crate) struct Ring {
     pub(crate) sender: Sender,
     pub(crate) receiver: Receiver,
@@ -68,8 +68,8 @@ impl Ring {
     }
 }
 
-// The rings of numbers of an application: that of its blocks, which is closed, since no message lies in one, and that of
-// the blocks that it gives back, from which nothing is taken.
+// The number rings of an application: that of its blocks, which is closed, because no message is in one, and
+// that of the blocks that it returns, from which nothing is taken.
 pub(crate) struct Numbers {
     pub(crate) blocks: NumberReceiver,
     pub(crate) reclaims: NumberSender,
@@ -156,8 +156,8 @@ pub(crate) struct Wired {
     pub(crate) service: Service,
 }
 
-// Opens three heaps and the rings of both. The echo copies what the client stored from the client's own heap, so the
-// service copies descriptors alone.
+// Opens three heaps and the rings of both. The echo copies what the client stored from the client's own heap,
+// so the service copies only descriptors.
 pub(crate) fn open_ports<R: Wait>(
     rt: &R,
     alloc: Global,
@@ -210,7 +210,8 @@ fn open_both<R: Wait>(
     Ok((client_rings, echo_rings))
 }
 
-// Opens the rings of an application that stores to the heap of one reader, and is delivered its messages in the other's.
+// Opens the rings of an application that stores to the heap of one reader, and receives its messages in the
+// other's.
 fn open_rings<R: Wait>(
     rt: &R,
     alloc: Global,
@@ -251,17 +252,17 @@ fn open_numbers<R: Wait>(rt: &R, alloc: Global) -> Result<Numbers, AllocError>
     Ok(Numbers { blocks, reclaims })
 }
 
-// The receiver of a ring of numbers that is closed, and that holds none.
+// The receiver of a closed ring of numbers that holds none.
 fn closed_numbers<R: Wait>(rt: &R, alloc: Global) -> Result<NumberReceiver, AllocError>
     ensures { IfOk result (λ numbers. numbers.taken ≡ []) }
 {
     let (sender, receiver) = descriptor_ring::open_numbers(alloc, CAPACITY)?;
-    // A new ring has room for the closing.
+    // A new ring has room for its closing.
     discard(sender.close(rt));
     Ok(receiver)
 }
 
-// What is made of three heaps, and of the rings of the client and the echo.
+// The parts, from three heaps and the rings of the client and the echo.
 fn wire(client: Heap, echo: Heap, service: Heap, rings: (Rings, Rings)) -> Wired
     requires heaps { IsNewHeap client × IsNewHeap echo × IsNewHeap service }
     requires rings { AreNewRings rings.0 × AreNewRings rings.1 }

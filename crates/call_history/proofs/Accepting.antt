@@ -1,4 +1,4 @@
--- A call is accepted, and refused at once where it is malformed.
+-- A call is accepted, and refused at once if it is malformed.
 use Rattle.std.proofs.Common.{◌≡◌, ◌≢◌, ℕ, ◌+◌, ◌<◌, ◌≤◌, ◌==◌, cond, not, false, true, inl, inr, List, [], ◌∷◌, ◌++◌}
 use Rattle.std.proofs.Common.{length, map, refl, sym, ap, ◌∙◌, subst, arith, length-append, append-nil}
 use Rattle.std.specs.Prelude.{All, Contains}
@@ -22,7 +22,7 @@ use Rattle.call_history.proofs.Prefixes.{Rising, rising, noted-few}
 use Rattle.call_history.proofs.Rowed.{Keeps, row-kept, row-more, row-weaker}
 use Rattle.call_history.proofs.Standing.{standing-took, standing-refused, others_of}
 
--- the form of a call of another number stays
+-- the form of a call with another number is unchanged
 pub form-other : (conn s : ℕ) (past : Behind) (call : Taken) → call.seq ≢ s → form conn s (Took call ∷ past) ≡ form conn s past
 form-other conn s past call apart = ap (λ b. cond b (copied conn call call.copy) (form conn s past)) (ne_eqb call.seq s apart)
 
@@ -72,7 +72,7 @@ copied-holds u c call h running take has =
           (noted-few u c.past name h.prefix)
     ]
 
--- ---- without one
+-- ---- without a copy
 
 others-same : (below top seq : ℕ) (calls : List Taken) → top < seq → Rising below top calls → others_of seq calls ≡ calls
 others-same below top seq [] above h = refl
@@ -81,7 +81,7 @@ others-same below top seq (call ∷ calls) above h =
     ap (λ b. cond (not b) (call ∷ others_of seq calls) (others_of seq calls)) (ne_eqb seq call.seq apart)
     ∙ ap (λ (cs : List Taken). call ∷ cs) (others-same call.seq top seq calls above h.2)
 
--- the same calls stand as before
+-- the same calls are pending as before
 pub standing-malformed : (u : Under) (past : Behind) (call : Taken) → IsPrefix u past → call.seq ≡ length (taken past) + 1
     → standing (Refused call.seq cause.Malformed ∷ Took call ∷ past) ≡ standing past
 standing-malformed u past call prefix next =
@@ -112,7 +112,7 @@ malformed-holds u c call h running take lacks =
       none_left = h.none_left;
     }
 
--- ---- one of the two
+-- ---- with or without a copy
 
 by-copy : (u : Under) (c : Course) (call : Taken) (copy : TookCopy)
     → ((HasNoCopy copy → ⊥) → Holds u (record c { past = Took call ∷ c.past; row = c.row ++ (call.seq, 0) ∷ [] }))

@@ -1,4 +1,4 @@
--- An attachment leaves the entries before it, and what those noted.
+-- An attachment doesn't change the entries before it, nor what those noted.
 use Rattle.std.proofs.Common.{◌≡◌, ℕ, ◌+◌, ◌<◌, ◌≤◌, zero, suc, min, Bool, true, false, cond, inl, inr, List, [], ◌∷◌}
 use Rattle.std.proofs.Common.{◌++◌, length, map, take, drop, refl, sym, ap, subst, arith, length-append}
 use Rattle.std.proofs.Common.{length-take-le}
@@ -23,7 +23,7 @@ use Rattle.call_history.proofs.Looking.{other-name, lets-still}
 use Rattle.call_history.proofs.Operating.{moved-holds, all-fewer, in-front}
 use Rattle.call_history.proofs.Rowed.{StandsAt}
 
--- where an attachment may stand
+-- where an attachment is possible
 record IsFree (entries : List Entry) (at : ℕ) (name : List ℕ) : Type 0 where
   within : at ≤ length entries
   apart : Contains (names_of entries) name → ⊥
@@ -58,7 +58,7 @@ attached_holds u c at name label policy h changes =
       ascend = ascends;
     })
   where
-    -- the entries before it have other names, so what they noted stays
+    -- the entries before it have other names, so their notes are unchanged
     front-lets : (seq k : ℕ) → IsFree (chain c.past).entries at name → All (Lets u c.past seq) (take k (chain c.past).entries)
         → All (Lets u (Op (Attach at name label policy) ∷ c.past) seq) (take k (chain c.past).entries)
     front-lets seq k free lets = all-step (Lets u c.past seq) (Lets u (Op (Attach at name label policy) ∷ c.past) seq) (take k (chain c.past).entries)
@@ -79,7 +79,7 @@ attached_holds u c at name label policy h changes =
           (front-lets seq (min position at) free (all-fewer (Lets u c.past seq) (chain c.past).entries (min position at) position (omega arith) stands.let_pass));
     }
 
-    -- nothing was noted by the new entry
+    -- the new entry has noted nothing
     by-name : (b : Bool) (other : List ℕ) (s : ℕ) → Contains (map (λ (call : Taken). call.seq) (standing c.past)) s → cond b nothing (noted other s c.past) ≡ nothing
         → All (λ n. n < s) (cond b [] (noted_calls other c.past))
     by-name true other s stands none = All-nil (λ n. n < s)

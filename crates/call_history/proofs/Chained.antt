@@ -1,4 +1,4 @@
--- Entries of a chain by their names and places.
+-- Entries of a chain by their names and positions.
 use Rattle.std.proofs.Common.{◌≡◌, ◌≢◌, ℕ, ◌<◌, zero, suc, cond, inl, inr, List, [], ◌∷◌, ◌++◌, length, take, refl, sym, ap, ◌∙◌, subst, arith}
 use Rattle.std.specs.Prelude.{All, Contains, find, slice_get, slice_index_or, Some}
 use Rattle.std.proofs.lemmas.List.Elements.{Contains-get_or}
@@ -8,7 +8,7 @@ use Rattle.engine_core.specs.Chains.{is_named}
 use Rattle.call_history.proofs.Further.{contains-cases, contains-first, contains-later}
 use Rattle.call_history.proofs.Looking.{equal-name, other-name}
 
--- ---- the entry at a place
+-- ---- the entry at a position
 
 pub record IsCut (es : List Entry) (place : ℕ) (e : Entry) : Type 0 where
   pub front : List Entry
@@ -50,7 +50,7 @@ contains-middle (x ∷ front) back e = contains-later x (front ++ e ∷ back) e 
 pub contains-in : (es front back : List Entry) (e : Entry) → es ≡ front ++ e ∷ back → Contains es e
 contains-in es front back e is = subst (λ (xs : List Entry). Contains xs e) (sym is) (contains-middle front back e)
 
--- no two entries have one name
+-- no two entries have the same name
 pub same-entry : (es : List Entry) (a b : Entry) → AreDistinct (names_of es) → Contains es a → Contains es b → a.name ≡ b.name → a ≡ b
 same-entry [] a b apart has_a has_b same = absurd (omega (arith, has_a.1))
 same-entry (x ∷ es) a b apart has_a has_b same = elim (contains-cases x es a has_a) [
@@ -81,7 +81,7 @@ find-entry (x ∷ front) back e apart =
     ap (λ b. cond b (Some x) (find (is_named e.name) (front ++ e ∷ back))) (other-name x.name e.name (front-apart (x ∷ front) back e x apart (contains-first x front x refl)))
     ∙ find-entry front back e apart.1
 
--- ---- from one fact on entries to another
+-- ---- from one fact about entries to another
 
 pub all-step : {X : Type 0} (P Q : X → Type 0) (xs : List X) → ((x : X) → Contains xs x → P x → Q x) → All P xs → All Q xs
 all-step P Q xs h all = λ k d less. h (slice_index_or xs k d) (Contains-get_or xs k d less) (all k d less)

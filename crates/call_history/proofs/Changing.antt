@@ -1,4 +1,4 @@
--- A chain that doesn't refuse a step becomes what the step makes of it, computed.
+-- If a chain accepts an operation, the result is the chain that `changed` computes.
 use Rattle.std.proofs.Common.{◌≡◌, ◌≢◌, ℕ, ◌+◌, cond, if◌then◌else◌, not, List, [], ◌∷◌, ◌++◌, length, take, drop, refl, sym, ap, ◌∙◌, subst}
 use Rattle.std.specs.Prelude.{Contains}
 use Rattle.std.proofs.lemmas.List.{map-append}
@@ -35,7 +35,7 @@ attach-is before at name label policy front back whole place =
     let last : drop at before.entries ≡ back = ap (λ n. drop n before.entries) (sym place) ∙ ap (drop (length front)) whole ∙ drop-front front back in
     ap (with_entries (before.attached + 1)) (ap (λ (es : List Entry). front ++ new ∷ es) (sym last) ∙ ap (λ (es : List Entry). es ++ new ∷ drop at before.entries) (sym first))
 
--- entries of other names stay
+-- entries with other names are unchanged
 kept : (name : List ℕ) (es : List Entry) → ((e : Entry) → Contains es e → e.name ≢ name) → others_of name es ≡ es
 kept name [] apart = refl
 kept name (e ∷ es) apart =

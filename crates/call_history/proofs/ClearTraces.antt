@@ -1,4 +1,4 @@
--- A course of events in which a field is cleared, and the policy before is asked again: worked out by hand.
+-- Worked by hand: transitions in which a field is cleared and the previous policy is asked again.
 use Rattle.std.proofs.Common.{◌≡◌, ℕ, false, inl, inr, List, [], ◌∷◌, codes, length, refl, arith}
 use Rattle.std.specs.Prelude.{Contains, Some}
 use Rattle.mrpc_table.specs.Normal.{IsNormal}

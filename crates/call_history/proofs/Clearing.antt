@@ -1,4 +1,4 @@
--- No call is redacted twice for one attachment and version.
+-- No call is redacted twice under one attachment and version.
 use Rattle.std.proofs.Common.{◌≡◌, ◌≢◌, ℕ, ◌+◌, ◌<◌, ◌≤◌, ◌==◌, ◌&&◌, Bool, true, false, cond, not, inl, inr, List}
 use Rattle.std.proofs.Common.{[], ◌∷◌, ◌++◌, length, take, drop, refl, sym, ap, ◌∙◌, subst, arith, take-append-drop}
 use Rattle.std.proofs.Common.{length-append}
@@ -31,7 +31,7 @@ use Rattle.call_history.proofs.Looking.{same-name, equal-name}
 use Rattle.call_history.proofs.Prefixes.{StaysChain, chained, stood}
 use Rattle.call_history.proofs.Redacting.{form-others}
 
--- a second clear changes nothing, and of two clears either may come first
+-- a second clear changes nothing, and two clears commute
 abbrev pub ClearsAgain : Type 0
 ClearsAgain = (clears : List Clear) (call : Call) → cleared clears (cleared_call clears call) ≡ cleared clears call
 
@@ -43,9 +43,9 @@ pub record Laws : Type 0 where
   pub again : ClearsAgain
   pub either : EitherFirst
 
--- ---- what is clear stays clear
+-- ---- a cleared field stays cleared
 
--- a policy that redacts has nothing to clear from a form
+-- a redacting policy has nothing to clear in a form
 abbrev IsClearOf : Policy → Option Call → Type 0
 IsClearOf (Redact clears) (Some call) = cleared clears call ≡ call.tree
 IsClearOf policy form = Unit {0}
@@ -92,7 +92,7 @@ old-entry es at new e apart has =
       ]
     ])
 
--- nothing was cleared from a call to come
+-- nothing was cleared in a call that isn't accepted yet
 none-cleared : (u : Under) (past : Behind) (seq : ℕ) (name : List ℕ) → IsPrefix u past → length (taken past) < seq → cleared_in name seq past ≡ []
 none-cleared u [] seq name prefix above = refl
 none-cleared u (Op (Attach at other label policy) ∷ past) seq name prefix above =
@@ -143,7 +143,7 @@ redacted-clear laws u past call seq version other e prefix due there old =
       clear = (given ((call == seq) && bytes_eq other e.name) refl).1;
     }
   where
-    -- the form is as it was, or another policy cleared it
+    -- the form is unchanged, or another policy cleared it
     others : IsClearOf e.policy (form u.conn seq past) → IsClearOf e.policy (form u.conn seq (Redacted call other version ∷ past))
     others is = elim (cases_eq call seq) [
       | inl same ↦ subst (λ (f : Option Call). IsClearOf e.policy f)

@@ -1,4 +1,4 @@
--- Calls that stand have a copy, and a form.
+-- Pending calls have a copy and a form.
 use Rattle.std.proofs.Common.{◌≡◌, ℕ, ◌+◌, ◌≤◌, ◌==◌, not, inl, inr, List, [], ◌∷◌, ◌++◌, length, refl, sym, ap, ◌∙◌, subst, arith, length-append}
 use Rattle.std.specs.Prelude.{Contains, Option, Some, None, option_map}
 use Rattle.std.proofs.lemmas.Bool.{cases_eq}
@@ -29,11 +29,11 @@ use Rattle.call_history.proofs.Prefixes.{Numbered, numbered, refused-at-once}
 use Rattle.call_history.proofs.Redacting.{form-others}
 use Rattle.call_history.proofs.Standing.{standing-took, standing-sent, standing-refused, others_of}
 
--- a normal tree stays normal
+-- a normal tree is still normal after a clear
 abbrev pub StaysNormal : Type 0
 StaysNormal = (T : Table) (clears : List Clear) (call : Call) → IsCallOf T call → IsCallOf T (cleared_call clears call)
 
--- ---- calls that stand have a copy
+-- ---- pending calls have a copy
 
 refuses-none : (copy : TookCopy) (seq : ℕ) (x : Happening) → IsRefusedAtOnce copy seq x → IsNoMalformedRefusal x → HasNoCopy copy → ⊥
 refuses-none (Copy tree) seq x is clean none = none
@@ -77,7 +77,7 @@ numbered-few last (first ∷ calls) call h has = elim (contains-cases first call
 pub taken-few : (u : Under) (past : Behind) (call : Taken) → IsPrefix u past → Contains (taken past) call → call.seq ≤ length (taken past)
 taken-few u past call prefix has = omega (arith, numbered-few 0 (taken past) call (numbered u past prefix) has)
 
--- a form as some past has it
+-- a form as a trace has it
 abbrev FormIs : Under → Option Call → Taken → Type 0
 FormIs u f call = (now : Call) × (f ≡ Some now) × IsCallOf u.table now × (now.method ≡ call.method) × (now.number ≡ call.number)
 
@@ -128,7 +128,7 @@ pub stands-formed : StaysNormal → (u : Under) (past : Behind) (call : Taken) �
 stands-formed normal u past call prefix settled has =
     has-form u past call (formed normal u past call prefix (contains-kept (stands past) (taken past) call has) (stands-copied u past call prefix settled has))
 
--- ---- few calls stand
+-- ---- at most `MAX_CALLS` calls are pending
 
 fewer : (seq : ℕ) (calls : List Taken) → length (others_of seq calls) ≤ length calls
 fewer seq calls = omega (arith, length-filter (λ (call : Taken). not (seq == call.seq)) calls, count_by-le-length (λ (call : Taken). not (seq == call.seq)) calls)

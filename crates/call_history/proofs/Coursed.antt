@@ -1,4 +1,4 @@
--- Places of the calls that stand, and a row of them.
+-- Legal positions of the pending calls, and the row of those calls.
 use Rattle.std.proofs.Common.{◌≡◌, ℕ, ◌≤◌, zero, suc, List, [], ◌∷◌, map, refl, sym, subst, arith}
 use Rattle.std.specs.Prelude.{slice_get, Some}
 use Rattle.std.specs.List.{AllZip}
@@ -10,7 +10,7 @@ use Rattle.call_history.specs.declared.happening.Taken.{Taken}
 use Rattle.call_history.proofs.Prefixes.{Rising}
 use Rattle.call_history.proofs.Rowed.{StandsAt, IsRow}
 
--- ---- from places
+-- ---- from positions to the row
 
 pub row-from : (u : Under) (past : Behind) (below top bound : ℕ) (row : Row) (calls : List Taken) → map (λ call. call.0) row ≡ map (λ call. call.seq) calls
     → AllZip (MayStandAt u past) calls (map (λ call. call.1) row) → NeverRise (map (λ call. call.1) row)
@@ -33,7 +33,7 @@ row-from u past below top bound (x ∷ row) (call ∷ calls) same each falls fir
       subst (λ n. IsRow u past n top x.1 row) (sym number) rest,
     )
 
--- ---- to places
+-- ---- from the row to positions
 
 pub each-to : (u : Under) (past : Behind) (below top bound : ℕ) (row : Row) (calls : List Taken) → map (λ call. call.0) row ≡ map (λ call. call.seq) calls
     → IsRow u past below top bound row → AllZip (MayStandAt u past) calls (map (λ call. call.1) row)

@@ -1,4 +1,4 @@
--- A detached entry leaves the others in their order.
+-- Detaching an entry keeps the others in their order.
 use Rattle.std.proofs.Common.{◌≡◌, ℕ, ◌+◌, ◌-◌, ◌<◌, ◌≤◌, zero, suc, Bool, true, false, cond, if◌then◌else◌, not, inl}
 use Rattle.std.proofs.Common.{inr, List, [], ◌∷◌, length, take, refl, sym, ap, ◌∙◌, subst, arith}
 use Rattle.std.specs.Prelude.{All, Contains, filter, nat_lt}
@@ -25,7 +25,7 @@ use Rattle.call_history.proofs.Rowed.{StandsAt}
 abbrev pub others_of : List ℕ → List Entry → List Entry
 others_of name es = filter (λ e. not (is_named name e)) es
 
--- where a position moves that an entry leaves
+-- the new position of a call when an entry is detached
 abbrev moved : ℕ → ℕ → ℕ
 moved place p = if nat_lt place p then p - 1 else p
 
@@ -35,7 +35,7 @@ others-same name (e ∷ es) none =
     ap (λ b. cond (not b) (e ∷ others_of name es) (others_of name es)) (other-name e.name name (λ same. none (contains-first e.name (names_of es) name same)))
     ∙ ap (λ (xs : List Entry). e ∷ xs) (others-same name es (λ has. none (contains-later e.name (names_of es) name has)))
 
--- an entry of the name stands at its place
+-- an entry with the name is at its position
 none-there : (name : List ℕ) (es : List Entry) → length es ≤ place_of name es → Contains (names_of es) name → ⊥
 none-there name [] past has = omega (arith, has.1)
 none-there name (e ∷ es) past has =
@@ -69,7 +69,7 @@ one-fewer name (e ∷ es) apart less =
     ] in
     omega (arith, given (is_named name e) refl (omega (arith, less)))
 
--- what holds of the entries before a position holds of those before the one to which it moves
+-- what holds of the entries before a position holds of those before the new position
 front-all : (P : Entry → Type 0) (name : List ℕ) (es : List Entry) (p k : ℕ) → AreDistinct (names_of es)
     → (p ≤ place_of name es → k ≡ p) → (place_of name es < p → k + 1 ≡ p)
     → All P (take p es) → All P (take k (others_of name es))

@@ -1,4 +1,5 @@
--- An event leads from a course to one other, and how a turn comes out follows from the course, up to its ticket.
+-- A transition leads from a state to at most one other. The outcome of a turn follows from the state, up to its
+-- ticket.
 use Rattle.std.proofs.Common.{◌≡◌, ℕ, Bool, true, cond, [], ◌∷◌, sym, ap, ◌∙◌, subst}
 use Rattle.std.specs.Prelude.{Option, Some, None, nat_lt, slice_get}
 use Rattle.std.proofs.lemmas.Bool.{lt-ltb, le-ltb}
@@ -17,7 +18,7 @@ use Rattle.call_history.specs.Rules.{Under}
 use Rattle.call_history.specs.declared.happening.Happening.TheVariants.{Away, Op, Moment, Sent}
 use Rattle.call_history.proofs.Settling.{same-number}
 
--- ---- where an event leads
+-- ---- where a transition leads
 
 abbrev turned_by : Option Entry → ℕ → Outcome → Course → Course
 turned_by None seq outcome old = old
@@ -48,9 +49,9 @@ leads-there u old new event (link_failed is new_is) = new_is ∙ sym (ap (end_of
 pub one-end : (u : Under) (old new other : Course) (event : Event) → Comes u old event new → Comes u old event other → new ≡ other
 one-end u old new other event first second = leads-there u old new event first ∙ sym (leads-there u old other event second)
 
--- ---- how a turn comes out
+-- ---- the outcome of a turn
 
--- a turn comes out in one way, but for the ticket of a draw
+-- a turn has one outcome, up to the ticket of a draw
 abbrev pub OneOutcome : Type 0
 OneOutcome = (policy : Policy) (level moment : ℕ) (form : Call) (past : Past) (a b : Outcome) → ComesOut policy level moment form past a → ComesOut policy level moment form past b
     → ticket_in (note (noted_in a)) ≡ ticket_in (note (noted_in b)) → a ≡ b

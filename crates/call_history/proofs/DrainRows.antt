@@ -1,5 +1,5 @@
--- Drains that were worked out by hand: one in which calls are charged until one is held, and one in which a field is
--- cleared and the entries begin again.
+-- Drains worked by hand: one in which calls are charged until one is held, and one in which a field is cleared
+-- and the entries start over.
 use Rattle.std.proofs.Common.{true, false, [], ◌∷◌, refl, arith}
 use Rattle.engine_core.specs.Answers as answers
 use Rattle.engine_core.specs.Chains.{Entry, new_entry}
@@ -74,7 +74,7 @@ drains-charged = record {
   none_ready = refl;
 }
 
--- the link fails behind the first sending, while the second call is ready
+-- the link fails after the first send, while the second call is ready
 abbrev one_sent : Course
 one_sent = record {
   past = Sent 1 18 ∷ Charged 2 rl 0 ∷ Charged 1 rl 1000 ∷ submitted;
@@ -102,7 +102,7 @@ fails-charged = record {
   failed = link_failed refl refl;
 }
 
--- one millisecond less than the cost later it is held still
+-- one millisecond less than the cost later, it is still held
 abbrev too_early : Course
 too_early = record { past = held; row = (3, 0) ∷ []; ended = false }
 
@@ -125,7 +125,7 @@ drains-too_early = record {
   none_ready = refl;
 }
 
--- ---- a field is cleared, and the policy before is asked again
+-- ---- a field is cleared, and the previous policy is asked again
 
 abbrev whole_stands : Course
 whole_stands = record {

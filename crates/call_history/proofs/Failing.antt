@@ -1,4 +1,4 @@
--- The link fails, and the calls that stand are refused for it, one after another.
+-- The link fails, and the pending calls are refused for it, in order.
 use Rattle.std.proofs.Common.{◌≡◌, ◌≢◌, ℕ, ◌≤◌, cond, not, true, List, [], ◌∷◌, length, map, refl, sym, ap, ◌∙◌, subst, arith}
 use Rattle.std.specs.Prelude.{Contains}
 use Rattle.std.proofs.lemmas.Bool.{eq-eqb, ne_eqb}
@@ -15,7 +15,7 @@ use Rattle.call_history.proofs.Holding.{Holds}
 use Rattle.call_history.proofs.Prefixes.{Rising, rising}
 use Rattle.call_history.proofs.Standing.{standing-refused, others_of}
 
--- the rule on what is open behind a failed link, where none stands
+-- the rule on obligations after a failure of the link, if no call is pending
 pub record IsOver (u : Under) (past : Behind) : Type 0 where
   pub prefix : IsPrefix u past
   pub malformed : AwaitsMalformed past → ⊥
@@ -29,7 +29,7 @@ others-behind below top seq (call ∷ calls) behind h =
     ap (λ b. cond (not b) (call ∷ others_of seq calls) (others_of seq calls)) (ne_eqb seq call.seq apart)
     ∙ ap (λ (cs : List Taken). call ∷ cs) (others-behind call.seq top seq calls (omega (arith, behind, h.0)) h.2)
 
--- without the first call that stands
+-- without the oldest pending call
 pub without-first : (top : ℕ) (call : Taken) (calls : List Taken) → Rising 0 top (call ∷ calls) → others_of call.seq (call ∷ calls) ≡ calls
 without-first top call calls h =
     ap (λ b. cond (not b) (call ∷ others_of call.seq calls) (others_of call.seq calls)) (eq-eqb call.seq call.seq refl)

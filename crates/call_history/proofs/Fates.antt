@@ -1,4 +1,4 @@
--- Each call has one fate at most, and calls are sent in the order of their numbers.
+-- Each call has at most one fate, and calls are sent in the order of their numbers.
 use Rattle.std.proofs.Common.{◌≡◌, ℕ, ◌+◌, ◌<◌, ◌≤◌, ◌==◌, Bool, true, false, cond, not, inl, inr, List, [], ◌∷◌}
 use Rattle.std.proofs.Common.{◌++◌, length, map, refl, sym, ap, ◌∙◌, subst, arith, append_assoc}
 use Rattle.std.specs.Prelude.{All, Contains, filter, count_by}
@@ -20,7 +20,7 @@ use Rattle.call_history.proofs.Further.{contains-cases, contains-first}
 use Rattle.call_history.proofs.Prefixes.{Rising, rising, refused-at-once, fateless}
 use Rattle.call_history.proofs.Standing.{standing-took, standing-sent, standing-refused, others_of, map-filter}
 
--- ---- a call that stands has no fate
+-- ---- a pending call has no fate
 
 unfated-among : (past : Behind) (calls : List Taken) (seq : ℕ) → Contains (map (λ call. call.seq) (filter (stands past) calls)) seq → list_any (is_fate_of seq) past ≡ false
 unfated-among past [] seq has = absurd (omega (arith, has.1))
@@ -70,7 +70,7 @@ pub sent-stood : (u : Under) (past : Behind) (seq bytes : ℕ) → IsSentNext u 
 sent-stood u past seq bytes next =
     subst (λ n. Contains (map (λ (call : Taken). call.seq) (standing past)) n) next.number (first-there (standing past) next.others next.call next.first)
 
--- ---- one fate
+-- ---- at most one fate
 
 none-counted : (seq : ℕ) (past : Behind) → list_any (is_fate_of seq) past ≡ false → count_by (is_fate_of seq) past ≡ 0
 none-counted seq [] none = refl
@@ -105,7 +105,7 @@ one_at_most u (x ∷ past) seq prefix =
     ] in
     given (is_fate_of seq x) refl
 
--- a fate is that of a call that was accepted
+-- only accepted calls have a fate
 pub fate-of-taken : (u : Under) (past : Behind) (seq : ℕ) → IsPrefix u past → list_any (is_fate_of seq) past ≡ true → seq ≤ length (taken past)
 fate-of-taken u past seq prefix fate = elim (cases_lt (length (taken past)) seq) [
   | inl more ↦ absurd (false≢true (sym (fateless u past seq prefix more) ∙ fate))
@@ -138,7 +138,7 @@ all-above below top low [] le h = All-nil (λ n. low < n)
 all-above below top low (call ∷ calls) le h = All-cons (λ n. low < n) call.seq (map (λ other. other.seq) calls)
     (omega (arith, le, h.0)) (all-above call.seq top low calls (omega (arith, le, h.0)) h.2)
 
--- behind a sending only calls of greater numbers stand
+-- after a send, only calls with greater numbers are pending
 later : (u : Under) (past : Behind) (m : ℕ) → IsPrefix u past → list_any (is_sent m) past ≡ true → All (λ n. m < n) (map (λ call. call.seq) (standing past))
 unfolding is_sent
 later u [] m prefix is = absurd (false≢true is)

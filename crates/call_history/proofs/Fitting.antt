@@ -35,7 +35,7 @@ Fits (Quota tenant per cap) (drawn ticket) = Unit {0}
 Fits Count counted = Unit {0}
 Fits policy past = ⊥
 
--- so does one of the same kind
+-- so does a policy of the same kind
 fits-kind : (old new : Policy) (past : Past) → is_same_kind old new ≡ true → Fits old past → Fits new past
 fits-kind old new nothing same fits = tt
 fits-kind (Rate r) (Rate s) charged same fits = tt
@@ -66,7 +66,7 @@ fits-kind Count (Rate r) counted same fits = absurd cc
 fits-kind Count (Quota t per cap) counted same fits = absurd cc
 fits-kind Count (Redact clears) counted same fits = absurd cc
 
--- ---- a note that is called for
+-- ---- a note that is due
 
 -- what was noted after a note
 abbrev pub past_by : Noted → Past
@@ -188,7 +188,7 @@ in-filter q (x ∷ es) e has =
     ] in
     given (q x) has
 
--- an entry of a chain whose entry of a name was upgraded comes from one before
+-- an entry after the upgrade of a name comes from an entry before it
 pub record IsFrom (es : List Entry) (name : List ℕ) (policy : Policy) (e : Entry) : Type 0 where
   pub old : Entry
   pub there : Contains es old

@@ -1,4 +1,4 @@
--- Frames, and tickets, of small histories that were worked out by hand.
+-- Worked by hand: frames and tickets of small histories.
 use Rattle.std.proofs.Common.{◌≡◌, ℕ, List, [], ◌∷◌, reverse, refl}
 use Rattle.frame_transport.specs.Bytes.{header_bytes}
 use Rattle.wire_base.specs.Encoding.{varint, groups}
@@ -29,25 +29,26 @@ frame-allowed : frames_behind table 1 allowed
 unfolding header_bytes varint groups
 frame-allowed = refl
 
--- one that it denies is in no frame
+-- a denied call is in no frame
 frame-denied : frames_behind table 1 denied ≡ []
 frame-denied = refl
 
--- ---- the first call is refused by the later version, so the second alone is handed over
+-- ---- the first call is refused by the later version, so only the second is sent
 
 frame-upgraded : frames_behind table 1 (Sent 2 18 ∷ Refused 1 (cause.Access acl 2 no150) ∷ upgraded_before)
     ≡ (0x00 ∷ 0x00 ∷ 0x00 ∷ 0x02 ∷ 0x01 ∷ 0x01 ∷ 0x00 ∷ 0x00 ∷ 0x00 ∷ 0x00 ∷ 0x00 ∷ 0x01 ∷ 0x00 ∷ 0x00 ∷ 0x00 ∷ 0x02 ∷ 0x08 ∷ 0x07 ∷ []) ∷ []
 unfolding header_bytes varint groups
 frame-upgraded = refl
 
--- ---- a frame has what was left of the call when it was sent
+-- ---- a frame has the call's fields at the time of the send
 
 frame-cleared : frames_behind two_fields 1 (Sent 1 18 ∷ cleared but_5)
     ≡ (0x00 ∷ 0x00 ∷ 0x00 ∷ 0x02 ∷ 0x01 ∷ 0x01 ∷ 0x00 ∷ 0x00 ∷ 0x00 ∷ 0x00 ∷ 0x00 ∷ 0x01 ∷ 0x00 ∷ 0x00 ∷ 0x00 ∷ 0x01 ∷ 0x08 ∷ 0x07 ∷ []) ∷ []
 unfolding header_bytes varint groups
 frame-cleared = refl
 
--- ---- the frame of a reply has the number of its request, and that of a message without fields has no payload
+-- ---- the frame of a reply has the number of its request, and the frame of a message without fields has no
+-- payload
 
 abbrev reply : Taken
 reply = record { seq = 3; method = 0; number = 1; addr = 2; after = 1; count = 1; copy = Copy (with_number 150) }
@@ -57,7 +58,7 @@ frame-reply : frames_behind table 2 (Sent 3 19 ∷ Took reply ∷ [])
 unfolding header_bytes varint groups
 frame-reply = refl
 
--- ---- of two connections the frames come in the order of the sendings, each with its own connection's form
+-- ---- the frames of two connections come in the order of the sends, each with its own connection's form
 
 abbrev two_connections : History
 two_connections =
@@ -68,13 +69,13 @@ frames-of_both : frames table two_connections ≡ request_header 2 1 (0x08 ∷ 0
 unfolding header_bytes varint groups
 frames-of_both = refl
 
--- ---- a link that fails with two calls left: one frame
+-- ---- a link that fails with two calls pending: one frame
 
 frames-failing : frames_behind table 1 failing ≡ request_header 1 1 (0x08 ∷ 0x07 ∷ []) ∷ []
 unfolding header_bytes varint groups
 frames-failing = refl
 
--- ---- tickets, of the window and the tenant alone, as the policy of the name then was
+-- ---- tickets of one window and one tenant, by the policy that the name had then
 
 tickets-drawn : tickets_behind 0 0 (Refused 2 (cause.Quota q 1 1) ∷ drawn_over) ≡ 0 ∷ 1 ∷ []
 tickets-drawn = refl

@@ -1,11 +1,11 @@
--- The frames of a history that goes on.
+-- The frames of a history after one more event.
 use Rattle.std.proofs.Common.{◌≡◌, ℕ, List, [], ◌∷◌, ◌++◌, sym, ap, ◌∙◌, append_assoc, append-nil}
 use Rattle.mrpc_table.specs.declared.table.Table.{Table}
 use Rattle.call_history.specs.Legal.{History, behind}
 use Rattle.call_history.specs.declared.happening.Happened.{Happened}
 use Rattle.call_history.specs.Frames.{frames, frames_after, handed_by}
 
--- what a happening behind a history hands over
+-- the frame that an event after a history sends
 abbrev pub next_frame : Table → History → Happened → List (List ℕ)
 next_frame T before x = handed_by T x.conn x.what (behind x.conn before)
 

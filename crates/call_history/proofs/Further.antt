@@ -1,4 +1,4 @@
--- The first call at a position goes on by an entry.
+-- The first call at a position advances past an entry.
 use Rattle.std.proofs.Common.{◌≡◌, ◌≢◌, ℕ, ◌+◌, ◌<◌, ◌≤◌, suc, Bool, true, false, ◌==◌, cond, ◌⊎◌, inl, inr, List, []}
 use Rattle.std.proofs.Common.{◌∷◌, map, refl, sym, ap, subst, arith}
 use Rattle.std.specs.Prelude.{Contains, Some}
@@ -59,7 +59,7 @@ found u past below top bound position (x ∷ row) call is h =
       there = contains-first x.0 (map (λ (other : ℕ × ℕ). other.0) row) x.0 refl;
     })
 
--- numbers behind a call are greater
+-- numbers after a call are greater
 pub above : (u : Under) (past : Behind) (below top bound seq : ℕ) (row : Row) → IsRow u past below top bound row
     → Contains (map (λ (call : ℕ × ℕ). call.0) row) seq → below < seq
 above u past below top bound seq [] h has = absurd (contains-none seq has)
@@ -68,7 +68,7 @@ above u past below top bound seq (call ∷ row) h has = elim (contains-cases cal
   | inr rest ↦ omega (arith, above u past call.0 top call.1 seq row h.1 rest, h.0.number)
 ]
 
--- a call of a smaller number stands at a later position than the first one at a position
+-- a call with a smaller number is at a later position than the first one at a position
 pub record IsFurther (u : Under) (past : Behind) (seq position : ℕ) : Type 0 where
   pub place : ℕ
   pub further : position < place
@@ -102,9 +102,9 @@ earlier-further u past below top bound position seq s (x ∷ row) is h has less 
         let low : position ≤ x.1 = rest.placed.falls in
         record { place = x.1; further = omega (arith, low, apart); stands = subst (λ n. StandsAt u past n x.1) same h.0.stands }
 
--- ---- it goes on
+-- ---- it advances
 
--- what may stand at a position before may do so afterwards, but for one call
+-- positions that were legal still are, except for one call
 abbrev pub KeepsOthers : (u : Under) (past new : Behind) (seq : ℕ) → Type 0
 KeepsOthers u past new seq = (s position : ℕ) → s ≢ seq → StandsAt u past s position → StandsAt u new s position
 

@@ -1,4 +1,4 @@
--- Which happening may come where nothing is left open, and what it leaves open.
+-- Which event can follow if no refusal is owed, and which refusal is owed after it.
 use Rattle.std.proofs.Common.{◌≡◌, ℕ, ◌<◌, true, false, List, [], ◌∷◌, refl, sym, ◌∙◌, arith}
 use Rattle.engine_core.specs.Chains.{Changes}
 use Rattle.engine_core.specs.declared.outcome.Noted.TheVariants as notes
@@ -17,12 +17,12 @@ use Rattle.call_history.specs.declared.happening.Taken.{Taken}
 use Rattle.call_history.specs.declared.happening.TookCopy.{TookCopy}
 use Rattle.call_history.specs.declared.happening.TookCopy.TheVariants.{Copy, Malformed}
 
--- nothing is left open, and the link works
+-- no refusal is owed, and the link works
 pub record IsOpen (past : Behind) : Type 0 where
   pub settled : IsSettledUp past
   pub works : has_failed past ≡ false
 
--- ---- the rules on what was left open
+-- ---- the rules on refusals that are owed
 
 at-once : (copy : TookCopy) (seq : ℕ) (next : Happening) → (HasNoCopy copy → ⊥) → IsNoMalformedRefusal next → IsRefusedAtOnce copy seq next
 at-once (Copy tree) seq (Refused call cause.Malformed) settled clean = clean
@@ -48,9 +48,9 @@ ended past settled failed = none-left (standing past) (λ some. settled.link (re
 works-still : (past : Behind) (X : Type 0) → has_failed past ≡ false → has_failed past ≡ true → X
 works-still past X works failed = let wrong : false ≡ true = sym works ∙ failed in absurd cc
 
--- ---- what may come
+-- ---- which events can follow
 
--- the rules that a happening meets by itself
+-- the rules that an event satisfies by itself
 pub record MeetsOwn (u : Under) (past : Behind) (next : Happening) : Type 0 where
   pub numbered : IsNumbered u past next
   pub no_malformed : IsNoMalformedRefusal next
@@ -137,7 +137,7 @@ may-send u past seq bytes free next =
       link_refusal = tt;
     })
 
--- steps and moments, also where the link has failed
+-- operations and timestamps, also after a failure of the link
 quiet-left : (calls : List Taken) (next : Happening) → calls ≡ [] → IsQuiet next → IsLeft calls next
 quiet-left [] next none quiet = quiet
 quiet-left (call ∷ calls) next none quiet = absurd cc

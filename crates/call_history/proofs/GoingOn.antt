@@ -1,4 +1,4 @@
--- Histories that go on, as their connections see it.
+-- Histories after more events, for each connection.
 use Rattle.std.proofs.Common.{◌≡◌, ◌≢◌, ℕ, ◌==◌, cond, if◌then◌else◌, List, [], ◌∷◌, ◌++◌, length, reverse, refl, sym, ap, ◌∙◌, subst, inl, inr}
 use Rattle.std.specs.Prelude.{All, Some, None, option_map}
 use Rattle.std.specs.List.{cons_option}
@@ -22,7 +22,7 @@ use Rattle.call_history.proofs.Looking.{equal-name, other-name, is-for}
 use Rattle.call_history.proofs.Prefixes.{Rising, rising}
 use Rattle.call_history.proofs.Standing.{standing-sent, others_of}
 
--- ---- what is behind
+-- ---- the trace
 
 pub behind-joined : (conn : ℕ) (h k : History) → behind conn (h ++ k) ≡ behind conn k ++ behind conn h
 behind-joined conn h k =
@@ -54,7 +54,7 @@ prefix-before u h x own prefix = let both : IsPrefix u (x.what ∷ behind u.conn
 pub legal-apart : (u : Under) (h k : History) → All (λ x. x.conn ≢ u.conn) k → IsLegalBehind u (behind u.conn h) → IsLegalBehind u (behind u.conn (h ++ k))
 legal-apart u h k apart legal = subst (IsLegalBehind u) (sym (behind-apart u.conn h k apart)) legal
 
--- what happens on one connection asks nothing of the others
+-- events of one connection don't depend on the others
 pub legal-where : (T : Table) (limit conn : ℕ) (h k : History) → IsLegal T limit h → All (λ x. x.conn ≡ conn) k
     → IsLegalBehind (record { conn = conn; table = T; limit = limit }) (behind conn (h ++ k)) → IsLegal T limit (h ++ k)
 legal-where T limit conn h k legal own here other = elim (cases_eq other conn) [
@@ -63,7 +63,7 @@ legal-where T limit conn h k legal own here other = elim (cases_eq other conn) [
       (All-weaker (λ (x : Happened). x.conn ≡ conn) (λ (x : Happened). x.conn ≢ other) (λ x is same. apart (sym same ∙ is)) k own) (legal other)
 ]
 
--- ---- standing calls
+-- ---- pending calls
 
 pub standing-next : (u : Under) (past : Behind) (call : Taken) (others : List Taken) (bytes : ℕ) → IsPrefix u past
     → standing past ≡ call ∷ others → standing (Sent call.seq bytes ∷ past) ≡ others

@@ -1,4 +1,4 @@
--- What the steps keep, in the form in which it is proved, and that it is what holds of a connection between two steps.
+-- The invariant of a connection between transitions, in the form in which it is proved.
 use Rattle.std.proofs.Common.{◌≡◌, ℕ, ◌≤◌, Bool, true, false, cond, inl, inr, List, [], ◌∷◌, length, map, take, sym, ◌∙◌, subst, arith}
 use Rattle.std.specs.Prelude.{All, Contains, filter, slice_get, Some}
 use Rattle.std.proofs.lemmas.Bool.{false_from_ne_true}
@@ -65,7 +65,7 @@ works-running u c h running = record {
   works = false_from_ne_true (has_failed c.past) (λ failed. (let wrong : false ≡ true = sym running ∙ h.failed failed in absurd cc));
 }
 
--- a call is somewhere, so the link works
+-- some call is pending, so the link works
 pub works-there : (u : Under) (c : Course) (position : ℕ) (call : ℕ × ℕ) → Holds u c → first_at position c.row ≡ Some call → IsOpen c.past
 works-there u c position call h first = record {
   settled = h.settled;
@@ -76,7 +76,7 @@ works-there u c position call h first = record {
     none [] empty is = cc
     none (x ∷ row) empty is = cc
 
--- ---- what may stand where it did
+-- ---- positions that are still legal
 
 pub stands-still : (u : Under) (past new : Behind) (seq position : ℕ) → (chain new).entries ≡ (chain past).entries → ((e : Entry) → Lets u past seq e → Lets u new seq e)
     → StandsAt u past seq position → StandsAt u new seq position
@@ -86,7 +86,7 @@ stands-still u past new seq position same lets h = record {
       (All-weaker (Lets u past seq) (Lets u new seq) lets (take position (chain past).entries) h.let_pass);
 }
 
--- ---- what is open behind a happening that leaves nothing open by itself
+-- ---- which refusals are owed after an event that owes none by itself
 
 pub works-on : (past : Behind) → has_failed past ≡ false → AwaitsLink past → ⊥
 works-on past works awaits = let wrong : false ≡ true = sym works ∙ awaits.failed in cc

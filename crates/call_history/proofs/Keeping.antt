@@ -1,4 +1,4 @@
--- Each event keeps what holds of a connection between two steps.
+-- Each transition preserves the invariant of a connection.
 use Rattle.std.proofs.Common.{ℕ, List, [], ◌∷◌, refl, sym, subst, arith}
 use Rattle.engine_core.specs.Chains.{Changes, Entry}
 use Rattle.engine_core.specs.Turns.{ComesOut, passes, is_noted, is_held, is_refused, is_noted_and_refused, is_redacted}
@@ -26,7 +26,7 @@ use Rattle.call_history.proofs.Showing.{away, shown}
 use Rattle.call_history.proofs.Upgrading.{upgraded_holds}
 use Rattle.engine_core.specs.Answers.{pass}
 
--- ---- the beginning
+-- ---- the initial state
 
 begins : (u : Under) → Holds u beginning
 begins u = record {
@@ -56,7 +56,7 @@ outcome-holds u c position seq outcome e chains h turn has (is_noted_and_refused
 outcome-holds u c position seq outcome e chains h turn has (is_redacted answers is) =
     subst (λ (o : Outcome). Holds u (turned e seq o c)) (sym is) (cleared_again u c position seq e has.call h turn has.is_form answers)
 
--- ---- a step of an operator
+-- ---- an operation
 
 step-holds : (u : Under) (c : Course) (step : Step) → StaysChain → Holds u c → Changes (chain c.past) step (changed step (chain c.past))
     → Holds u (record c { past = Op step ∷ c.past; row = moved_by step (chain c.past).entries c.row })
@@ -64,7 +64,7 @@ step-holds u c (Attach at name label policy) chains h may = attached_holds u c a
 step-holds u c (Detach name) chains h may = detached_holds u c name chains h may
 step-holds u c (Upgrade name label policy) chains h may = upgraded_holds u c name label policy h may
 
--- ---- an event
+-- ---- a transition
 
 pub event-holds : (u : Under) (old new : Course) (event : Event) → StaysChain → Holds u old → Comes u old event new → Holds u new
 event-holds u old new event chains h (takes call is running may new_is) = subst (Holds u) (sym new_is) (taken_in u old call h running may)
@@ -81,7 +81,7 @@ events-hold : (u : Under) (old new : Course) (events : List Event) → StaysChai
 events-hold u old new [] chains h is = subst (Holds u) (sym is) h
 events-hold u old new (event ∷ events) chains h (next, comes, rest) = events-hold u next new events chains (event-holds u old next event chains h comes) rest
 
--- ---- as it is told
+-- ---- in the words of the laws
 
 pub course-begins : (u : Under) → IsCourse u beginning
 course-begins u = to_course u beginning (begins u)

@@ -1,4 +1,4 @@
--- Courses of events in which a policy is upgraded with calls behind it: worked out by hand, what each adds, and that its
+-- Worked by hand: transitions in which a policy is upgraded after calls passed it, what each adds, and that the
 -- history is legal.
 use Rattle.std.proofs.Common.{◌≡◌, ℕ, true, false, inl, inr, List, [], ◌∷◌, codes, refl, ap, sym, ◌∙◌, arith}
 use Rattle.std.specs.Prelude.{Contains}
@@ -26,7 +26,7 @@ use Rattle.engine_core.specs.Policies.{is_same_kind}
 use Rattle.call_history.proofs.Rows.{upgraded_before}
 use Rattle.call_history.proofs.Traces.{under, form_of, normal_number, none-in, attached, taken_150, ready, long-7}
 
--- ---- an upgrade with two calls behind the old version
+-- ---- an upgrade after two calls passed the old version
 
 abbrev with_7 : Taken
 with_7 = request 2 2 1 (with_number 7)

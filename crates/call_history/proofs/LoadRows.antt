@@ -1,4 +1,4 @@
--- Loads of small histories that were worked out by hand.
+-- Worked by hand: loads of small histories.
 use Rattle.std.proofs.Common.{◌≡◌, ℕ, ◌+◌, ◌<◌, ◌≤◌, ◌^◌, [], ◌∷◌, ◌++◌, length, refl, ap, arith, length-append}
 use Rattle.mrpc_table.specs.declared.table.Kind.TheVariants.{Uint64}
 use Rattle.graph_form.specs.Malformed.{is_copied as comes_copied, is_malformed as comes_malformed, no_root}
@@ -33,7 +33,8 @@ placed at v = first (word at v nothing) nothing
 sound : (at v : ℕ) → 1 ≤ at → at + 2 ≤ 16 → v < 2 ^ 64 → IsSound table 16 0 at (placed at v)
 sound at v low high small = record { root = record { from_one = low; to_end = high }; words = (refl, small, fine v small, tt, tt) }
 
--- ---- three calls: of a number at place 14, past the heap's end, and of a method that the table lacks
+-- ---- three calls: one with a number at place 14, one past the heap's end, and one of a method that the table
+-- lacks
 
 abbrev five : Taken
 five = record { seq = 1; method = 0; number = 0; addr = 14; after = 1; count = 1; copy = Copy (with_number 5) }
@@ -73,7 +74,7 @@ spelled-three = (
   ),
 )
 
--- ---- a call that is denied: it alone was loaded, and no word a second time
+-- ---- a denied call: only it was loaded, and no word twice
 
 spelled-denied : AreSpelled table 16 1024 denied ((2, 150) ∷ [])
 spelled-denied = (

@@ -1,5 +1,5 @@
--- What a happening changes of what was noted of a call, and of its form; and that an entry which lets a call pass does
--- so at every moment.
+-- How an event changes the notes and the form of a call; and an entry that lets a call pass does so at every
+-- timestamp.
 use Rattle.std.proofs.Common.{◌≡◌, ◌≢◌, ℕ, true, false, ◌&&◌, ◌==◌, List, sym, subst}
 use Rattle.std.specs.Prelude.{Option, Some, None, IsSomeAnd}
 use Rattle.std.specs.Str.{bytes_eq}
@@ -41,7 +41,7 @@ pass-always policy level moment after later form past (counts is none answer) = 
 pass-always policy level moment after later form past (is_clear clears is left answer) = is_clear clears is left answer
 pass-always policy level moment after later form past (redacts clears is other answer) = absurd cc
 
--- it does so as long as the form stays, and what was noted
+-- it does so while the form and the notes are unchanged
 lets-by : (policy : Policy) (level moment after later : ℕ) (form : Option Call) (past : Past)
     → IsSomeAnd form (λ call. Answers policy level moment call past pass) → IsSomeAnd form (λ call. Answers policy after later call past pass)
 lets-by policy level moment after later None past lets = lets
@@ -56,7 +56,7 @@ lets-still u past new seq e same_form same_past lets =
 
 -- ---- notes
 
--- the test of a note's call and name
+-- the test for a note's call and name
 pub is-for : (call seq : ℕ) (other name : List ℕ) → call ≡ seq → other ≡ name → ((call == seq) && bytes_eq other name) ≡ true
 is-for call seq other name same is = and_from (call == seq) (bytes_eq other name) (eq-eqb call seq same) (equal-name other name is)
 

@@ -1,4 +1,4 @@
--- A record tells the same once more steps are kept.
+-- A record means the same event after more operations are stored.
 use Rattle.std.proofs.Common.{◌≡◌, ℕ, ◌+◌, ◌<◌, arith, subst, List, [], ◌∷◌, ◌++◌, length, map, refl, sym, ap, ◌∙◌}
 use Rattle.std.specs.Prelude.{All}
 use Rattle.std.proofs.lemmas.List.Elements.{All-head, All-tail, All-push, All-weaker}
@@ -14,7 +14,7 @@ use Rattle.call_history.specs.declared.record.Record.{Record}
 use Rattle.call_history.specs.declared.record.Record.TheVariants.{Took, Away, Op, Moment, Charged, Drawn, Counted, Redacted, Sent, Refused}
 use Rattle.call_history.specs.declared.record.Refusal.TheVariants as by
 
--- a step stays at its place
+-- an operation keeps its index
 stays-at : (steps : List Step) (step : Step) (place : ℕ) → place < length steps → step_at (steps ++ step ∷ []) place ≡ step_at steps place
 stays-at steps step place within = get_or_append_left steps (step ∷ []) (Detach []) place within
 
@@ -43,7 +43,7 @@ tell-still steps step (r ∷ records) named =
     ap (λ (x : Happening). x ∷ map (told_by (steps ++ step ∷ [])) records) (tells-still steps step r (All-head (IsNamed steps) r records named))
     ∙ ap (λ (xs : List Happening). told_by steps r ∷ xs) (tell-still steps step records (All-tail (IsNamed steps) r records named))
 
--- the record of one more step tells that step
+-- the record of one more operation means that operation
 pub operated : (steps more : List Step) (step : Step) (place : ℕ) (records now : List Record) (before : List Happening) → All (IsNamed steps) records
     → more ≡ steps ++ step ∷ [] → now ≡ records ++ Op place ∷ [] → place ≡ length steps → before ≡ map (told_by steps) records
     → map (told_by more) now ≡ before ++ what.Op step ∷ []
@@ -59,7 +59,7 @@ operated steps more step place records now before named steps_are records_are pl
     ∙ tells step (get_or-append_seam steps step [] (Detach []))
     ∙ ap (λ (xs : List Happening). xs ++ what.Op step ∷ []) (sym before_is)
 
--- ---- each record names a step
+-- ---- each record names an operation
 
 longer : (steps : List Step) (step : Step) (place : ℕ) → place < length steps → place < length (steps ++ step ∷ [])
 longer steps step place within = omega (arith, within, length-append steps (step ∷ []))
@@ -83,7 +83,7 @@ named-still steps step (Refused seq (by.Rate place level cost)) named = longer s
 named-still steps step (Refused seq (by.Quota place ticket cap)) named = longer steps step place named
 named-still steps step (Refused seq by.Transport) named = tt
 
--- so do those with the record of one more step
+-- so do the records with one more operation
 pub named-operated : (steps more : List Step) (step : Step) (place : ℕ) (records now : List Record) → All (IsNamed steps) records
     → more ≡ steps ++ step ∷ [] → now ≡ records ++ Op place ∷ [] → place ≡ length steps → All (IsNamed more) now
 named-operated steps more step place records now named steps_are records_are place_is =

@@ -1,5 +1,5 @@
--- A note of one call by one entry changes nothing that was noted of another call, or by another name; and calls are
--- noted in order.
+-- A note of one call by one entry doesn't change the notes of another call or another name; and calls are noted
+-- in order.
 use Rattle.std.proofs.Common.{◌≡◌, ◌≢◌, ℕ, ◌+◌, ◌<◌, ◌≤◌, ◌==◌, ◌&&◌, zero, suc, Bool, true, false, cond, inl, inr}
 use Rattle.std.proofs.Common.{List, [], ◌∷◌, ◌++◌, length, map, take, refl, sym, ap, ◌∙◌, subst, arith, add-one}
 use Rattle.std.specs.Prelude.{All, Contains, IsSomeAnd, Option, Some, None, slice_get}
@@ -78,7 +78,7 @@ gives-by u past seq e call answer is answers =
 
 -- ---- a note
 
--- what is behind after a note of a call by an entry of a name
+-- the trace after a note of a call by the entry with a name
 pub record IsNote (past new : Behind) (seq : ℕ) (name : List ℕ) (n : Noted) : Type 0 where
   pub entries : (chain new).entries ≡ (chain past).entries
   pub forms : (conn s : ℕ) → form conn s new ≡ form conn s past
@@ -121,7 +121,7 @@ count-note past seq name = record {
   calls_is = λ other. refl;
 }
 
--- what was noted of the call itself, of another, and by another name
+-- the notes of the call itself, of another call, and by another name
 pub noted-here : (past new : Behind) (seq : ℕ) (name : List ℕ) (n : Noted) → IsNote past new seq name n → noted name seq new ≡ past_by n
 noted-here past new seq name n is = is.noted_is name seq ∙ ap (λ b. cond b (past_by n) (noted name seq past)) (is-for seq seq name name refl refl)
 
@@ -131,13 +131,13 @@ noted-call past new seq s name other n is apart = is.noted_is other s ∙ ap (λ
 pub noted-name : (past new : Behind) (seq s : ℕ) (name other : List ℕ) (n : Noted) → IsNote past new seq name n → name ≢ other → noted other s new ≡ noted other s past
 noted-name past new seq s name other n is apart = is.noted_is other s ∙ ap (λ b. cond b (past_by n) (noted other s past)) (isnt-named seq s name other apart)
 
--- ---- other calls stay, and this one goes on
+-- ---- other calls keep their positions, and this one advances
 
 pub note-keeps : (u : Under) (past new : Behind) (seq : ℕ) (name : List ℕ) (n : Noted) → IsNote past new seq name n → KeepsOthers u past new seq
 note-keeps u past new seq name n is s position apart = stands-still u past new s position is.entries
     (λ e. lets-still u past new s e (is.forms u.conn s) (noted-call past new seq s name e.name n is (λ same. apart (sym same))))
 
--- the entries before it let the call pass as before
+-- the entries before it still let the call pass
 pub front-lets : (u : Under) (past new : Behind) (seq : ℕ) (name : List ℕ) (n : Noted) (front : List Entry) → IsNote past new seq name n
     → ((x : Entry) → Contains front x → x.name ≢ name) → All (Lets u past seq) front → All (Lets u new seq) front
 front-lets u past new seq name n front is apart lets = all-step (Lets u past seq) (Lets u new seq) front
@@ -162,7 +162,7 @@ note-row u c new position seq e n h turn first is lets =
 
 -- ---- calls are noted in order
 
--- the policy notes calls
+-- the policy makes notes
 abbrev pub Notes : Policy → Type 0
 Notes (Rate r) = Unit {0}
 Notes (Quota tenant per cap) = Unit {0}
@@ -184,7 +184,7 @@ notes-by policy level moment form past n (counts is none answer) = subst Notes (
 notes-by policy level moment form past n (is_clear clears is left answer) = absurd cc
 notes-by policy level moment form past n (redacts clears is other answer) = absurd cc
 
--- such a policy lets a call pass of which something was noted
+-- such a policy lets a call pass if something was noted of it
 pass-noted : (policy : Policy) (level moment : ℕ) (form : Call) (past : Past) → Notes policy → Answers policy level moment form past pass → past ≢ nothing
 pass-noted policy level moment form past noting (allows p is allow answer) none = subst Notes is noting
 pass-noted policy level moment form past noting (denies p is allow answer) none = cc
@@ -212,7 +212,7 @@ contains-take (x ∷ es) zero (suc m) e at less = contains-first x (take m es) e
 contains-take (x ∷ es) (suc k) zero e at less = absurd (omega (arith, less))
 contains-take (x ∷ es) (suc k) (suc m) e at less = contains-later x (take m es) e (contains-take es k m e at (omega (arith, less)))
 
--- a call of a smaller number was noted by the entry before
+-- the previous entry noted a call with a smaller number
 pub earlier-noted : (u : Under) (c : Course) (position seq s : ℕ) (e : Entry) → Holds u c → Notes e.policy
     → slice_get (chain c.past).entries position ≡ Some e → first_at position c.row ≡ Some (seq, position)
     → Contains (map (λ (call : Taken). call.seq) (standing c.past)) s → s < seq → noted e.name s c.past ≢ nothing

@@ -1,4 +1,4 @@
--- No call is noted twice for one attachment.
+-- No call is noted twice since one attachment.
 use Rattle.std.proofs.Common.{◌≡◌, ℕ, List, subst}
 use Rattle.std.specs.Prelude.{IsSomeAnd, Option, Some, None}
 use Rattle.mrpc_table.specs.declared.call.Call.{Call}

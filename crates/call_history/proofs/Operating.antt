@@ -1,4 +1,4 @@
--- A step of an operator moves calls by their positions alone.
+-- An operation moves calls by their positions alone.
 use Rattle.std.proofs.Common.{ℕ, ◌≤◌, zero, suc, List, [], ◌∷◌, length, map, take, inl, inr, ◌∙◌, arith}
 use Rattle.std.specs.Prelude.{All, Contains}
 use Rattle.std.proofs.lemmas.List.Elements.{All-nil, All-cons, All-head, All-tail}
@@ -15,7 +15,7 @@ use Rattle.call_history.proofs.Holding.{Holds}
 use Rattle.call_history.proofs.Passing.{numbers-same, ended-still}
 use Rattle.call_history.proofs.Rowed.{StandsAt, row-moved, row-weaker}
 
--- how a step moves positions, and what stays of the places
+-- how an operation moves positions, and which positions are still legal
 pub record Moves (u : Under) (past : Behind) (step : Step) (f : ℕ → ℕ) : Type 0 where
   pub rises : (p q : ℕ) → p ≤ q → f p ≤ f q
   pub keeps : (seq position : ℕ) → StandsAt u past seq position → StandsAt u (Op step ∷ past) seq (f position)
@@ -38,7 +38,7 @@ moved-holds u c step f h changes moves =
       none_left = λ ended. ended-still (λ call. f call.1) c.row (h.none_left ended);
     }
 
--- ---- fronts of a list
+-- ---- prefixes of a list
 
 pub all-none : {X : Type 0} (P : X → Type 0) (k : ℕ) → All P (take k [])
 all-none P zero = All-nil P

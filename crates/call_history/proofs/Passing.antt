@@ -1,4 +1,4 @@
--- A call passes by an entry, once what is to be noted of it is noted.
+-- A call passes an entry, after the entry noted what is due.
 use Rattle.std.proofs.Common.{◌≡◌, ◌≢◌, ℕ, ◌+◌, ◌<◌, ◌==◌, cond, List, [], ◌∷◌, ◌++◌, length, map, take, refl, sym, ap, ◌∙◌, subst, arith, add-one}
 use Rattle.std.specs.Prelude.{All, find, Some, None, option_map, slice_get}
 use Rattle.std.proofs.lemmas.List.Elements.{All-push}
@@ -35,11 +35,11 @@ pub numbers-same : (f : ℕ × ℕ → ℕ) (row : Row) → map (λ (call : ℕ 
 numbers-same f [] = refl
 numbers-same f (call ∷ row) = ap (λ (ns : List ℕ). call.0 ∷ ns) (numbers-same f row)
 
--- an ended connection has no call that could go on
+-- an ended connection has no call that could advance
 pub ended-still : (f : ℕ × ℕ → ℕ) (row : Row) → row ≡ [] → map {B = ℕ × ℕ} (λ call. (call.0, f call)) row ≡ []
 ended-still f row none = let go : ℕ × ℕ → ℕ × ℕ = λ call. (call.0, f call) in ap (map go) none
 
--- ---- nothing is to be noted
+-- ---- no note is due
 
 pub passed : (u : Under) (c : Course) (position seq : ℕ) (e : Entry) → Holds u c → IsTurn u c position seq e
     → first_at position c.row ≡ Some (seq, position) → Lets u c.past seq e
@@ -65,7 +65,7 @@ passed u c position seq e h turn first lets = record {
 
 -- ---- a note comes first
 
--- a happening that is a note, and what it leaves
+-- an event that is a note, and the trace after it
 pub record IsNoted (u : Under) (c : Course) (x : Happening) (seq : ℕ) (e : Entry) (n : Noted) : Type 0 where
   pub is : IsNote c.past (x ∷ c.past) seq e.name n
   pub may : May u c.past x
@@ -90,7 +90,7 @@ noted-holds u c x position seq e n h turn entry first noted settled lets =
       none_left = λ ended. ended-still (λ call. cond (call.0 == seq) (call.1 + 1) call.1) c.row (h.none_left ended);
     }
 
--- the note is called for
+-- the note is due
 pub called-for : (u : Under) (c : Course) (position seq : ℕ) (e : Entry) (n : Noted) (call : Call) → StaysChain
     → Holds u c → IsTurn u c position seq e → form u.conn seq c.past ≡ Some call
     → Answers e.policy (level e.name c.past) (moment c.past) call (noted e.name seq c.past) (note n) → IsCalledFor u c.past seq e.name n
@@ -100,7 +100,7 @@ called-for u c position seq e n call stays h turn is answers = record {
       (none-noted e.policy (level e.name c.past) (moment c.past) call (noted e.name seq c.past) n (fitting stays u c.past seq h.prefix e turn.there) answers);
 }
 
--- the entry lets the call pass behind its note
+-- the entry lets the call pass after its note
 lets-after : (u : Under) (past new : Behind) (seq l m : ℕ) (e : Entry) (n : Noted) (call : Call) → IsNote past new seq e.name n → form u.conn seq past ≡ Some call
     → Answers e.policy l m call (past_by n) pass → Lets u new seq e
 lets-after u past new seq l m e n call is form_is answers =

@@ -1,4 +1,4 @@
--- What holds of each list of happenings that came as the rules say.
+-- What holds of each trace that follows the rules.
 use Rattle.std.proofs.Common.{◌≡◌, ℕ, ◌+◌, ◌<◌, ◌≤◌, Bool, true, false, ◌==◌, cond, List, [], ◌∷◌, ◌++◌, length, map, refl, subst, arith, length-append}
 use Rattle.std.specs.Prelude.{filter, All, Contains}
 use Rattle.std.specs.List.{list_any}
@@ -21,7 +21,7 @@ use Rattle.call_history.specs.declared.happening.TookCopy.TheVariants.{Copy, Mal
 
 -- ---- the chain
 
--- a step leaves a chain
+-- after an operation a chain is still a chain
 abbrev pub StaysChain : Type 0
 StaysChain = (before after : Chain) (op : Step) → IsChain before → Changes before op after → IsChain after
 
@@ -32,7 +32,7 @@ chained stays u (x ∷ past) prefix = chained stays u past prefix.0
 
 -- ---- numbers
 
--- calls are numbered one after another, behind this number
+-- calls are numbered in order, after this number
 abbrev pub Numbered : ℕ → List Taken → Type 0
 Numbered last [] = Unit {0}
 Numbered last (call ∷ calls) = (call.seq ≡ last + 1) × Numbered (last + 1) calls
@@ -49,7 +49,7 @@ numbered u (Took call ∷ past) prefix = numbered-more 0 (taken past) call (numb
     (let next : call.seq ≡ length (taken past) + 1 = prefix.1.numbered.number in omega (arith, next))
 numbered u (x ∷ past) prefix = numbered u past prefix.0
 
--- each number is above the one before, and none is above this one
+-- each number is greater than the one before, and none is greater than this one
 abbrev pub Rising : (below top : ℕ) → List Taken → Type 0
 Rising below top [] = Unit {0}
 Rising below top (call ∷ calls) = (below < call.seq) × (call.seq ≤ top) × Rising call.seq top calls
@@ -70,7 +70,7 @@ pub few-numbers : (below top : ℕ) (calls : List Taken) → Rising below top ca
 few-numbers below top [] h = All-nil (λ seq. seq ≤ top)
 few-numbers below top (call ∷ calls) h = All-cons (λ seq. seq ≤ top) call.seq (map (λ other. other.seq) calls) h.1 (few-numbers call.seq top calls h.2)
 
--- a number that stands is none to come
+-- the number of a pending call is not a later one
 pub stood : (u : Under) (past : Behind) (seq : ℕ) → IsPrefix u past → Contains (map (λ call. call.seq) (standing past)) seq → seq ≤ length (taken past)
 stood u past seq prefix there =
     All-contains (λ n. n ≤ length (taken past)) (map (λ call. call.seq) (standing past)) seq (few-numbers 0 (length (taken past)) (standing past) (rising u past prefix)) there
@@ -85,7 +85,7 @@ is-first-few : (top : ℕ) (calls : List Taken) (seq : ℕ) → Rising 0 top cal
 is-first-few top [] seq h is = absurd is
 is-first-few top (x ∷ calls) seq h is = omega (arith, h.1, is)
 
--- a call is refused as malformed right behind its acceptance
+-- a call is refused as malformed right after its acceptance
 pub refused-at-once : (copy : TookCopy) (seq number : ℕ) → IsRefusedAtOnce copy seq (Refused number cause.Malformed) → number ≡ seq
 refused-at-once (Copy tree) seq number is = absurd is
 refused-at-once (Malformed reason place value) seq number is = cc
@@ -104,7 +104,7 @@ refused-few u past seq (cause.Rate name left cost) prefix may = stood u past seq
 refused-few u past seq (cause.Quota name ticket cap) prefix may = stood u past seq prefix may.answered.at.call_stands
 refused-few u past seq cause.Transport prefix may = is-first-few (length (taken past)) (standing past) seq (rising u past prefix) may.link_end.1
 
--- a number to come has no fate
+-- a later number has no fate
 pub fateless : (u : Under) (past : Behind) (seq : ℕ) → IsPrefix u past → length (taken past) < seq → list_any (is_fate_of seq) past ≡ false
 fateless u [] seq prefix above = refl
 fateless u (Took call ∷ past) seq prefix above = fateless u past seq prefix.0 (omega (arith, above, length-append (taken past) (call ∷ [])))
@@ -124,7 +124,7 @@ one-noted : (call top : ℕ) (b : Bool) (calls : List ℕ) → call ≤ top → 
 one-noted call top true calls few rest = All-cons (λ seq. seq ≤ top) call calls few rest
 one-noted call top false calls few rest = rest
 
--- none that is to come
+-- none with a later number
 pub noted-few : (u : Under) (past : Behind) (name : List ℕ) → IsPrefix u past → All (λ seq. seq ≤ length (taken past)) (noted_calls name past)
 noted-few u [] name prefix = All-nil (λ seq. seq ≤ 0)
 noted-few u (Op (Attach at other label policy) ∷ past) name prefix =

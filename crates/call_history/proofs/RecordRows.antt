@@ -1,4 +1,4 @@
--- What the records of a small history tell, worked out by hand.
+-- Worked by hand: the events that the records of a small history mean.
 use Rattle.std.proofs.Common.{◌≡◌, List, [], ◌∷◌, codes, map, refl, reverse, arith}
 use Rattle.engine_core.specs.declared.op.Op.{Op as Step}
 use Rattle.engine_core.specs.declared.op.Op.TheVariants.{Attach, Detach, Upgrade}
@@ -21,12 +21,12 @@ records =
 told-upgraded : map (told_by steps) records ≡ reverse (what.Sent 2 18 ∷ what.Refused 1 (cause.Access acl 2 no150) ∷ upgraded_before)
 told-upgraded = refl
 
--- behind the last rule the default
+-- the index after the last rule means the default
 told-default : told_by steps (Refused 1 (by.Access 2 2 1)) ≡ what.Refused 1 (cause.Access acl 2 (codes "default"))
 told-default = refl
 
--- a refusal names a rule of the policy that a step puts in, or its default; there is no rule behind it, and none of a
--- policy without rules
+-- a refusal names a rule of the policy that an operation sets, or its default; no later index is one, and a
+-- policy without rules has none
 named-rule : IsNamed steps (Refused 1 (by.Access 2 2 0))
 named-rule = (omega arith, omega arith)
 

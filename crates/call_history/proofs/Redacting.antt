@@ -1,4 +1,4 @@
--- Fields are cleared from a call, and it begins again, with all behind it.
+-- Fields of a call are cleared; the call and all later ones start over at position 0.
 use Rattle.std.proofs.Common.{◌≡◌, ◌≢◌, ℕ, cond, List, ◌∷◌, length, refl, ap, ◌∙◌, arith}
 use Rattle.std.specs.Prelude.{Some, nat_lt, option_map}
 use Rattle.std.proofs.lemmas.Bool.{ne_eqb}
@@ -17,7 +17,7 @@ use Rattle.call_history.proofs.Noting.{IsTurn, gives-by}
 use Rattle.call_history.proofs.Passing.{numbers-same, ended-still}
 use Rattle.call_history.proofs.Rowed.{row-begins}
 
--- the form of another call stays
+-- the form of another call is unchanged
 pub form-others : (conn seq s version : ℕ) (name : List ℕ) (past : Behind) → seq ≢ s → form conn s (Redacted seq name version ∷ past) ≡ form conn s past
 form-others conn seq s version name past apart =
     ap (λ b. cond b (option_map (redacted (policy_of name past)) (form conn s past)) (form conn s past)) (ne_eqb seq s apart)

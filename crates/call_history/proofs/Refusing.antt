@@ -1,4 +1,4 @@
--- An entry refuses a call, perhaps behind the ticket that it drew for it.
+-- An entry refuses a call, possibly after it drew a ticket for it.
 use Rattle.std.proofs.Common.{◌≡◌, ◌≢◌, ℕ, ◌||◌, true, false, cond, not, inl, inr, List, [], ◌∷◌, length, map, refl, sym, ap, ◌∙◌, subst, arith}
 use Rattle.std.specs.Prelude.{Contains, Some, slice_get}
 use Rattle.std.proofs.lemmas.Bool.{cases_eq, eq-eqb, ne_eqb}
@@ -33,7 +33,7 @@ use Rattle.call_history.proofs.Rowed.{IsRow, row-weaker}
 use Rattle.call_history.proofs.Sending.{stood-before}
 use Rattle.call_history.proofs.Standing.{standing-refused, calls-without}
 
--- ---- the others stay in the row
+-- ---- the others keep their places in the row
 
 pub row-left : (u : Under) (past new : Behind) (seq below top bound : ℕ) (row : Row) → KeepsOthers u past new seq
     → IsRow u past below top bound row → IsRow u new below top bound (without_call seq row)
@@ -102,7 +102,7 @@ failed-same past seq e why = ap (λ b. b || has_failed past) (not-transport seq 
 none-without : (seq : ℕ) (row : Row) → row ≡ [] → without_call seq row ≡ []
 none-without seq row none = ap (without_call seq) none
 
--- ---- with nothing to note
+-- ---- without a note
 
 pub refused : (u : Under) (c : Course) (position seq : ℕ) (e : Entry) (why : Why) (call : Call) → Holds u c → IsTurn u c position seq e → form u.conn seq c.past ≡ Some call
     → Answers e.policy (level e.name c.past) (moment c.past) call (noted e.name seq c.past) (refusal why)
@@ -133,7 +133,7 @@ refused u c position seq e why call h turn is answers =
       none_left = λ ended. none-without seq c.row (h.none_left ended);
     }
 
--- ---- behind a ticket
+-- ---- after a ticket
 
 not-pass : (why : Why) → refusal why ≡ pass → ⊥
 not-pass (Denied rule) is = cc

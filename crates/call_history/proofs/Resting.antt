@@ -1,4 +1,4 @@
--- Where the first call at a position is held, it stays so whatever entries at later positions do.
+-- If the first call at a position is held, it stays held whatever entries at later positions do.
 use Rattle.std.proofs.Common.{◌≡◌, ◌≢◌, ℕ, ◌+◌, ◌<◌, ◌≤◌, zero, suc, Bool, true, false, ◌==◌, cond, not, List, []}
 use Rattle.std.proofs.Common.{◌∷◌, length, refl, sym, ap, ◌∙◌, subst, arith}
 use Rattle.std.specs.Prelude.{Contains, Option, Some, slice_get}
@@ -25,9 +25,9 @@ use Rattle.call_history.proofs.Noting.{charge-note, draw-note, count-note, noted
 use Rattle.call_history.proofs.Prefixes.{StaysChain, chained}
 use Rattle.call_history.proofs.Rowed.{IsRow}
 
--- ---- a position at rest
+-- ---- a settled position
 
--- the entry at a position holds the call of a number
+-- the entry at a position holds the call
 pub record IsHeldAt (u : Under) (c : Course) (position seq : ℕ) : Type 0 where
   pub level : ℕ
   pub cost : ℕ
@@ -38,7 +38,7 @@ pub record IsHeldAt (u : Under) (c : Course) (position seq : ℕ) : Type 0 where
 pub record AtRest (u : Under) (c : Course) (position : ℕ) : Type 0 where
   pub held : (seq : ℕ) → first_at position c.row ≡ Some (seq, position) → IsHeldAt u c position seq
 
--- ---- what the entry of another name does changes nothing for an entry
+-- ---- a turn of an entry with another name doesn't affect an entry
 
 pub record IsBeside (past new : Behind) (name : List ℕ) : Type 0 where
   pub entries : (chain new).entries ≡ (chain past).entries
@@ -74,7 +74,7 @@ beside-note past name seq notes.Counted = record {
   notes = λ other s. noted-name past (note_behind name seq notes.Counted past) seq s name other notes.Counted (count-note past seq name);
 }
 
--- a turn that is done with its call
+-- a turn that is final for its call
 beside-turn : (c : Course) (seq : ℕ) (outcome : Outcome) (e : Entry) → IsDone outcome → IsBeside c.past (turned e seq outcome c).past e.name
 beside-turn c seq (Passed n) e done = beside-note c.past e.name seq n
 beside-turn c seq (Held left cost) e done = absurd done
@@ -84,7 +84,7 @@ beside-turn c seq Redacted e done = absurd done
 
 -- ---- the same turn
 
--- what a turn of an entry with a call looks at
+-- what a turn of an entry with a call depends on
 record IsSeenAlike (u : Under) (c d : Course) (position seq : ℕ) (name : List ℕ) : Type 0 where
   entries : (chain d.past).entries ≡ (chain c.past).entries
   row : first_at position d.row ≡ first_at position c.row
@@ -105,7 +105,7 @@ turn-again u c d position seq outcome e same turn = record {
       (subst (λ (p : Past). ComesOut e.policy (level e.name c.past) (moment c.past) turn.call p outcome) (sym same.notes) turn.comes));
 }
 
--- ---- names at two places
+-- ---- names at two positions
 
 contains-at : (es : List Entry) (place : ℕ) (e : Entry) → slice_get es place ≡ Some e → Contains es e
 contains-at es place e at = let there = cut es place e at in contains-in es there.front there.back e there.entries
@@ -121,7 +121,7 @@ places-apart (x ∷ es) (suc q) (suc p) d e apart at_d at_e less same = places-a
 
 -- ---- the first call at another position
 
--- the call of a number stands at a position, if it is in the row
+-- the call is at a position, if it is in the row
 abbrev StandsThere : (seq position : ℕ) → Row → Type 0
 StandsThere seq position [] = Unit {0}
 StandsThere seq position (x ∷ row) = (x.0 ≡ seq → x.1 ≡ position) × StandsThere seq position row
@@ -193,9 +193,9 @@ first-turned u c position q seq (Refused n why) e h first less done =
     first-without seq position q c.row (only-there u c.past 0 (length (taken c.past)) (length (chain c.past).entries) seq position c.row h.row first) (λ same. omega (arith, same, less))
 first-turned u c position q seq Redacted e h first less done = absurd done
 
--- ---- it stays at rest
+-- ---- it stays settled
 
--- behind a turn at a later position that is done with its call
+-- after a turn at a later position that is final for its call
 pub rests-on : (u : Under) (c : Course) (position q seq : ℕ) (outcome : Outcome) (e : Entry) → StaysChain → Holds u c
     → HasTurn u c position seq outcome e → IsDone outcome → q < position
     → AtRest u c q → AtRest u (turned e seq outcome c) q
@@ -225,7 +225,7 @@ rests-on u c position q seq outcome e chains h turn done less rest = record { he
           }) held.turn;
         }
 
--- behind a sending
+-- after a send
 pub rests-sent : (u : Under) (c : Course) (position q seq bytes : ℕ) → Holds u c → first_at position c.row ≡ Some (seq, position) → q < position → AtRest u c q
     → AtRest u (record c { past = Sent seq bytes ∷ c.past; row = without_call seq c.row }) q
 rests-sent u c position q seq bytes h first less rest = record { held = λ s first. still s (sym same-first ∙ first) }

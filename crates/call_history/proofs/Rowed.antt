@@ -1,5 +1,5 @@
--- The calls of a connection in a row, each with its position: numbers rise, positions never do, and every entry before a
--- position lets its call pass.
+-- The calls of a connection in a row, each with its position. Numbers increase, positions never do, and every
+-- entry before a position lets its call pass.
 use Rattle.std.proofs.Common.{◌≡◌, ℕ, ◌<◌, ◌≤◌, true, false, ◌==◌, cond, not, [], ◌∷◌, ◌++◌, length, map, take, inl, inr, sym, subst, arith}
 use Rattle.std.specs.Prelude.{All, nat_lt}
 use Rattle.std.proofs.lemmas.Bool.{cases_lt, lt-ltb, le-ltb}
@@ -8,7 +8,7 @@ use Rattle.call_history.specs.Behind.{Behind, chain}
 use Rattle.engine_core.specs.Moves.{Row, begin_again, without_call}
 use Rattle.call_history.specs.Rules.{Under, Lets}
 
--- the call of a number may stand at a position
+-- a position is legal for the call with this number
 pub record StandsAt (u : Under) (past : Behind) (seq position : ℕ) : Type 0 where
   pub within : position ≤ length (chain past).entries
   pub let_pass : All (Lets u past seq) (take position (chain past).entries)
@@ -24,7 +24,7 @@ abbrev pub IsRow : (u : Under) (past : Behind) (below top bound : ℕ) → Row �
 IsRow u past below top bound [] = Unit {0}
 IsRow u past below top bound (call ∷ row) = IsPlaced u past below top bound call × IsRow u past call.0 top call.1 row
 
--- at the front nothing is asked
+-- position 0 is legal for every call
 pub stands-first : (u : Under) (past : Behind) (seq : ℕ) → StandsAt u past seq 0
 stands-first u past seq = record { within = omega arith; let_pass = All-nil (Lets u past seq) }
 
@@ -39,9 +39,9 @@ row-weaker u past below under top over bound wide [] a b c h = tt
 row-weaker u past below under top over bound wide (call ∷ row) a b c h =
     (placed-weaker u past below under top over bound wide call a b c h.0, row-weaker u past call.0 call.0 top over call.1 call.1 row (omega arith) b (omega arith) h.1)
 
--- ---- what moves no call
+-- ---- events that move no call
 
--- what may stand at a position before may do so afterwards, for numbers up to a top
+-- positions that were legal still are, for numbers up to a top
 abbrev pub Keeps : (u : Under) (past new : Behind) (top : ℕ) → Type 0
 Keeps u past new top = (seq position : ℕ) → seq ≤ top → StandsAt u past seq position → StandsAt u new seq position
 
@@ -52,7 +52,7 @@ row-kept u past new below top bound (call ∷ row) keeps h = (
   row-kept u past new call.0 top call.1 row keeps h.1,
 )
 
--- a new call at the front
+-- a new call at position 0
 pub row-more : (u : Under) (past : Behind) (below top seq bound : ℕ) (row : Row) → top < seq → below < seq
     → IsRow u past below top bound row → IsRow u past below seq bound (row ++ (seq, 0) ∷ [])
 row-more u past below top seq bound [] above over h = (record { number = over; few = omega arith; falls = omega arith; stands = stands-first u past seq }, tt)
@@ -71,7 +71,7 @@ row-without u past below top bound seq (call ∷ row) h =
       | false ↦ row-weaker u past call.0 below top top call.1 bound (without_call seq row) (omega (arith, h.0.number)) (omega arith) (omega (arith, h.0.falls)) rest
     ]
 
--- ---- what moves calls by their positions
+-- ---- events that move calls by their positions
 
 pub row-moved : (u : Under) (past new : Behind) (f : ℕ → ℕ) (below top bound : ℕ) (row : Row) → ((p q : ℕ) → p ≤ q → f p ≤ f q)
     → ((seq position : ℕ) → StandsAt u past seq position → StandsAt u new seq (f position))
@@ -82,7 +82,7 @@ row-moved u past new f below top bound (call ∷ row) rises keeps h = (
   row-moved u past new f call.0 top call.1 row rises keeps h.1,
 )
 
--- a call and those of greater numbers begin again
+-- a call and those with greater numbers start over
 begin-later : (u : Under) (past new : Behind) (seq below top bound : ℕ) (row : Row) → seq ≤ below → IsRow u past below top bound row → IsRow u new below top 0 (begin_again seq row)
 begin-later u past new seq below top bound [] later h = tt
 begin-later u past new seq below top bound (call ∷ row) later h =

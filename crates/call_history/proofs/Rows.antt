@@ -1,4 +1,4 @@
--- The definitions on small histories that were worked out by hand, each the happenings of one connection in order.
+-- Worked by hand: the definitions on small histories, each the events of one connection in order.
 use Rattle.std.proofs.Common.{◌≡◌, ℕ, Bool, true, false, List, [], ◌∷◌, codes, reverse, refl}
 use Rattle.std.specs.Prelude.{Option, Some}
 use Rattle.mrpc_table.specs.Node.{Node, no_fields, field, one, number}
@@ -174,7 +174,7 @@ level-charged = refl
 noted_calls-charged : noted_calls rl (Charged 3 rl 0 ∷ filled) ≡ 3 ∷ 2 ∷ 1 ∷ []
 noted_calls-charged = refl
 
--- ---- an upgrade with two calls behind the old version
+-- ---- an upgrade after two calls passed the old version
 
 abbrev pub upgraded_before : Behind
 upgraded_before = reverse (
@@ -197,7 +197,7 @@ level-upgraded = refl
 standing-upgraded : standing (Refused 1 (cause.Access acl 2 no150) ∷ upgraded_before) ≡ request 2 2 1 (with_number 7) ∷ []
 standing-upgraded = refl
 
--- ---- a policy that is detached and attached again: the bucket is full, and nothing is noted
+-- ---- a policy that is detached and attached again: the bucket is full, and no call is noted
 
 abbrev pub again : Behind
 again = reverse (
@@ -223,7 +223,7 @@ noted_calls-again = refl
 standing-again : standing (Sent 2 18 ∷ Charged 2 rl 0 ∷ again) ≡ seven 3 ∷ []
 standing-again = refl
 
--- ---- a link that fails with two calls left
+-- ---- a link that fails with two calls pending
 
 abbrev pub failing : Behind
 failing = reverse (Took (seven 1) ∷ Took (seven 2) ∷ Took (seven 3) ∷ Sent 1 18 ∷ Refused 2 cause.Transport ∷ [])
@@ -250,7 +250,7 @@ noted-first_drawn = refl
 noted-drawn_over : noted q 2 drawn_over ≡ drawn 1
 noted-drawn_over = refl
 
--- ---- a counted call, and a policy that is attached behind the count and denies it
+-- ---- a counted call, and a policy attached after the counting one that denies it
 
 abbrev pub counted_first : Behind
 counted_first = reverse (Op (Attach 0 c c Count) ∷ Took (seven 1) ∷ Counted 1 c ∷ Op (Attach 1 d d closing) ∷ [])
@@ -264,7 +264,7 @@ noted-counted_first = refl
 noted-other : noted d 1 counted_first ≡ nothing
 noted-other = refl
 
--- ---- a field is cleared, and the policy before it is asked again
+-- ---- a field is cleared, and the previous policy is asked again
 
 abbrev pub two_fields : Table
 two_fields = table_of (number_field 1 (codes "a") ∷ number_field 2 (codes "b") ∷ [])
@@ -290,7 +290,7 @@ form-cleared = refl
 noted-cleared : noted cut 1 (cleared but_5) ≡ nothing
 noted-cleared = refl
 
--- one that allows only requests with 9
+-- a policy that allows only requests with 9
 abbrev pub only_9 : AccessPolicy
 only_9 = record { rules = where_equal (codes "need") true 2 9 ∷ []; allow = false }
 

@@ -1,4 +1,4 @@
--- The first call that stands is sent.
+-- The oldest pending call is sent.
 use Rattle.std.proofs.Common.{◌≡◌, ℕ, ◌==◌, not, cond, Bool, false, true, List, [], ◌∷◌, length, map, take, refl, sym, ap, ◌∙◌, subst, arith}
 use Rattle.std.specs.Prelude.{All, Contains, Some}
 use Rattle.std.proofs.lemmas.Bool.{eqb-false}
@@ -16,12 +16,12 @@ use Rattle.call_history.proofs.Looking.{lets-still}
 use Rattle.call_history.proofs.Rowed.{IsRow, row-kept, row-without}
 use Rattle.call_history.proofs.Standing.{standing-sent, others_of, calls-without, map-filter}
 
--- a call that stands behind the fate of another stood before
+-- a call that is pending after the fate of another was pending before
 pub stood-before : (calls : List Taken) (seq s : ℕ) → Contains (map (λ call. call.seq) (others_of seq calls)) s → Contains (map (λ call. call.seq) calls) s
 stood-before calls seq s has = contains-kept (λ n. not (seq == n)) (map (λ call. call.seq) calls) s
     (subst (λ (ns : List ℕ). Contains ns s) (map-filter (λ (call : Taken). call.seq) (λ n. not (seq == n)) calls) has)
 
--- ---- the call at the chain's end is the first that stands
+-- ---- the call at the end of the chain is the oldest pending one
 
 record IsHeadOf (row : Row) (calls : List Taken) (seq : ℕ) : Type 0 where
   call : Taken

@@ -1,4 +1,4 @@
--- Behind a whole drain a connection is settled.
+-- After a complete drain a connection is settled.
 use Rattle.std.proofs.Common.{◌≡◌, ◌≢◌, ℕ, ◌+◌, ◌<◌, ◌≤◌, zero, suc, Bool, true, false, ◌==◌, cond, inl, inr, List}
 use Rattle.std.proofs.Common.{[], ◌∷◌, length, map, refl, sym, ap, ◌∙◌, subst, arith}
 use Rattle.std.specs.Prelude.{All, Option, Some, None, option_map, slice_get}
@@ -29,7 +29,7 @@ use Rattle.call_history.proofs.Prefixes.{StaysChain}
 use Rattle.call_history.proofs.Resting.{IsHeldAt, AtRest, rests-on, rests-sent}
 use Rattle.call_history.proofs.Rowed.{IsRow}
 
--- all positions before one are at rest
+-- all positions before one are settled
 abbrev pub RestBefore : Under → Course → ℕ → Type 0
 RestBefore u c position = (q : ℕ) → q < position → AtRest u c q
 
@@ -40,7 +40,7 @@ turn-holds : (u : Under) (c : Course) (position seq : ℕ) (outcome : Outcome) (
 turn-holds u c position seq outcome e chains h turn =
     event-holds u c (turned e seq outcome c) (turns position seq outcome) chains h (has_turn position seq outcome e refl turn refl)
 
--- what holds behind the turns at a position
+-- what holds after the turns at a position
 record HasRested (u : Under) (position : ℕ) (ending : Ending) (new : Course) : Type 0 where
   holds : Holds u new
   rest : ending ≡ at_rest → RestBefore u new (position + 1)
@@ -79,7 +79,7 @@ turns-rest u position old new ending chains (goes c d how seq outcome e turn don
 
 -- ---- passes
 
--- all positions are at rest
+-- all positions are settled
 pub record HasPassed (u : Under) (new : Course) : Type 0 where
   pub holds : Holds u new
   pub rest : RestBefore u new (length (chain new.past).entries)
@@ -93,9 +93,9 @@ passes-rest u position old new chains (begins_again p c between d within turn re
     let behind : HasRested u p again between = turns-rest u p c between again chains turn h before in
     passes-rest u 0 between d chains rest behind.holds (λ q less. absurd (omega (arith, less)))
 
--- ---- sendings
+-- ---- sends
 
--- a call of the row's end is sent
+-- the call at the end of the row is sent
 record IsSending (u : Under) (old : Course) (seq : ℕ) (new : Course) : Type 0 where
   bytes : ℕ
   first : first_at (length (chain old.past).entries) old.row ≡ Some (seq, length (chain old.past).entries)
@@ -123,7 +123,7 @@ sends-rest u old new chains (one c between d seq bytes comes rest) passed =
           (λ q less. rests-sent u c (length (chain c.past).entries) q seq sending.bytes passed.holds sending.first less (passed.rest q less));
     })
 
--- ---- what a drain keeps
+-- ---- a drain preserves the invariant
 
 pub begins-hold : (u : Under) (old new : Course) → StaysChain → Holds u old → BeginsToDrain u old new → HasPassed u new
 begins-hold u old new chains h drain =
@@ -141,7 +141,7 @@ fails-keep chains u old new h drain =
 
 -- ---- settled
 
--- no call stands at the bound
+-- no call is at the bound
 all-before : (u : Under) (past : Behind) (below top bound end : ℕ) (row : Row) → bound ≤ end
     → IsRow u past below top bound row → first_at end row ≡ None → All (λ p. p < end) (map (λ call. call.1) row)
 all-before u past below top bound end [] within h is = All-nil (λ p. p < end)

@@ -1,4 +1,4 @@
--- What is left of a tree has no longer encoding.
+-- After a clear, a tree's encoding is never longer.
 use Rattle.std.proofs.Common.{◌≡◌, ℕ, zero, suc, ◌+◌, ◌/◌, ◌%◌, ◌<◌, ◌≤◌, Bool, true, false, cond, List, [], ◌∷◌}
 use Rattle.std.proofs.Common.{◌++◌, length, refl, sym, ◌∙◌, arith, nat_lt}
 use Rattle.std.proofs.lemmas.Bool.{ltb-true, lt-ltb}
@@ -85,6 +85,6 @@ mutual
   item-falls T k at (node t) = delimited-falls (fields_bytes T (fields_of T (nested_message k)) (without at t))
       (fields_bytes T (fields_of T (nested_message k)) t) (fields-fall T (fields_of T (nested_message k)) at t)
 
--- what the clears leave of a call
+-- the payload of a call after clears
 pub payload-falls : (T : Table) (clears : List Clear) (call : Call) → length (payload T (cleared_call clears call)) ≤ length (payload T call)
 payload-falls T clears call = fields-fall T (fields_of T (message_at T call.method call.number)) (is_listed clears call) call.tree

@@ -1,4 +1,4 @@
--- A moment changes nothing of calls, nor does one that isn't accepted.
+-- A timestamp doesn't affect calls, nor does a call that isn't accepted.
 use Rattle.std.proofs.Common.{◌≡◌, ℕ, ◌<◌, true, ◌∷◌, length, refl, ap, arith}
 use Rattle.call_history.specs.Behind.{Behind, chain, moment, taken, standing, has_failed}
 use Rattle.call_history.specs.Events.{Course}
@@ -41,7 +41,7 @@ away u c method number addr h full =
       none_left = h.none_left;
     }
   where
-    -- calls stand, so the link works
+    -- calls are pending, so the link works
     not-failed : has_failed c.past ≡ true → ⊥
     not-failed failed = let none : length (standing c.past) ≡ 0 = ap (length {A = Taken}) (ended c.past h.settled failed) in omega (arith, none, full)
 

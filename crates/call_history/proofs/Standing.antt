@@ -1,4 +1,4 @@
--- The calls that stand once one more happening came.
+-- The pending calls after one more event.
 use Rattle.std.proofs.Common.{◌≡◌, ℕ, ◌+◌, Bool, true, false, ◌||◌, ◌==◌, cond, not, List, [], ◌∷◌, ◌++◌, length, map, refl, sym, ap, ◌∙◌, arith}
 use Rattle.std.specs.Prelude.{filter}
 use Rattle.std.specs.List.{list_any}
@@ -12,7 +12,7 @@ use Rattle.call_history.specs.declared.happening.Happening.TheVariants.{Took, Se
 use Rattle.call_history.specs.declared.happening.Taken.{Taken}
 use Rattle.call_history.proofs.Prefixes.{fateless}
 
--- dropping what passes one of two tests is dropping by the one, and then by the other
+-- dropping what passes either of two tests is dropping by one, then by the other
 filter-both : {A : Type 0} (p q : A → Bool) (xs : List A) → filter (λ x. not (p x || q x)) xs ≡ filter (λ x. not (p x)) (filter (λ x. not (q x)) xs)
 filter-both p q [] = refl
 filter-both {A} p q (x ∷ xs) =
@@ -40,7 +40,7 @@ standing-took u past call prefix next =
 
 -- ---- fates
 
--- the calls but that of a number
+-- the calls without the one with this number
 abbrev pub others_of : ℕ → List Taken → List Taken
 others_of seq calls = filter (λ call. not (seq == call.seq)) calls
 
@@ -50,7 +50,7 @@ standing-sent past seq bytes = filter-both (λ call. seq == call.seq) (λ call. 
 pub standing-refused : (past : Behind) (seq : ℕ) (why : Cause) → standing (Refused seq why ∷ past) ≡ others_of seq (standing past)
 standing-refused past seq why = filter-both (λ call. seq == call.seq) (λ call. list_any (is_fate_of call.seq) past) (taken past)
 
--- a row and the calls that stand lose one call alike
+-- a row and the pending calls lose the same call
 pub calls-without : (seq : ℕ) (row : Row) (calls : List Taken) → map (λ call. call.0) row ≡ map (λ call. call.seq) calls
     → map (λ call. call.0) (without_call seq row) ≡ map (λ call. call.seq) (others_of seq calls)
 calls-without seq row calls same =

@@ -1,4 +1,4 @@
--- An engine works on a call: what the turn notes, clears and charges is what the history says behind it.
+-- An engine works on a call: its note, its clears and its charge agree with the trace after the turn.
 use Rattle.std.proofs.Common.{◌≡◌, ◌≢◌, ℕ, ◌<◌, ◌≤◌, inl, inr, List, [], ◌∷◌, length, map, get_or, refl, sym, ap, ◌∙◌, subst, arith}
 use Rattle.std.specs.Prelude.{All, Contains, Option, Some, None, option_map}
 use Rattle.std.proofs.lemmas.List.Elements.{All-set, Contains-get_or}
@@ -26,9 +26,9 @@ use Rattle.call_history.proofs.Noting.{charge-note, draw-note, count-note, noted
 use Rattle.call_history.proofs.Redacting.{form-others}
 use Rattle.call_history.proofs.Tying.{All-at, contains-at, contains-map, policy-there, replaced, replaced-call, same-map}
 
--- ---- what is behind a turn
+-- ---- the trace after a turn
 
--- what a note makes of levels and notes
+-- how a note changes levels and notes
 record IsNoted (past new : Behind) (name : List ℕ) (seq : ℕ) (n : Noted) : Type 0 where
   chain_same : chain new ≡ chain past
   moment_same : moment new ≡ moment past
@@ -81,7 +81,7 @@ is-noted past name seq notes.Counted = record {
   noted_name = λ other s apart. noted-name past (what.Counted seq name ∷ past) seq s name other notes.Counted (count-note past seq name) apart;
 }
 
--- what a turn makes of levels, notes and forms
+-- how a turn changes levels, notes and forms
 record IsWorked (past new : Behind) (e : Entry) (seq : ℕ) (outcome : Outcome) : Type 0 where
   chain_same : chain new ≡ chain past
   moment_same : moment new ≡ moment past
@@ -158,7 +158,7 @@ attached-apart es n e all has =
     let there : Contains (attachments_of es) e.attach = contains-map (λ (e : Entry). e.attach) es e has in
     subst (λ (k : ℕ). k ≤ n) there.2 (all there.0 e.attach there.1)
 
--- an attachment is of one entry
+-- an attachment belongs to one entry
 same-by : {X Y : Type 0} (f : X → Y) (xs : List X) (a b : X) → AreDistinct (map f xs) → Contains xs a → Contains xs b → f a ≡ f b → a ≡ b
 same-by f [] a b apart has_a has_b same = absurd (omega (arith, has_a.1))
 same-by {Y = Y} f (x ∷ xs) a b apart has_a has_b same = elim (contains-cases x xs a has_a) [
@@ -227,7 +227,7 @@ module _ (conn : ℕ) (past : Behind) (es : List EngineParts) (n : ℕ) (calls :
         last = was.last ∙ sym is.moment_same;
       }
 
-  -- a call that wasn't worked on
+  -- a call that the turn didn't work on
   other-kept : (s : StandingCall) → s.call.seq ≢ w.call.call.seq → IsCallBehind conn past es n s
       → IsCallBehind conn (worked w.engine.entry w.call.call.seq outcome past) es' n s
   other-kept s apart was = record {
@@ -238,7 +238,7 @@ module _ (conn : ℕ) (past : Behind) (es : List EngineParts) (n : ℕ) (calls :
     true_for = entries-kept (λ (e : Entry). IsTrueFor e s) was.true_for;
   }
 
-  -- the call that was
+  -- the call that it worked on
 
   number-kept : w.call'.call.seq ≡ w.call.call.seq
   number-kept = ap (λ (call : Call). call.seq) w.leaves_call.form ∙ same-seq outcome w.engine.entry.policy w.call.call

@@ -1,4 +1,4 @@
--- A call is taken, an operator's step changes the engines, and the clock shows a later moment.
+-- A call is accepted, an operation changes the engines, and the clock advances.
 use Rattle.std.proofs.Common.{◌≡◌, ◌≢◌, ℕ, ◌+◌, ◌-◌, ◌<◌, ◌≤◌, max, zero, suc, Bool, true, false, not, cond, ◌&&◌}
 use Rattle.std.proofs.Common.{◌==◌, if◌then◌else◌, List, [], ◌∷◌, ◌++◌, length, map, filter, set, insert}
 use Rattle.std.proofs.Common.{remove, get_or, slice_get, refl, sym, ap, ◌∙◌, subst, arith}
@@ -30,11 +30,11 @@ use Rattle.call_history.proofs.Looking.{equal-name, other-name}
 use Rattle.call_history.proofs.Prefixes.{StaysChain, chained, noted-few}
 use Rattle.call_history.proofs.Tying.{All-at, All-insert, All-remove, contains-at, insert-map, named-in, policy-there, remove-map, replaced}
 
--- a call without a mark of an entry's attachment has true marks for it
+-- a call without a mark of an entry's attachment has true marks for the entry
 abbrev pub TrueUnmarked : Type 0
 TrueUnmarked = (e : Entry) (s : StandingCall) → note_of s.marks e.attach ≡ None → IsTrueFor e s
 
--- ---- a call is taken
+-- ---- a call is accepted
 
 copied-number : (conn : ℕ) (call : Taken) (copy : TookCopy) (made : Call) → copied conn call copy ≡ Some made → made.seq ≡ call.seq
 copied-number conn call (Copy tree) made is = let same : with_tree conn call tree ≡ made = cc in ap (λ (c : Call). c.seq) (sym same)
@@ -53,7 +53,7 @@ unnoted-new : (seq : ℕ) (b : Bool) (calls : List ℕ) (rest : Past) → All (�
 unnoted-new seq true calls rest apart further = refl
 unnoted-new seq false calls rest apart further = further apart
 
--- of a call that was never noted nothing was noted
+-- nothing was noted of a call that no entry noted
 unnoted : (past : Behind) (name : List ℕ) (seq : ℕ) → All (λ other. other ≢ seq) (noted_calls name past) → noted name seq past ≡ nothing
 unnoted [] name seq apart = refl
 unnoted (Op (Attach at other label policy) ∷ past) name seq apart = unnoted-new seq (bytes_eq other name) (noted_calls name past) (noted name seq past) apart (unnoted past name seq)
@@ -164,7 +164,7 @@ attaches-on unmarked conn past es n calls at name label policy ties changes = re
               was.true_for (unmarked (new_entry name (n + 1) policy) s none);
         }
 
--- ---- the entry of a name leaves, or gets another policy
+-- ---- the entry with a name is detached, or gets another policy
 
 none-named : (name : List ℕ) (es : List Entry) → (Contains (names_of es) name → ⊥) → filter (λ e. not (is_named name e)) es ≡ es
 none-named name [] none = refl
@@ -293,7 +293,7 @@ upgrades-on stays u past es n calls name label policy p e e' prefix ties is same
       true_for = All-set (λ e. IsTrueFor e.entry s) es p e' (true_still s (All-at (λ e. IsTrueFor e.entry s) es p e was.true_for is)) was.true_for;
     }
 
--- ---- the clock shows a later moment
+-- ---- the clock advances
 
 same-entries : (now : ℕ) (es : List EngineParts) → map (λ e. e.entry) (map (λ e. clocked now e) es) ≡ map (λ e. e.entry) es
 same-entries now [] = refl

@@ -1,5 +1,5 @@
--- Small courses of events that were worked out by hand: what each adds, where its calls stand, and that its history is
--- legal.
+-- Worked by hand: small lists of transitions, what each adds, the positions of its calls, and that the history
+-- is legal.
 use Rattle.std.proofs.Common.{◌≡◌, ℕ, ◌+◌, ◌<◌, ◌≤◌, ◌^◌, true, false, List, [], ◌∷◌, ◌++◌, codes, length, refl, arith}
 use Rattle.std.specs.Prelude.{Contains, Some}
 use Rattle.mrpc_table.specs.Normal.{IsNormal}
@@ -33,7 +33,7 @@ use Rattle.call_history.proofs.Rows.{table, with_number, acl, but_150, seven, ca
 abbrev pub under : Under
 under = record { conn = 1; table = table; limit = 1024 }
 
--- ---- what is needed of calls and steps
+-- ---- facts about calls and operations
 
 pub normal_number : (v : ℕ) → 0 < v → v < 2 ^ 64 → IsNormal table 0 (with_number v)
 normal_number v above fits = record {
@@ -49,7 +49,7 @@ form_of seq v = record { conn = 1; seq = seq; method = 0; number = 0; tree = wit
 pub none-in : {X : Type 0} (x : X) → Contains [] x → ⊥
 none-in x has = omega (arith, has.1)
 
--- a step that nothing stands against
+-- an operation that the chain accepts
 free-attach : (entries : List Entry) (at : ℕ) (name label : List ℕ) (policy : Policy) (refusal : Refusal)
     → (Contains (names_of entries) name → ⊥) → at ≤ length entries → length entries < 8
     → IsAgainst entries (Attach at name label policy) refusal → ⊥

@@ -1,4 +1,4 @@
--- Engines and calls with their marks: lists with one item in another's place, and the entry of each engine.
+-- Engines and calls with their marks: lists in which one item is replaced, and the entry of each engine.
 use Rattle.std.proofs.Common.{◌≡◌, ◌≢◌, ℕ, zero, suc, cond, inl, inr, List, [], ◌∷◌, map}
 use Rattle.std.proofs.Common.{take, drop, set, insert, remove, get_or, slice_get, refl, sym, ap, ◌∙◌, subst, arith}
 use Rattle.std.specs.Prelude.{All, Contains, find, option_map, Some}
@@ -58,7 +58,7 @@ named-in es e has = named-there (map (λ (e : EngineParts). e.entry) es) e.entry
 pub attached-in : (es : List EngineParts) (e : EngineParts) → Contains es e → Contains (attachments_of (map (λ e. e.entry) es)) e.entry.attach
 attached-in es e has = contains-map (λ (e : Entry). e.attach) (map (λ (e : EngineParts). e.entry) es) e.entry (contains-map (λ (e : EngineParts). e.entry) es e has)
 
--- an engine in the place of another of its entry: the others have other names and attachments
+-- an engine is replaced by another with its entry; the others have other names and attachments
 pub replaced : (P Q : EngineParts → Type 0) (es : List EngineParts) (p : ℕ) (e e' : EngineParts)
     → AreDistinct (names_of (map (λ e. e.entry) es)) → AreDistinct (attachments_of (map (λ e. e.entry) es)) → slice_get es p ≡ Some e → Q e'
     → ((x : EngineParts) → x.entry.name ≢ e.entry.name → x.entry.attach ≢ e.entry.attach → P x → Q x) → All P es → All Q (set es p e')
@@ -79,7 +79,7 @@ replaced P Q (x ∷ es) (suc p) e e' names attaches is own others all =
     (All-head P x es all))
     (replaced P Q es p e e' names.1 attaches.1 is own others (All-tail P x es all))
 
--- a call in the place of another of its number
+-- a call is replaced by another with its number
 pub replaced-call : (P Q : StandingCall → Type 0) (calls : List StandingCall) (j : ℕ) (s s' : StandingCall) → AreNumbersApart calls → slice_get calls j ≡ Some s
     → Q s' → ((x : StandingCall) → x.call.seq ≢ s.call.seq → P x → Q x) → All P calls → All Q (set calls j s')
 replaced-call P Q [] j s s' apart is own others all = absurd cc

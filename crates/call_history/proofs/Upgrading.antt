@@ -1,4 +1,4 @@
--- An upgrade leaves the entries before it, and what was noted.
+-- An upgrade doesn't change the entries before it, nor the notes.
 use Rattle.std.proofs.Common.{◌≡◌, ℕ, ◌+◌, ◌≤◌, zero, suc, min, Bool, true, false, cond, if◌then◌else◌, List, [], ◌∷◌}
 use Rattle.std.proofs.Common.{length, map, take, refl, sym, ap, subst, arith}
 use Rattle.std.specs.Prelude.{All}

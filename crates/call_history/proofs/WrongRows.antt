@@ -1,4 +1,4 @@
--- Small histories that aren't legal, worked out by hand.
+-- Worked by hand: small histories that aren't legal.
 use Rattle.std.proofs.Common.{◌≡◌, ℕ, ◌<◌, true, false, [], ◌∷◌, refl, sym, ap, ◌∙◌, arith}
 use Rattle.std.proofs.lemmas.List.Elements.{All-head}
 use Rattle.graph_form.specs.declared.reason.Reason.TheVariants.{Address}
@@ -59,7 +59,7 @@ not-over_and_on ms legal =
 not-over_at_the_end : IsLegalBehind under drawn_over → ⊥
 not-over_at_the_end legal = legal.closed.quota (record { policy = _; cap = 1; is_policy = refl; is_cap = refl; over = λ less. omega (arith, less) })
 
--- ---- a call is refused for the link, and the one behind it isn't
+-- ---- a call is refused for the link, and the next pending one isn't
 
 not-left : (ms : ℕ) → IsLegalBehind under (Moment ms ∷ failing) → ⊥
 not-left ms legal = let wrong : Moment ms ≡ Refused 3 cause.Transport = legal.prefix.1.link_end.0 refl in cc

@@ -1,5 +1,5 @@
--- What a list of happenings has made of a connection. The list is what is behind: the happenings of one connection,
--- the latest first (this project's own).
+-- The state of a connection as a function of its trace: the events of one connection, latest first (this
+-- project's own).
 use Rattle.std.specs.Prelude.{ℕ, ◌-◌, ◌==◌, Bool, true, false, not, ◌&&◌, List, [], ◌∷◌, ◌++◌, filter, find, option_map, Option, Some, None, if◌then◌else◌}
 use Rattle.std.specs.List.{list_any}
 use Rattle.std.specs.Str.{bytes_eq}
@@ -19,7 +19,7 @@ use Rattle.call_history.specs.declared.happening.Taken.{Taken}
 use Rattle.call_history.specs.declared.happening.TookCopy.{TookCopy}
 use Rattle.call_history.specs.declared.happening.TookCopy.TheVariants.{Copy, Malformed}
 
--- what is behind, the latest first
+-- the trace of a connection: its events, latest first
 abbrev pub Behind : Type 0
 Behind = List Happening
 
@@ -28,26 +28,26 @@ Behind = List Happening
 abbrev pub empty_chain : Chain
 empty_chain = record { entries = []; attached = 0 }
 
--- the chain: that of the operator's steps, one after another
+-- the chain that results from all operations, applied in order
 abbrev pub chain : Behind → Chain
 chain [] = empty_chain
 chain (Op step ∷ past) = changed step (chain past)
 chain (_ ∷ past) = chain past
 
--- the policy of the entry of a name
+-- the policy of the entry with a name
 abbrev pub policy_of : List ℕ → Behind → Option Policy
 policy_of name past = option_map (λ e. e.policy) (find (is_named name) (chain past).entries)
 
 -- ---- the clock and the buckets
 
--- the latest moment, in milliseconds; 0 before the first
+-- the latest timestamp, in milliseconds; 0 before the first
 abbrev pub moment : Behind → ℕ
 moment [] = 0
 moment (Moment ms ∷ past) = ms
 moment (_ ∷ past) = moment past
 
--- the level of a name's bucket under another policy, and some milliseconds later; nothing changes where no entry has
--- the name
+-- `converted` is the level of a name's bucket under a new policy, `filled` the level some milliseconds later.
+-- Both leave the level as it is if no entry has the name.
 abbrev pub converted : Option Policy → Policy → ℕ → ℕ
 converted None new level = level
 converted (Some old) new level = level_under old new level
@@ -56,8 +56,8 @@ abbrev pub filled : Option Policy → ℕ → ℕ → ℕ
 filled None passed level = level
 filled (Some policy) passed level = level_at policy level passed
 
--- The level of the bucket of a name, since its latest attachment. It begins full, time fills it, a call's charge leaves
--- what the note says, and an upgrade converts it. A policy that isn't one of rates has the level 0.
+-- The level of a name's bucket since the name's latest attachment. It starts full and time fills it. A charge
+-- sets it to the level in the note, and an upgrade converts it. A policy that isn't a rate policy has level 0.
 abbrev pub level : List ℕ → Behind → ℕ
 level name [] = 0
 level name (Op (Attach at other label policy) ∷ past) =
@@ -70,7 +70,7 @@ level name (_ ∷ past) = level name past
 
 -- ---- notes
 
--- what was noted of a call by the entry of a name, since its latest attachment
+-- what the entry with a name noted of a call since its latest attachment
 abbrev pub noted : List ℕ → ℕ → Behind → Past
 noted name seq [] = nothing
 noted name seq (Op (Attach at other label policy) ∷ past) = if bytes_eq other name then nothing else noted name seq past
@@ -82,7 +82,7 @@ noted name seq (Counted call other ∷ past) =
     if (call == seq) && bytes_eq other name then counted else noted name seq past
 noted name seq (_ ∷ past) = noted name seq past
 
--- the calls that the entry of a name has charged, drawn for or counted since its latest attachment, the latest first
+-- the calls that the entry with a name charged, drew for or counted since its latest attachment, latest first
 abbrev pub noted_calls : List ℕ → Behind → List ℕ
 noted_calls name [] = []
 noted_calls name (Op (Attach at other label policy) ∷ past) = if bytes_eq other name then [] else noted_calls name past
@@ -96,38 +96,38 @@ noted_calls name (_ ∷ past) = noted_calls name past
 
 -- ---- calls
 
--- the calls that were accepted, in order
+-- the accepted calls, in order
 abbrev pub taken : Behind → List Taken
 taken [] = []
 taken (Took call ∷ past) = taken past ++ call ∷ []
 taken (_ ∷ past) = taken past
 
--- the happening is the fate of a call: it was sent, or refused
+-- the event is the fate of a call: it was sent or refused
 abbrev pub is_fate_of : ℕ → Happening → Bool
 is_fate_of seq (Sent call bytes) = call == seq
 is_fate_of seq (Refused call why) = call == seq
 is_fate_of seq _ = false
 
--- the call was accepted and has no fate yet
+-- the call is pending: accepted, neither sent nor refused
 abbrev pub stands : Behind → Taken → Bool
 stands past call = not (list_any (is_fate_of call.seq) past)
 
--- the calls that stand, in order
+-- the pending calls, in order
 abbrev pub standing : Behind → List Taken
 standing past = filter (stands past) (taken past)
 
--- the happening refuses a call since the link failed
+-- the event refuses a call because the link failed
 abbrev pub is_transport_refusal : Happening → Bool
 is_transport_refusal (Refused seq cause.Transport) = true
 is_transport_refusal _ = false
 
--- the link has failed: a call was refused for it
+-- the link has failed: a call was refused for that cause
 abbrev pub has_failed : Behind → Bool
 has_failed past = list_any is_transport_refusal past
 
 -- ---- the form of a call
 
--- a call as policies judge it
+-- a call as policies see it
 abbrev pub with_tree : ℕ → Taken → Node → Call
 with_tree conn call tree = record {
   conn = conn;
@@ -142,12 +142,12 @@ abbrev pub copied : ℕ → Taken → TookCopy → Option Call
 copied conn call (Copy tree) = Some (with_tree conn call tree)
 copied conn call (Malformed reason place value) = None
 
--- what a policy leaves of a call, where it redacts
+-- a call after a policy's redaction; a policy that doesn't redact leaves it as it is
 abbrev pub redacted : Option Policy → Call → Call
 redacted (Some (Redact clears)) call = cleared_call clears call
 redacted _ call = call
 
--- The form of the call of a number: its copy, less what was cleared from it since. A malformed call has none.
+-- The form of a call: its copy without the fields that were cleared since. A malformed call has none.
 abbrev pub form : ℕ → ℕ → Behind → Option Call
 form conn seq [] = None
 form conn seq (Took call ∷ past) = if call.seq == seq then copied conn call call.copy else form conn seq past

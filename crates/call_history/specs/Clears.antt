@@ -1,11 +1,11 @@
--- What was cleared from a call, and by which version of a policy (this project's own).
+-- The policy versions that cleared fields of a call (this project's own).
 use Rattle.std.specs.Prelude.{ℕ, ◌==◌, ◌&&◌, List, [], ◌∷◌, if◌then◌else◌}
 use Rattle.std.specs.Str.{bytes_eq}
 use Rattle.engine_core.specs.declared.op.Op.TheVariants.{Attach}
 use Rattle.call_history.specs.Behind.{Behind}
 use Rattle.call_history.specs.declared.happening.Happening.TheVariants.{Op, Redacted}
 
--- the versions in which the entry of a name has cleared fields from a call since its latest attachment, the latest
+-- the versions under which the entry with a name cleared fields of a call since its latest attachment, latest
 -- first
 abbrev pub cleared_in : List ℕ → ℕ → Behind → List ℕ
 cleared_in name seq [] = []

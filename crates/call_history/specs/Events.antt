@@ -1,4 +1,5 @@
--- What one step of a connection adds to its history, and how it moves its calls along the chain (this project's own).
+-- The transitions of a connection: what each adds to the history, and how it moves calls along the chain (this
+-- project's own).
 use Rattle.std.specs.Prelude.{◌≡◌, ℕ, ◌+◌, ◌<◌, ◌≤◌, Bool, true, false, List, [], ◌∷◌, ◌++◌, All, Contains, length, map, Some, slice_get}
 use Rattle.frame_transport.specs.declared.format.TheConstants.{HEADER_LEN}
 use Rattle.policy_access.specs.Verdict.{rule_name}
@@ -27,7 +28,7 @@ use Rattle.call_history.specs.declared.happening.Taken.{Taken}
 use Rattle.engine_core.specs.declared.call_row.TheConstants.{MAX_CALLS}
 use Rattle.call_history.specs.declared.happening.TookCopy.TheVariants.{Copy, Malformed}
 
--- a connection between two steps: what is behind, where its calls stand, and whether its link has failed
+-- a connection between two transitions: its trace, the positions of its calls, and whether its link failed
 pub record Course : Type 0 where
   pub past : Behind
   pub row : Row
@@ -35,14 +36,14 @@ pub record Course : Type 0 where
 
 -- ---- turns
 
--- the happening of a note
+-- the trace after a note
 abbrev pub note_behind : List ℕ → ℕ → Noted → Behind → Behind
 note_behind name seq notes.Nothing past = past
 note_behind name seq (notes.Charged left) past = Charged seq name left ∷ past
 note_behind name seq (notes.Drawn window ticket) past = Drawn seq name window ticket ∷ past
 note_behind name seq notes.Counted past = Counted seq name ∷ past
 
--- the name of the rule at a place of a policy; a policy without rules has none
+-- the name of the rule at an index of a policy; empty for a policy without rules
 abbrev pub rule_of : Policy → ℕ → List ℕ
 rule_of (Access policy) place = rule_name policy place
 rule_of _ place = []
@@ -53,7 +54,7 @@ cause_of e (Denied rule) = cause.Access e.name e.version (rule_of e.policy rule)
 cause_of e (Short left cost) = cause.Rate e.name left cost
 cause_of e (Over ticket cap) = cause.Quota e.name ticket cap
 
--- what a turn of an entry adds, by how it comes out for a call, and where the calls stand after it
+-- the state after a turn of an entry with this outcome for a call
 abbrev pub turned : Entry → ℕ → Outcome → Course → Course
 turned e seq (outcomes.Passed n) c = record c { past = note_behind e.name seq n c.past; row = goes_on seq c.row }
 turned e seq (outcomes.Held left cost) c = c
@@ -66,32 +67,32 @@ turned e seq outcomes.Redacted c = record c {
   row = begin_again seq c.row;
 }
 
--- ---- events
+-- ---- transitions
 
--- what a step of a connection is
+-- a transition of a connection
 pub data Event : Type 0 where
-  -- a call is accepted; one without a copy is refused at once
+  -- a call is accepted; a malformed one is refused at once
   accepts : Taken → Event
-  -- a call is submitted and not accepted, since as many calls stand as may
+  -- a call is submitted and refused, since `MAX_CALLS` calls are pending
   turns_away : (method number addr : ℕ) → Event
   operates : Step → Event
-  -- the clock shows a moment
+  -- the clock reads a timestamp
   shows : ℕ → Event
-  -- the entry at a position has a turn, and it comes out so for the call of a number
+  -- the entry at a position has a turn with this outcome for a call
   turns : (position seq : ℕ) → Outcome → Event
-  -- the call of a number is sent, in a frame of so many bytes
+  -- a call is sent in a frame of this many bytes
   sends : (seq bytes : ℕ) → Event
-  -- the link has failed
+  -- the link fails
   fails : Event
 
--- what is behind after an acceptance, and where the calls stand
+-- the state after an acceptance
 abbrev pub accepted : Taken → Course → Course
 accepted call c = elim call.copy [
   | Copy tree ↦ record c { past = Took call ∷ c.past; row = c.row ++ (call.seq, 0) ∷ [] }
   | Malformed reason place value ↦ record c { past = Refused call.seq cause.Malformed ∷ Took call ∷ c.past }
 ]
 
--- calls are refused for the link, one after another
+-- calls are refused for the failed link, in order
 abbrev pub refused_for_link : List Taken → Behind → Behind
 refused_for_link [] past = past
 refused_for_link (call ∷ calls) past = refused_for_link calls (Refused call.seq cause.Transport ∷ past)
@@ -104,14 +105,14 @@ pub record HasTurn (u : Under) (c : Course) (position seq : ℕ) (outcome : Outc
   pub is_form : form u.conn seq c.past ≡ Some call
   pub comes : ComesOut e.policy (level e.name c.past) (moment c.past) call (noted e.name seq c.past) outcome
 
--- the first call that stands for transport has this number, and its form a frame of so many bytes
+-- the first call at the end of the chain has this number, and the frame of its form this many bytes
 pub record IsReady (u : Under) (c : Course) (seq bytes : ℕ) : Type 0 where
   pub first : first_at (length (chain c.past).entries) c.row ≡ Some (seq, length (chain c.past).entries)
   pub sent : Call
   pub is_form : form u.conn seq c.past ≡ Some sent
   pub long : bytes ≡ HEADER_LEN + length (payload u.table sent)
 
--- an event leads from one course to the next
+-- a transition leads from one state to the next
 pub data Comes (u : Under) (old : Course) (event : Event) (new : Course) : Type 0 where
   takes : (call : Taken) → event ≡ accepts call → old.ended ≡ false → MayTake u old.past call
       → new ≡ accepted call old → Comes u old event new
@@ -122,33 +123,35 @@ pub data Comes (u : Under) (old : Course) (event : Event) (new : Course) : Type 
       → Comes u old event new
   rises : (ms : ℕ) → event ≡ shows ms → moment old.past < ms
       → new ≡ record old { past = Moment ms ∷ old.past } → Comes u old event new
-  -- a moment that isn't greater changes nothing
+  -- a timestamp that isn't later than the last changes nothing
   stays : (ms : ℕ) → event ≡ shows ms → ms ≤ moment old.past → new ≡ old → Comes u old event new
   has_turn : (position seq : ℕ) (outcome : Outcome) (e : Entry) → event ≡ turns position seq outcome
       → HasTurn u old position seq outcome e → new ≡ turned e seq outcome old → Comes u old event new
   is_sent : (seq bytes : ℕ) → event ≡ sends seq bytes → old.ended ≡ false → IsReady u old seq bytes
       → new ≡ record old { past = Sent seq bytes ∷ old.past; row = without_call seq old.row } → Comes u old event new
-  -- the calls that stand are refused
+  -- the pending calls are refused
   link_failed : event ≡ fails
       → new ≡ record { past = refused_for_link (standing old.past) old.past; row = []; ended = true }
       → Comes u old event new
 
--- events lead from one course to another, one after the other
+-- transitions lead from one state to another, one after the other
 abbrev pub Lead : Under → Course → List Event → Course → Type 0
 Lead u old [] new = new ≡ old
 Lead u old (event ∷ events) new = (next : Course) × Comes u old event next × Lead u next events new
 
--- a connection at its beginning
+-- the initial state of a connection
 abbrev pub beginning : Course
 beginning = record { past = []; row = []; ended = false }
 
--- a call that stands and of which an entry has noted nothing comes behind all calls that it has noted
+-- if an entry has noted nothing of a pending call, the call's number is greater than that of every call it has
+-- noted
 abbrev pub NotesAscend : Behind → Type 0
 NotesAscend past = (name : List ℕ) (seq : ℕ) → Contains (map (λ call. call.seq) (standing past)) seq
     → noted name seq past ≡ nothing → All (λ other. other < seq) (noted_calls name past)
 
--- What holds of a connection between two steps: its history is legal, its row has exactly the calls that stand, in
--- order, at places where they may stand, entries note calls in order, and behind a failed link none stands.
+-- The invariant of a connection between transitions. Its history is legal, and its row has exactly the pending
+-- calls, in order, at legal positions. Entries note calls in order, and after a failure of the link no call is
+-- pending.
 pub record IsCourse (u : Under) (c : Course) : Type 0 where
   pub legal : IsLegalBehind u c.past
   pub calls : map (λ call. call.0) c.row ≡ map (λ call. call.seq) (standing c.past)

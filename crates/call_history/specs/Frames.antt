@@ -1,4 +1,4 @@
--- The frames that were handed over (this project's own format, over the Protocol Buffers encoding).
+-- The frames that were sent (this project's own format, over the Protocol Buffers encoding).
 use Rattle.std.specs.Prelude.{ℕ, ◌==◌, List, [], ◌∷◌, ◌++◌, option_map, unwrap_or, if◌then◌else◌}
 use Rattle.mrpc_table.specs.Calls.{sort_of}
 use Rattle.mrpc_table.specs.declared.call.Call.{Call}
@@ -12,7 +12,7 @@ use Rattle.call_history.specs.Rules.{payload}
 use Rattle.call_history.specs.declared.happening.Happening.{Happening}
 use Rattle.call_history.specs.declared.happening.Happening.TheVariants.{Sent}
 
--- the number in a call's frame: a request's own, and that of the request which a reply answers
+-- the number in a call's frame: a request's own, and for a reply that of the request it answers
 abbrev pub number_in_frame : Call → ℕ
 number_in_frame call = if call.number == 0 then call.seq else call.number
 
@@ -21,7 +21,7 @@ abbrev pub frame_of : Table → Call → List ℕ
 frame_of T call =
     frame_bytes (kind_of (sort_of call.number)) VERSION call.method call.conn (number_in_frame call) (payload T call)
 
--- what a happening hands over, with what is behind it on its connection: the frame of the form of the call that is sent
+-- the frames that an event sends, given the trace before it: for `Sent` the frame of the call's form
 abbrev pub handed_by : Table → ℕ → Happening → Behind → List (List ℕ)
 handed_by T conn (Sent seq bytes) past = unwrap_or (option_map (frame_of T) (form conn seq past)) [] ∷ []
 handed_by T conn _ past = []

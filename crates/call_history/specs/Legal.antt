@@ -1,4 +1,4 @@
--- Which histories are legal (this project's own).
+-- Legal histories (this project's own).
 use Rattle.std.specs.Prelude.{◌≡◌, ℕ, ◌<◌, ◌==◌, List, [], ◌∷◌, true, reverse, Some, None}
 use Rattle.std.specs.List.{filter_map}
 use Rattle.std.specs.Prelude.{if◌then◌else◌}
@@ -19,20 +19,20 @@ use Rattle.call_history.specs.declared.happening.TookCopy.TheVariants.{Copy, Mal
 abbrev pub History : Type 0
 History = List Happened
 
--- what happened on a connection, in order
+-- the events of one connection, in order
 abbrev pub on : ℕ → History → List Happening
 on conn h = filter_map (λ x. if x.conn == conn then Some x.what else None) h
 
--- the same, the latest first
+-- the trace of one connection: its events, latest first
 abbrev pub behind : ℕ → History → Behind
 behind conn h = reverse (on conn h)
 
--- what is behind came as the rules say; something may be left open
+-- each event follows by the rules; a refusal may still be owed
 abbrev pub IsPrefix : Under → Behind → Type 0
 IsPrefix u [] = Unit {0}
 IsPrefix u (last ∷ past) = IsPrefix u past × May u past last
 
--- a malformed call waits for its refusal
+-- the latest event accepts a malformed call, whose refusal is owed
 abbrev pub HasNoCopy : TookCopy → Type 0
 HasNoCopy (Copy tree) = ⊥
 HasNoCopy (Malformed reason place value) = Unit {0}
@@ -41,7 +41,7 @@ abbrev pub AwaitsMalformed : Behind → Type 0
 AwaitsMalformed (Took call ∷ past) = HasNoCopy call.copy
 AwaitsMalformed _ = ⊥
 
--- a call whose ticket isn't below the cap waits for its refusal
+-- the latest event draws a ticket that isn't below the cap, and the call's refusal is owed
 pub record IsOver (past : Behind) (name : List ℕ) (ticket : ℕ) : Type 0 where
   pub policy : Policy
   pub cap : ℕ
@@ -53,23 +53,23 @@ abbrev pub AwaitsQuota : Behind → Type 0
 AwaitsQuota (Drawn seq name window ticket ∷ past) = IsOver past name ticket
 AwaitsQuota _ = ⊥
 
--- calls stand on a link that has failed
+-- the link has failed and calls are pending, whose refusals are owed
 pub record AwaitsLink (past : Behind) : Type 0 where
   pub failed : has_failed past ≡ true
   pub some_stand : standing past ≡ [] → ⊥
 
--- nothing is left open
+-- no refusal is owed
 pub record IsSettledUp (past : Behind) : Type 0 where
   pub malformed : AwaitsMalformed past → ⊥
   pub quota : AwaitsQuota past → ⊥
   pub link : AwaitsLink past → ⊥
 
--- the happenings of a connection are legal: each came as the rules say, and nothing is left open
+-- the trace is legal: each event follows by the rules, and no refusal is owed
 pub record IsLegalBehind (u : Under) (past : Behind) : Type 0 where
   pub prefix : IsPrefix u past
   pub closed : IsSettledUp past
 
--- an accepted call has a form, which is a call of its method and sort with a normal tree
+-- an accepted call has a form: a call of its method and kind with a normal tree
 pub record HasForm (u : Under) (past : Behind) (call : Taken) : Type 0 where
   pub now : Call
   pub is_form : form u.conn call.seq past ≡ Some now
@@ -77,6 +77,6 @@ pub record HasForm (u : Under) (past : Behind) (call : Taken) : Type 0 where
   pub method : now.method ≡ call.method
   pub number : now.number ≡ call.number
 
--- a history is legal where what happened on each connection is
+-- a history is legal if the trace of each connection is legal
 abbrev pub IsLegal : Table → ℕ → History → Type 0
 IsLegal T limit h = (conn : ℕ) → IsLegalBehind (record { conn = conn; table = T; limit = limit }) (behind conn h)

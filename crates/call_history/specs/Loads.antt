@@ -1,4 +1,4 @@
--- What was loaded for the calls that were accepted on a connection (this project's own).
+-- The loads of the calls that were accepted on a connection (this project's own).
 use Rattle.std.specs.Prelude.{◌≡◌, ℕ, ◌<◌, ◌≤◌, List, [], ◌∷◌, ◌++◌, length}
 use Rattle.mrpc_table.specs.Calls.{message_at}
 use Rattle.mrpc_table.specs.Node.{Node}
@@ -12,11 +12,11 @@ use Rattle.call_history.specs.declared.happening.Taken.{Taken}
 use Rattle.call_history.specs.declared.happening.TookCopy.{TookCopy}
 use Rattle.call_history.specs.declared.happening.TookCopy.TheVariants.{Copy, Malformed}
 
--- loads of words of a heap, each a place and a value, in order
+-- loads of heap words, each a place and a value, in order
 abbrev pub Loads : Type 0
 Loads = List (ℕ × ℕ)
 
--- what was taken of a call of a method at an address by these loads: a copy, or why it is malformed
+-- the copy of a call of a method at an address by these loads: a tree, or why the graph is malformed
 pub data IsTaken (T : Table) (H limit method number addr : ℕ) (own : Loads) (copy : TookCopy) : Type 0 where
   -- the table has no such method, and nothing is loaded
   no_method : length T.methods ≤ method → own ≡ [] → copy ≡ Malformed NoMethod 0 method
@@ -29,12 +29,12 @@ pub data IsTaken (T : Table) (H limit method number addr : ℕ) (own : Loads) (c
       → copy ≡ Malformed reason place value
       → IsTaken T H limit method number addr own copy
 
--- a call was taken by these loads, of a heap of so many words, and counts them
+-- the call was copied by these loads, from a heap of `H` words, and `count` is their number
 pub record IsLoaded (T : Table) (H limit : ℕ) (call : Taken) (own : Loads) : Type 0 where
   pub taken : IsTaken T H limit call.method call.number call.addr own call.copy
   pub counted : call.count ≡ length own
 
--- The loads are those of the calls that were accepted, one call after another, as many as each counts, and no others.
+-- The loads are those of the accepted calls, in order, as many as each call counts, and no others.
 abbrev pub AreSpelled : Table → ℕ → ℕ → Behind → Loads → Type 0
 AreSpelled T H limit [] loads = loads ≡ []
 AreSpelled T H limit (Took call ∷ past) loads = (before : Loads) × (own : Loads) × (loads ≡ before ++ own)

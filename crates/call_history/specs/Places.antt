@@ -1,4 +1,4 @@
--- Where calls stand on a chain (this project's own).
+-- Legal positions of calls on a chain (this project's own).
 use Rattle.std.specs.Prelude.{◌≡◌, ℕ, ◌<◌, ◌≤◌, List, length, take, All, Some, slice_get}
 use Rattle.std.specs.List.{AllZip}
 use Rattle.engine_core.specs.Answers.{hold}
@@ -7,21 +7,21 @@ use Rattle.call_history.specs.Behind.{Behind, chain, standing}
 use Rattle.call_history.specs.Rules.{Under, Lets, Gives}
 use Rattle.call_history.specs.declared.happening.Taken.{Taken}
 
--- positions never rise along the calls
+-- positions never increase along the calls
 abbrev pub NeverRise : List ℕ → Type 0
 NeverRise positions = (i j p q : ℕ) → i < j → slice_get positions i ≡ Some p → slice_get positions j ≡ Some q → q ≤ p
 
--- a call may stand at a position: the chain has it, or it is the chain's end, and every entry before it lets it pass
+-- a legal position of a call: at most the length of the chain, and every entry before it lets the call pass
 pub record MayStandAt (u : Under) (past : Behind) (call : Taken) (position : ℕ) : Type 0 where
   pub within : position ≤ length (chain past).entries
   pub let_pass : All (Lets u past call.seq) (take position (chain past).entries)
 
--- positions of the calls that stand, in order, which are places for them
+-- legal positions of the pending calls, in order, that never increase
 pub record ArePlaces (u : Under) (past : Behind) (positions : List ℕ) : Type 0 where
   pub each : AllZip (MayStandAt u past) (standing past) positions
   pub never_rise : NeverRise positions
 
--- The call is the first at its position: all calls of smaller numbers stand at later ones.
+-- The call is the first at its position: all calls with smaller numbers are at later positions.
 pub record IsHead (past : Behind) (positions : List ℕ) (call : Taken) (position : ℕ) : Type 0 where
   pub place : ℕ
   pub is_call : slice_get (standing past) place ≡ Some call
@@ -34,7 +34,7 @@ pub record IsHeld (u : Under) (past : Behind) (call : Taken) (position level cos
   pub at : slice_get (chain past).entries position ≡ Some entry
   pub holds : Gives u past entry call.seq (hold level cost)
 
--- nothing can go on: no call stands at the chain's end, and each that is the first at its position is held there
+-- no call can advance: none is at the end of the chain, and the first call at each position is held there
 pub record IsSettled (u : Under) (past : Behind) (positions : List ℕ) : Type 0 where
   pub none_ready : All (λ p. p < length (chain past).entries) positions
   pub held : (call : Taken) (position : ℕ) → IsHead past positions call position

@@ -1,5 +1,4 @@
--- How happenings are kept: a record names an entry by the operator's step that put its policy there (this project's
--- own).
+-- How events are stored: a record names an entry by the operation that set its policy (this project's own).
 use Rattle.std.specs.Prelude.{ℕ, ◌<◌, ◌≤◌, List, [], get_or, length}
 use Rattle.engine_core.specs.declared.op.Op.{Op as Step}
 use Rattle.engine_core.specs.declared.op.Op.TheVariants.{Attach, Detach, Upgrade}
@@ -15,30 +14,30 @@ use Rattle.call_history.specs.declared.record.Record.TheVariants.{Took, Away, Op
 use Rattle.call_history.specs.declared.record.Refusal.{Refusal}
 use Rattle.call_history.specs.declared.record.Refusal.TheVariants as by
 
--- the name in a step
+-- the name in an operation
 abbrev pub name_in : Step → List ℕ
 name_in (Attach at name label policy) = name
 name_in (Detach name) = name
 name_in (Upgrade name label policy) = name
 
--- the name of a rule of the policy that a step puts in
+-- the name of a rule of the policy that an operation sets
 abbrev pub rule_in : Step → ℕ → List ℕ
 rule_in (Attach at name label policy) rule = rule_of policy rule
 rule_in (Detach name) rule = []
 rule_in (Upgrade name label policy) rule = rule_of policy rule
 
--- a kept history: the steps of operators, the happenings, and for how many more of both there is room
+-- a stored history: the operations, the events, and the spare capacity for records and for operations
 pub record Kept : Type 0 where
   pub steps : List Step
   pub happenings : List Happening
   pub room : ℕ
   pub step_room : ℕ
 
--- the step at a place
+-- the operation at an index
 abbrev pub step_at : List Step → ℕ → Step
 step_at steps place = get_or steps place (Detach [])
 
--- the cause that a kept refusal stands for
+-- the cause that a recorded cause means
 abbrev pub cause_told_by : List Step → Refusal → Cause
 cause_told_by steps by.Malformed = cause.Malformed
 cause_told_by steps (by.Access step version rule) =
@@ -47,7 +46,7 @@ cause_told_by steps (by.Rate step level cost) = cause.Rate (name_in (step_at ste
 cause_told_by steps (by.Quota step ticket cap) = cause.Quota (name_in (step_at steps step)) ticket cap
 cause_told_by steps by.Transport = cause.Transport
 
--- what a record tells
+-- the event that a record means
 abbrev pub told_by : List Step → Record → Happening
 told_by steps (Took call) = what.Took call
 told_by steps (Away method number addr) = what.Away method number addr
@@ -60,18 +59,18 @@ told_by steps (Redacted seq step version) = what.Redacted seq (name_in (step_at 
 told_by steps (Sent seq bytes) = what.Sent seq bytes
 told_by steps (Refused seq why) = what.Refused seq (cause_told_by steps why)
 
--- the policy is one of rules, and has one at a place; the number of rules stands for the default
+-- the policy is an access policy with a rule at this index; the number of rules means the default
 abbrev pub IsRuleOf : Policy → ℕ → Type 0
 IsRuleOf (Access policy) rule = rule ≤ length policy.rules
 IsRuleOf _ rule = ⊥
 
--- so is the policy that a step puts in
+-- the policy that an operation sets has a rule at this index
 abbrev pub HasRule : Step → ℕ → Type 0
 HasRule (Attach at name label policy) rule = IsRuleOf policy rule
 HasRule (Detach name) rule = ⊥
 HasRule (Upgrade name label policy) rule = IsRuleOf policy rule
 
--- the step that a record names is one of these, and so is the rule one of the policy that it puts in
+-- the operation that a record names exists, and its policy has the rule that the record names
 abbrev pub IsNamed : List Step → Record → Type 0
 IsNamed steps (Op step) = step < length steps
 IsNamed steps (Charged seq step level) = step < length steps

@@ -1,5 +1,5 @@
--- Which happening may come next on a connection, rule by rule. Each rule looks at what is behind alone, the latest
--- first (this project's own).
+-- Which event can follow a trace, rule by rule (this project's own). Each rule looks at the trace alone, latest
+-- first.
 use Rattle.std.specs.Prelude.{◌≡◌, ℕ, ◌+◌, ◌<◌, ◌≤◌, true, List, [], ◌∷◌, ◌++◌, length, map, All, Contains, Option, Some, None, IsSomeAnd}
 use Rattle.mrpc_table.specs.Calls.{message_at}
 use Rattle.mrpc_table.specs.Normal.{IsNormal}
@@ -26,7 +26,7 @@ use Rattle.call_history.specs.declared.happening.TookCopy.{TookCopy}
 use Rattle.call_history.specs.declared.happening.TookCopy.TheVariants.{Copy, Malformed}
 use Rattle.engine_core.specs.declared.call_row.TheConstants.{MAX_CALLS}
 
--- Under which a connection's happenings are judged: its number, the table, and the limit of loads.
+-- The context in which a connection's events are judged: its number, its table, and its limit of loads.
 pub record Under : Type 0 where
   pub conn : ℕ
   pub table : Table
@@ -34,21 +34,22 @@ pub record Under : Type 0 where
 
 -- ---- numbering
 
--- What was taken of a call: a normal tree of its message, or it is malformed, and that for lack of a method exactly
--- where the table lacks it.
+-- A copy of a call is a normal tree of its message or malformed. The reason is `NoMethod` exactly if the table
+-- lacks the method.
 abbrev pub IsTakenBy : Table → Taken → TookCopy → Type 0
 IsTakenBy T call (Copy tree) = (call.method < length T.methods) × IsNormal T (message_at T call.method call.number) tree
 IsTakenBy T call (Malformed reason place value) =
     (reason ≡ NoMethod → length T.methods ≤ call.method) × (length T.methods ≤ call.method → reason ≡ NoMethod)
 
--- a call may be accepted: it has the next number, few enough stand, and no more was loaded than the limit
+-- a call can be accepted: it has the next number, fewer than `MAX_CALLS` calls are pending, and its loads are
+-- within the limit
 pub record MayTake (u : Under) (past : Behind) (call : Taken) : Type 0 where
   pub number : call.seq ≡ length (taken past) + 1
   pub few : length (standing past) < MAX_CALLS
   pub loads : call.count ≤ u.limit
   pub copy : IsTakenBy u.table call call.copy
 
--- (a) calls are numbered, and one is turned away exactly where as many stand as may
+-- (a) accepted calls are numbered, and a call is refused as `Away` exactly if `MAX_CALLS` calls are pending
 abbrev pub IsNumbered : Under → Behind → Happening → Type 0
 IsNumbered u past (Took call) = MayTake u past call
 IsNumbered u past (Away method number addr) = length (standing past) ≡ MAX_CALLS
@@ -56,25 +57,25 @@ IsNumbered u past _ = Unit {0}
 
 -- ---- malformed calls
 
--- (b) a malformed call is refused at once, and for this cause no other is
+-- (b) a malformed call is refused at once, and no other call has this cause
 abbrev pub IsRefusedAtOnce : TookCopy → ℕ → Happening → Type 0
 IsRefusedAtOnce (Copy tree) seq (Refused call cause.Malformed) = ⊥
 IsRefusedAtOnce (Copy tree) seq _ = Unit {0}
 IsRefusedAtOnce (Malformed reason place value) seq next = next ≡ Refused seq cause.Malformed
 
--- the happening is no refusal of a malformed call
+-- the event doesn't refuse a call as malformed
 abbrev pub IsNoMalformedRefusal : Happening → Type 0
 IsNoMalformedRefusal (Refused seq cause.Malformed) = ⊥
 IsNoMalformedRefusal _ = Unit {0}
 
--- a malformed call is refused at once, by what happens next, and no other is refused as malformed
+-- the next event refuses a malformed call, and no other event refuses a call as malformed
 abbrev pub RefusesMalformed : Behind → Happening → Type 0
 RefusesMalformed (Took call ∷ past) next = IsRefusedAtOnce call.copy call.seq next
 RefusesMalformed _ next = IsNoMalformedRefusal next
 
 -- ---- the chain and the clock
 
--- (c) a step of an operator is one that the chain doesn't refuse, and moments rise
+-- (c) the chain accepts each operation, and timestamps increase
 abbrev pub KeepsChain : Behind → Happening → Type 0
 KeepsChain past (Op step) = Changes (chain past) step (changed step (chain past))
 KeepsChain past (Moment ms) = moment past < ms
@@ -82,7 +83,7 @@ KeepsChain past _ = Unit {0}
 
 -- ---- answers of entries
 
--- what an entry answers to a call by what is behind
+-- what an entry answers to a call, given the trace
 abbrev pub Gives : Under → Behind → Entry → ℕ → Answer → Type 0
 Gives u past e seq answer = IsSomeAnd (form u.conn seq past)
     (λ call. Answers e.policy (level e.name past) (moment past) call (noted e.name seq past) answer)
@@ -90,7 +91,7 @@ Gives u past e seq answer = IsSomeAnd (form u.conn seq past)
 abbrev pub Lets : Under → Behind → ℕ → Entry → Type 0
 Lets u past seq e = Gives u past e seq pass
 
--- A call stands at an entry of the chain, which has this name, and all entries before it let it pass.
+-- A pending call is at the entry with this name: all entries before it let the call pass.
 pub record IsAt (u : Under) (past : Behind) (seq : ℕ) (name : List ℕ) (e : Entry) : Type 0 where
   pub front : List Entry
   pub back : List Entry
@@ -99,7 +100,7 @@ pub record IsAt (u : Under) (past : Behind) (seq : ℕ) (name : List ℕ) (e : E
   pub call_stands : Contains (map (λ call. call.seq) (standing past)) seq
   pub let_pass : All (Lets u past seq) front
 
--- an entry gives a standing call this answer
+-- an entry gives a pending call this answer
 pub record Meets (u : Under) (past : Behind) (seq : ℕ) (name : List ℕ) (answer : Answer) : Type 0 where
   pub entry : Entry
   pub at : IsAt u past seq name entry
@@ -107,12 +108,12 @@ pub record Meets (u : Under) (past : Behind) (seq : ℕ) (name : List ℕ) (answ
 
 -- ---- notes
 
--- a note is called for, and the entry has noted nothing of a later call since its attachment
+-- a note is due, and the entry has noted only calls with smaller numbers since its attachment
 pub record IsCalledFor (u : Under) (past : Behind) (seq : ℕ) (name : List ℕ) (n : Noted) : Type 0 where
   pub meets : Meets u past seq name (note n)
   pub ascends : All (λ other. other < seq) (noted_calls name past)
 
--- a redaction is called for, by the entry in its present version
+-- a redaction by the entry's present version is due
 pub record IsCleared (u : Under) (past : Behind) (seq : ℕ) (name : List ℕ) (version : ℕ) : Type 0 where
   pub entry : Entry
   pub at : IsAt u past seq name entry
@@ -124,7 +125,7 @@ abbrev pub cap_of : Policy → Option ℕ
 cap_of (Quota tenant per cap) = Some cap
 cap_of _ = None
 
--- (d) what is noted of a call is what the entry calls for
+-- (d) each note of a call is due by the answer of its entry
 abbrev pub NotesWhatIsDue : Under → Behind → Happening → Type 0
 NotesWhatIsDue u past (Charged seq name left) = IsCalledFor u past seq name (notes.Charged left)
 NotesWhatIsDue u past (Drawn seq name window ticket) = IsCalledFor u past seq name (notes.Drawn window ticket)
@@ -132,20 +133,20 @@ NotesWhatIsDue u past (Counted seq name) = IsCalledFor u past seq name notes.Cou
 NotesWhatIsDue u past (Redacted seq name version) = IsCleared u past seq name version
 NotesWhatIsDue u past _ = Unit {0}
 
--- a draw whose ticket isn't below the cap is followed at once by its refusal
+-- if a drawn ticket isn't below the cap, the next event refuses the call
 abbrev pub RefusesDrawn : Behind → Happening → Type 0
 RefusesDrawn (Drawn seq name window ticket ∷ past) next = (policy : Policy) (cap : ℕ)
     → policy_of name past ≡ Some policy → cap_of policy ≡ Some cap → cap ≤ ticket
     → next ≡ Refused seq (cause.Quota name ticket cap)
 RefusesDrawn _ next = Unit {0}
 
--- ---- sendings
+-- ---- sends
 
 -- the encoding of the form of a call
 abbrev pub payload : Table → Call → List ℕ
 payload T call = encoding T (message_at T call.method call.number) call.tree
 
--- (e) the first call that stands is sent where every entry lets it pass; its frame is as long as its form
+-- (e) the oldest pending call is sent if every entry lets it pass; its frame has the length of its form
 pub record IsSentNext (u : Under) (past : Behind) (seq bytes : ℕ) : Type 0 where
   pub call : Taken
   pub others : List Taken
@@ -173,7 +174,7 @@ pub record IsDenied (u : Under) (past : Behind) (seq : ℕ) (name : List ℕ) (v
   pub gives : Gives u past entry seq (deny place)
   pub names : rule ≡ rule_name policy place
 
--- (f) a refusal of an entry is its answer
+-- (f) a refusal by an entry is the entry's answer
 abbrev pub IsAnswered : Under → Behind → ℕ → Cause → Type 0
 IsAnswered u past seq (cause.Access name version rule) = IsDenied u past seq name version rule
 IsAnswered u past seq (cause.Rate name left cost) = Meets u past seq name (refuse left cost)
@@ -186,24 +187,24 @@ RefusesAsAnswered u past _ = Unit {0}
 
 -- ---- the end of a link
 
--- the first call that stands has this number
+-- the oldest pending call has this number
 abbrev pub IsFirst : List Taken → ℕ → Type 0
 IsFirst [] seq = ⊥
 IsFirst (call ∷ others) seq = call.seq ≡ seq
 
--- a step of an operator, or a moment
+-- an operation or a timestamp
 abbrev pub IsQuiet : Happening → Type 0
 IsQuiet (Op step) = Unit {0}
 IsQuiet (Moment ms) = Unit {0}
 IsQuiet _ = ⊥
 
--- behind a refusal for the link the others that stand are refused for it, one after another, and then nothing comes
--- but steps and moments
+-- after a refusal for the link, the other pending calls are refused for it, in order; then only operations and
+-- timestamps follow
 abbrev pub IsLeft : List Taken → Happening → Type 0
 IsLeft [] next = IsQuiet next
 IsLeft (call ∷ others) next = next ≡ Refused call.seq cause.Transport
 
--- (g) a failed link refuses the calls that stand, in order
+-- (g) a failed link refuses the pending calls, in order
 abbrev pub IsLinkRefusal : Behind → Happening → Type 0
 IsLinkRefusal past (Refused seq cause.Transport) = IsFirst (standing past) seq
 IsLinkRefusal past _ = Unit {0}
@@ -213,7 +214,7 @@ EndsWithLink past next = (has_failed past ≡ true → IsLeft (standing past) ne
 
 -- ---- all rules
 
--- a happening may come behind these
+-- the event can follow the trace by all rules
 pub record May (u : Under) (past : Behind) (next : Happening) : Type 0 where
   pub numbered : IsNumbered u past next
   pub malformed : RefusesMalformed past next

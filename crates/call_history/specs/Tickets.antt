@@ -12,7 +12,7 @@ abbrev pub is_quota_of : ℕ → Policy → Bool
 is_quota_of tenant (Quota owner per cap) = owner == tenant
 is_quota_of tenant _ = false
 
--- the tickets of a tenant's window that a happening tells, with what is behind it
+-- the ticket that an event draws in a tenant's window, given the trace before it
 abbrev pub drawn_by : ℕ → ℕ → Happening → Behind → List ℕ
 drawn_by tenant window (Drawn seq name at ticket) past =
     if (at == window) && option_map_or (is_quota_of tenant) (policy_of name past) false then ticket ∷ [] else []

@@ -1,17 +1,17 @@
-//! What can happen on a connection.
+//! The events of a connection.
 
 use engine_core::Op;
 use graph_form::Reason;
 use mrpc_table::{Name, Tree};
 
-/// What the service took of a call's arguments.
+/// The service's copy of a call's arguments.
 #[derive(Drop)]
 pub enum TookCopy {
     /// A private copy.
     Copy {
         tree: Tree,
     },
-    /// The graph is malformed: why, and the place and the value of the last word that was loaded, if one was.
+    /// The graph is malformed: the reason, and the place and value of the last word loaded, if any was.
     Malformed {
         reason: Reason,
         place: u64,
@@ -24,15 +24,15 @@ pub enum TookCopy {
 pub struct Taken {
     /// The number of the call among those accepted on its connection, from 1.
     pub seq: u32,
-    /// The index of its method.
+    /// The index of its method in the table.
     pub method: u16,
-    /// 0 of a request, or the number of the request that it answers.
+    /// 0 for a request; for a reply, the number of the request that it answers.
     pub number: u32,
-    /// Where its message stands in the heap.
+    /// The address of its message in the heap.
     pub addr: u64,
-    /// How many stores had been made on that heap before it.
+    /// How many stores were made on that heap before the submission.
     pub after: u64,
-    /// How many words were loaded for it.
+    /// How many words were loaded to copy it.
     pub count: u64,
     pub copy: TookCopy,
 }
@@ -48,7 +48,7 @@ pub enum Cause {
         version: u32,
         rule: Name,
     },
-    /// The level of a rate policy was below the cost.
+    /// The level of a rate policy's bucket was below the cost.
     Rate {
         name: Name,
         level: u64,
@@ -64,12 +64,12 @@ pub enum Cause {
     Transport,
 }
 
-/// One thing that happened on a connection. A call is named by its number there, an entry of the chain by its name.
+/// An event of a connection. It names a call by its number there, and an entry of the chain by its name.
 #[derive(Drop)]
 pub enum Happening {
     /// A call was accepted.
     Took(Taken),
-    /// A call was submitted and not accepted, since as many calls stood as may.
+    /// A call was submitted and refused, since `MAX_CALLS` calls were pending.
     Away {
         method: u16,
         number: u32,
@@ -77,11 +77,11 @@ pub enum Happening {
     },
     /// An operator changed the chain.
     Op(Op),
-    /// The clock of the connection shows a moment, in milliseconds.
+    /// The clock of the connection reads a timestamp, in milliseconds.
     Moment {
         ms: u64,
     },
-    /// A rate policy charged a call, and this is the level after it.
+    /// A rate policy charged a call; `level` is the level afterwards.
     Charged {
         seq: u32,
         name: Name,
@@ -94,7 +94,7 @@ pub enum Happening {
         window: u64,
         ticket: u64,
     },
-    /// A call was counted.
+    /// A metering policy counted a call.
     Counted {
         seq: u32,
         name: Name,
@@ -105,19 +105,19 @@ pub enum Happening {
         name: Name,
         version: u32,
     },
-    /// A call's frame was handed over; its length is that of header and payload.
+    /// A call's frame was sent; `bytes` is the length of its header and payload.
     Sent {
         seq: u32,
         bytes: u64,
     },
-    /// A call was refused, and is never sent.
+    /// A call was refused. It is never sent.
     Refused {
         seq: u32,
         cause: Cause,
     },
 }
 
-/// A happening, with its connection.
+/// An event with its connection.
 #[derive(Drop)]
 pub struct Happened {
     /// The number of the connection.

@@ -10,14 +10,14 @@ use mrpc_table::Memory;
 use std::alloc::Global;
 use std::marker::Model;
 
-/// What happened on a connection, in order. Clauses see the happenings, with the steps of operators among them and the
-/// room for more.
+/// The events of one connection, in order. Clauses see the events, the operations among them, and the spare
+/// capacity.
 pub struct History {
     steps: Vec<Op>,
     records: Vec<Record>,
 }
 
-// By hand, so that a drop is one call where it is needed, and not a drop of each part.
+// By hand, so that each drop is one call, and not a drop of every field.
 impl Drop for History {
     fn drop(self) {
         let History {
@@ -49,7 +49,7 @@ impl Model for History {
 }
 
 impl History {
-    /// Nothing has happened.
+    /// An empty history.
     pub fn new(alloc: Global) -> History
         ensures steps { result.steps ≡ [] }
         ensures happenings { result.happenings ≡ [] }
@@ -60,7 +60,7 @@ impl History {
         }
     }
 
-    /// Makes room for so many more records. Room never falls by it.
+    /// Reserves capacity for at least `records` more records. The spare capacity never falls.
     pub fn reserve(&mut self, records: usize) -> Result<(), Memory>
         ensures room { OnOk result (records ≤ self.new.room) }
         ensures never_falls { self.old.room ≤ self.new.room }
@@ -71,7 +71,7 @@ impl History {
         Ok(self.records.reserve(records)?)
     }
 
-    /// Makes room for one more step of an operator. The room for records stays.
+    /// Reserves capacity for one more operation. The capacity for records is unchanged.
     pub fn reserve_step(&mut self) -> Result<(), Memory>
         ensures step_room { OnOk result (1 ≤ self.new.step_room) }
         ensures room { self.new.room ≡ self.old.room }
@@ -81,14 +81,14 @@ impl History {
         Ok(self.steps.reserve(1)?)
     }
 
-    /// How many steps of operators there are.
+    /// The number of operations.
     pub fn steps(&self) -> usize
         ensures { result ≡ length self.now.steps }
     {
         self.steps.len()
     }
 
-    /// Adds a step of an operator, for which there is room, and its record. It takes no memory.
+    /// Appends an operation and its record. Both need reserved capacity; nothing is allocated.
     pub fn operate(&mut self, step: Op)
         requires room { 0 < self.old.room }
         requires step_room { 0 < self.old.step_room }
@@ -101,7 +101,7 @@ impl History {
         self.records.push_reserved(Record::Op { step: place });
     }
 
-    /// Adds a record, for which there is room. It takes no memory.
+    /// Appends a record, which needs reserved capacity; nothing is allocated.
     pub fn push(&mut self, what: Record)
         requires room { 0 < self.old.room }
         requires named { IsNamed self.old.steps what }
@@ -112,22 +112,22 @@ impl History {
         self.records.push_reserved(what);
     }
 
-    /// How many happenings there are.
+    /// The number of events.
     pub fn len(&self) -> usize
         ensures { result ≡ length self.now.happenings }
     {
         self.records.len()
     }
 
-    /// Whether nothing has happened.
+    /// Whether there are no events.
     pub fn is_empty(&self) -> bool
         ensures { IsTrue result ↔ (self.now.happenings ≡ []) }
     {
         self.records.is_empty()
     }
 
-    /// The record of the happening at a place, from 0. A step that it names is there, and so is a rule, in the policy
-    /// that the step puts in; so `step` and the policy give the names that the happening tells.
+    /// The record of the event at an index, from 0. The operation and the rule that it names exist, so [`step`] and
+    /// its policy give the names of the event.
     pub fn at(&self, place: usize) -> &Record
         requires { place < length self.now.happenings }
         ensures tells { slice_get self.now.happenings place ≡ Some (told_by self.now.steps result.now) }
@@ -136,7 +136,7 @@ impl History {
         &self.records[place]
     }
 
-    /// The operator's step at a place, from 0.
+    /// The operation at an index, from 0.
     pub fn step(&self, place: usize) -> &Op
         requires { place < length self.now.steps }
         ensures { result.now ≡ step_at self.now.steps place }

@@ -35,7 +35,7 @@ ghost use Rattle.engine_core.specs.declared.call_row.TheConstants.{MAX_CALLS};
 use engine_core::{one_outcome, stays_chain};
 use policy_redact::{any_order, clear_again, stays_normal};
 
-/// What is behind on a connection once a history goes on.
+/// The trace of a connection after events are appended to a history.
 pub fn histories_go_on()
     ensures joined { (conn : ℕ) (h k : History) → behind conn (h ++ k) ≡ behind conn k ++ behind conn h }
     ensures one_more { (conn : ℕ) (h : History) (x : Happened) → x.conn ≡ conn
@@ -48,14 +48,13 @@ pub fn histories_go_on()
         → IsPrefix u (behind u.conn (h ++ x ∷ [])) → May u (behind u.conn h) x.what }
 {}
 
-/// The frames that were handed over once one more thing happens: those of before, and what it hands over on its own
-/// connection.
+/// The sent frames after one more event: the earlier ones, then what the event sends on its own connection.
 pub fn frames_go_on()
     ensures { (T : Table) (h : History) (x : Happened)
         → frames T (h ++ x ∷ []) ≡ frames T h ++ handed_by T x.conn x.what (behind x.conn h) }
 {}
 
-/// What happens on other connections changes nothing on a connection, and is legal or not by itself.
+/// Events of other connections don't affect a connection: neither its trace nor whether the trace is legal.
 pub fn connections_are_apart()
     ensures behind { (conn : ℕ) (h k : History) → All (λ x. x.conn ≢ conn) k → behind conn (h ++ k) ≡ behind conn h }
     ensures legal { (u : Under) (h k : History) → All (λ x. x.conn ≢ u.conn) k → IsLegalBehind u (behind u.conn h)
@@ -65,7 +64,7 @@ pub fn connections_are_apart()
         → IsLegal T limit (h ++ k) }
 {}
 
-/// The chain once a step of an operator comes.
+/// The chain after an operation.
 pub fn chain_goes_on()
     ensures step { (past : Behind) (step : Step) → chain (Op step ∷ past) ≡ changed step (chain past) }
     ensures computes { (before after : Chain) (step : Step) → IsChain before → Changes before step after
@@ -75,7 +74,7 @@ pub fn chain_goes_on()
     stays_chain();
 }
 
-/// The level of the bucket of a name once one more thing happens.
+/// The level of a name's bucket after one more event.
 pub fn levels_go_on()
     ensures attached { (past : Behind) (at : ℕ) (name label : List ℕ) (policy : Policy)
         → level name (Op (Attach at name label policy) ∷ past) ≡ first_level policy }
@@ -94,7 +93,7 @@ pub fn levels_go_on()
         → level other (Charged seq name left ∷ past) ≡ level other past }
 {}
 
-/// What was noted of a call by the entry of a name once one more thing happens.
+/// What the entry with a name noted of a call, after one more event.
 pub fn notes_go_on()
     ensures attached { (past : Behind) (at seq : ℕ) (name label : List ℕ) (policy : Policy)
         → noted name seq (Op (Attach at name label policy) ∷ past) ≡ nothing }
@@ -119,7 +118,7 @@ pub fn notes_go_on()
         → noted other s (Counted seq name ∷ past) ≡ noted other s past }
 {}
 
-/// The form of a call once a call is accepted or fields are cleared.
+/// The form of a call after an acceptance or a redaction.
 pub fn forms_go_on()
     ensures taken { (conn : ℕ) (past : Behind) (call : Taken)
         → form conn call.seq (Took call ∷ past) ≡ copied conn call call.copy }
@@ -132,7 +131,7 @@ pub fn forms_go_on()
         → form conn s (Redacted seq name version ∷ past) ≡ form conn s past }
 {}
 
-/// The calls that stand once a call is accepted, sent or refused.
+/// The pending calls after a call is accepted, sent or refused.
 pub fn standing_goes_on()
     ensures taken { (u : Under) (past : Behind) (call : Taken) → IsPrefix u past
         → call.seq ≡ length (taken past) + 1 → standing (Took call ∷ past) ≡ standing past ++ call ∷ [] }
@@ -149,7 +148,7 @@ pub fn standing_goes_on()
         → standing (refused_for_link (standing past) past) ≡ [] }
 {}
 
-/// In a legal history a call of a connection has one fate at most, and its number is none above that of accepted calls.
+/// In a legal history a call has at most one fate, and only accepted calls have one.
 pub fn one_fate()
     ensures once { (T : Table) (limit conn seq : ℕ) (h : History) → IsLegal T limit h
         → count_by (is_fate_of seq) (behind conn h) ≤ 1 }
@@ -163,8 +162,8 @@ pub fn sent_in_order()
         → behind conn h ≡ later ++ Sent n b ∷ between ++ Sent m a ∷ earlier → m < n }
 {}
 
-/// In a legal history at most `MAX_CALLS` calls stand on a connection, and each has a copy, and a form of its method
-/// and sort with a normal tree.
+/// In a legal history at most `MAX_CALLS` calls of a connection are pending. Each has a copy, and a form of its
+/// method and kind with a normal tree.
 pub fn standing_calls_have_forms()
     ensures few { (T : Table) (limit conn : ℕ) (h : History) → IsLegal T limit h
         → length (standing (behind conn h)) ≤ MAX_CALLS }
@@ -176,8 +175,7 @@ pub fn standing_calls_have_forms()
     stays_normal();
 }
 
-/// In a legal history no call is charged, drawn for or counted twice for one attachment: what is noted of it comes
-/// where nothing was noted since.
+/// In a legal history no call is charged, drawn for or counted twice since one attachment.
 pub fn noted_once()
     ensures charged { (T : Table) (limit conn seq left : ℕ) (name : List ℕ) (h : History) (later earlier : Behind)
         → IsLegal T limit h → behind conn h ≡ later ++ Charged seq name left ∷ earlier
@@ -193,7 +191,7 @@ pub fn noted_once()
     stays_chain();
 }
 
-/// In a legal history no call is redacted twice for one attachment and version.
+/// In a legal history no call is redacted twice under one attachment and version.
 pub fn redacted_once()
     ensures { (T : Table) (limit conn seq version : ℕ) (name : List ℕ) (h : History) (later earlier : Behind)
         → IsLegal T limit h → behind conn h ≡ later ++ Redacted seq name version ∷ earlier
@@ -204,9 +202,8 @@ pub fn redacted_once()
     any_order();
 }
 
-/// What holds of a connection between two steps holds at its beginning, and each event keeps it. So behind every
-/// list of events the history is legal, the calls in the row are those that stand, in order, and their positions
-/// are places.
+/// The invariant of a connection holds initially, and each transition preserves it. So after any list of
+/// transitions the history is legal, and the row has the pending calls, in order, at legal positions.
 pub fn events_keep()
     ensures beginning { (u : Under) → IsCourse u beginning }
     ensures event { (u : Under) (old new : Course) (event : Event) → IsCourse u old → Comes u old event new
@@ -217,8 +214,8 @@ pub fn events_keep()
     stays_chain();
 }
 
-/// An event leads from a course to one at most: what it adds follows from it. How a turn comes out follows from the
-/// course, up to the ticket that it draws.
+/// A transition leads from a state to at most one other. The outcome of a turn follows from the state, up to the
+/// ticket that it draws.
 pub fn an_event_has_one_end()
     ensures end { (u : Under) (old new other : Course) (event : Event) → Comes u old event new
         → Comes u old event other → new ≡ other }
@@ -229,8 +226,8 @@ pub fn an_event_has_one_end()
     one_outcome();
 }
 
-/// A drain leads a connection on, as its turns and sendings do. Behind a whole drain it is settled: no call is ready,
-/// and the first call at each position is held there.
+/// A drain preserves the invariant of a connection. A complete drain settles it: no call is ready, and the first
+/// call at each position is held there.
 pub fn drains_settle()
     ensures begins { (u : Under) (old new : Course) → IsCourse u old → BeginsToDrain u old new → IsCourse u new }
     ensures whole { (u : Under) (old new : Course) → IsCourse u old → Drains u old new → IsCourse u new }
@@ -241,7 +238,7 @@ pub fn drains_settle()
     stays_chain();
 }
 
-/// What is left of a call of a valid table has no longer encoding than the call had.
+/// For a valid table, a call's encoding after a redaction is never longer than before.
 pub fn clears_shorten()
     ensures { (T : Table) (clears : List Clear) (call : Call) → IsValid T → IsCallOf T call
         → length (payload T (cleared_call clears call)) ≤ length (payload T call) }

@@ -1,19 +1,20 @@
-//! Histories of calls: what happens on a connection, what has become of its chain and its calls by then, which
-//! histories are legal, and where calls stand.
+//! Histories of calls: the events of a connection, the state that they lead to, which histories are legal, and
+//! where calls are on the chain.
 //!
-//! A [`Happening`] is one thing that happened on a connection; a history is a list of them. `specs/Behind.antt` reads
-//! from a list what it has made of a connection: its chain, its moment, the level of each bucket, what was noted of a
-//! call, the form of a call, and which calls stand. `specs/Rules.antt` says which happening may come next, rule by
-//! rule, and `specs/Legal.antt` which histories are legal. `specs/Clears.antt` says which versions of a policy have
-//! cleared fields from a call, `specs/Places.antt` where calls may stand, and `specs/Events.antt` what one step of a
-//! connection adds. `specs/Draining.antt` says what a drain is, `specs/Loads.antt` which loads belong to the calls, and
-//! `specs/Frames.antt` which frames were handed over.
+//! A [`Happening`] is one event of a connection; a history is a list of them. `specs/Behind.antt` computes the
+//! state of a connection from its events: its chain, its timestamp, the level of each bucket, what was noted of a
+//! call, the form of a call, and the pending calls. `specs/Rules.antt` defines which event can come next, rule by
+//! rule, and `specs/Legal.antt` which histories are legal. `specs/Clears.antt` has the policy versions that
+//! cleared fields of a call, `specs/Places.antt` the legal positions of calls, and `specs/Events.antt` the
+//! transitions of a connection. `specs/Draining.antt` defines a drain, `specs/Loads.antt` which loads belong to
+//! the calls, `specs/Frames.antt` which frames were sent, and `specs/Tickets.antt` which tickets were drawn.
 //!
-//! A [`History`] keeps the happenings of one connection; a [`Record`] of it names an entry by the operator's step that
-//! put its policy there, so that a record of a turn takes no memory (`specs/Records.antt`).
+//! A [`History`] stores the events of one connection. A [`Record`] names an entry by the operation that set its
+//! policy, so the record of a turn allocates nothing (`specs/Records.antt`).
 //!
-//! It stands on the engines, for what an entry of a chain answers to a call and how a step changes a chain, and on
-//! graphs, for why one is malformed. The layers above use one contract: these definitions, and the laws on them.
+//! The crate uses `engine_core` for what an entry answers to a call and how an operation changes a chain, and
+//! `graph_form` for why a graph is malformed. The layers above use these definitions and the laws on them, and
+//! nothing else.
 #![tactic(auto)]
 
 mod happening;

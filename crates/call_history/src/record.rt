@@ -1,26 +1,27 @@
-//! How happenings are kept: one record each, which names an entry of the chain by a step of an operator.
+//! How events are stored: one record each, which names an entry of the chain by an operation.
 
 use crate::happening::Taken;
 
-/// A happening as it is kept. An entry is named by the place, from 0, of the operator's step that put its policy there.
+/// An event as it is stored. It names an entry by the index, from 0, of the operation that set the entry's
+/// policy.
 pub enum Record {
     /// A call was accepted.
     Took(Taken),
-    /// A call was submitted and not accepted, since as many calls stood as may.
+    /// A call was submitted and refused, since `MAX_CALLS` calls were pending.
     Away {
         method: u16,
         number: u32,
         addr: u64,
     },
-    /// An operator's step, by its place.
+    /// An operation, by its index.
     Op {
         step: usize,
     },
-    /// The clock shows a moment, in milliseconds.
+    /// The clock reads a timestamp, in milliseconds.
     Moment {
         ms: u64,
     },
-    /// A call was charged, and this is the level after it.
+    /// A call was charged; `level` is the level afterwards.
     Charged {
         seq: u32,
         step: usize,
@@ -38,13 +39,13 @@ pub enum Record {
         seq: u32,
         step: usize,
     },
-    /// Fields were cleared from a call by a policy of this version.
+    /// A policy of this version cleared fields of a call.
     Redacted {
         seq: u32,
         step: usize,
         version: u32,
     },
-    /// A call's frame was handed over; its length is that of header and payload.
+    /// A call's frame was sent; `bytes` is the length of its header and payload.
     Sent {
         seq: u32,
         bytes: u64,
@@ -56,7 +57,7 @@ pub enum Record {
     },
 }
 
-// By hand, so that a drop is one call where it is needed, and not a drop of each part.
+// By hand, so that each drop is one call, and not a drop of every field.
 impl Drop for Record {
     fn drop(self) {
         match self {
@@ -91,18 +92,18 @@ impl Drop for Record {
     }
 }
 
-/// Why a call was refused, as it is kept.
+/// Why a call was refused, as it is stored.
 #[derive(Clone, Copy)]
 pub enum Refusal {
     /// Its graph is malformed.
     Malformed,
-    /// An access policy denied it, in this version, by the rule at a place; the number of rules stands for the default.
+    /// An access policy denied it, in this version, by the rule at an index; the number of rules means the default.
     Access {
         step: usize,
         version: u32,
         rule: u32,
     },
-    /// The level of a rate policy was below the cost.
+    /// The level of a rate policy's bucket was below the cost.
     Rate {
         step: usize,
         level: u64,

@@ -1,4 +1,4 @@
-//! Laws of engines and calls that are what a history has made. These functions do nothing; their clauses hold.
+//! Laws of engines and calls that agree with a trace. These functions do nothing; their clauses hold.
 
 ghost use Rattle.std.specs.Prelude.{ℕ, List, [], ◌∷◌, remove};
 ghost use Rattle.engine_core.specs.Engines.{EngineParts};
@@ -11,9 +11,9 @@ ghost use Rattle.call_history.specs.declared.happening.Taken.{Taken};
 
 use engine_core::{change_is_changed, stays_chain, unmarked_is_true};
 
-/// Engines and calls that are what a history has made are so once one more thing happens: a call joins them with its
-/// copy, an operator's step changes the engines, time fills their buckets, and an engine works on a call. What else
-/// happens leaves them as they are, and each call may leave.
+/// Engines and calls that agree with a trace still agree after one more event. An acceptance adds the call with
+/// its copy, an operation changes the engines, time fills their buckets, and a turn marks its call. Any other
+/// event leaves them as they are, and each call may leave.
 pub fn ties_go_on()
     ensures none { (conn : ℕ) → AreTied conn [] [] 0 [] }
     ensures takes { TakesOn }

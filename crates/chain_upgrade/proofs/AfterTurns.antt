@@ -20,7 +20,7 @@ use Rattle.chain_upgrade.proofs.RowLaws.{row-on, row-again, row-without}
 use Rattle.chain_upgrade.proofs.Stands.{gone-at, number-at, put-at, remove-map, split-at}
 use Rattle.chain_upgrade.proofs.Turning.{comes-out, same-numbers, stands-turn}
 
--- ---- behind an engine's work
+-- ---- after an engine's work
 
 module _ (es : List EngineParts) (room n p j moment : ℕ) (calls : List StandingCall) (cuts : List ℕ) (outcome : Outcome) (es' : List EngineParts)
     (calls' : List StandingCall) (kept : IsKept es room n calls cuts) (w : Works es calls p j moment outcome es' calls') where
@@ -32,7 +32,7 @@ module _ (es : List EngineParts) (room n p j moment : ℕ) (calls : List Standin
   work-row v seen = ap (λ (seqs : List ℕ). row_from 0 cuts seqs) (same-numbers es n p j moment calls outcome es' calls' kept.stands w)
       ∙ ap (λ (v : ChainParts). v.row) seen
 
--- ---- where calls stand then
+-- ---- the positions of calls afterwards
 
 module _ (es : List EngineParts) (room n p j : ℕ) (calls : List StandingCall) (cuts : List ℕ) (v : ChainParts) (seen : seen-of es n calls cuts ≡ v)
     (kept : IsKept es room n calls cuts) (place : j ≡ length (filter (λ call. nat_le (p + 1) call.1) v.row))
@@ -124,7 +124,7 @@ told-holds seq (Held level cost) t Holds is holds = subst (λ (t : Turned). OnTu
 told-holds seq (Refused n why) t Holds is holds = subst (λ (t : Turned). OnTurn t Holds) (sym is) holds
 told-holds seq Redacted t Holds is holds = subst (λ (t : Turned). OnTurn t Holds) (sym is) holds
 
--- what follows from either answer
+-- the consequence of either result
 pub in-either : {A P Q : Type 0} (b : Bool) → OnTrue b P → OnFalse b Q → (P → A) → (Q → A) → A
 in-either true p q f g = f p
 in-either false p q f g = g q

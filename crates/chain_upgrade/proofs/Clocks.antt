@@ -1,4 +1,4 @@
--- What a moment makes of engines.
+-- The effect of a timestamp on engines.
 use Rattle.std.proofs.Common.{◌≡◌, ℕ, ◌+◌, ◌<◌, max, zero, suc, List, [], ◌∷◌, ◌++◌, length, take, drop, set}
 use Rattle.std.proofs.Common.{get_or, map, slice_get, All, Some, refl, ap, sym, ◌∙◌, subst, arith, get_or-drop}
 use Rattle.std.proofs.lemmas.List.{drop-drop, drop-set-lt, length-map, map_more, take_at, take_more_set}
@@ -12,7 +12,7 @@ use Rattle.chain_upgrade.specs.Chains.{StandsOn}
 use Rattle.chain_upgrade.specs.Kept.{IsKept}
 use Rattle.chain_upgrade.proofs.KeepLaws.{short-more}
 
--- ---- one item more
+-- ---- one more item
 
 same-item : {X : Type 0} (xs ys : List X) (i : ℕ) (d : X) → drop i xs ≡ drop i ys → get_or xs i d ≡ get_or ys i d
 same-item {X = X} xs ys i d e =
@@ -32,14 +32,14 @@ pub others-one-more : {X : Type 0} (items init : List X) (i : ℕ) (y : X) → d
 others-one-more {X = X} items init i y others =
     drop-set-lt (i + 1) items i y (omega arith) ∙ (sym (drop-drop 1 i items) ∙ (ap (λ (zs : List X). drop 1 zs) others ∙ drop-drop 1 i init))
 
--- the engines behind the loop, as they are written back
+-- the engines after the loop, as they are written back
 pub written-back : (now : ℕ) (es lent new : List EngineParts) (n : ℕ) → new ≡ map (λ e. clocked now e) lent → lent ≡ es → length es ≡ n
     → take n (new ++ drop (length new) es) ≡ map (λ e. clocked now e) es
 written-back now es lent new n is same many =
     let all : new ≡ map (λ e. clocked now e) es = is ∙ ap (λ (es : List EngineParts). map (λ e. clocked now e) es) same in
     take_at new (drop (length new) es) n (omega (arith, ap (λ (es : List EngineParts). length es) all, length-map es (λ (e : EngineParts). clocked now e))) ∙ all
 
--- ---- a chain whose engines are shown a moment
+-- ---- a chain after a timestamp
 
 same-entries : (now : ℕ) (es : List EngineParts) → map (λ e. e.entry) (map (λ e. clocked now e) es) ≡ map (λ e. e.entry) es
 same-entries now [] = refl

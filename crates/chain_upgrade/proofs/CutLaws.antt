@@ -1,4 +1,4 @@
--- What holds of cuts and of the positions that they give.
+-- Properties of cuts and of the positions that they give.
 use Rattle.std.proofs.Common.{◌≡◌, ◌≢◌, ℕ, ◌+◌, ◌-◌, ◌<◌, ◌≤◌, zero, suc, max, min, inl, inr, List, [], ◌∷◌, ◌++◌, length, get_or, refl, arith}
 use Rattle.std.proofs.lemmas.Bool.{cases_lt}
 use Rattle.std.proofs.lemmas.Bool.Decides.{nat_tests}
@@ -41,7 +41,7 @@ cut-next : (top p c : ℕ) (cs : List ℕ) → cut_at top (c ∷ cs) (suc p) ≡
 cut-next top zero c cs = refl
 cut-next top (suc p) c cs = refl
 
--- below the cut behind a position a call stands behind it
+-- an index below the cut of the next position is that of a call past the position
 pub position-over : (k top p : ℕ) (cs : List ℕ) → IsFalling top cs → k < get_or cs p 0 → p < position_at k cs
 position-over k top p [] falls below = absurd (omega arith)
 position-over k top zero (c ∷ cs) falls below = omega (arith, over k c cs below)
@@ -49,7 +49,7 @@ position-over k top (suc p) (c ∷ cs) falls below =
     let low = cut-low c (suc p) cs falls.1 in
     omega (arith, falls.0, over k c cs (omega arith), position-over k c p cs falls.1 below)
 
--- at or above it a call stands no later than there
+-- an index at or above it is that of a call at the position or an earlier one
 pub position-under : (k p : ℕ) (cs : List ℕ) → get_or cs p 0 ≤ k → position_at k cs ≤ p
 position-under k p [] past = omega arith
 position-under k zero (c ∷ cs) past = omega (arith, under k c cs past)
@@ -58,7 +58,7 @@ position-under k (suc p) (c ∷ cs) past = elim (cases_lt k c) [
   | inr below ↦ omega (arith, under k c cs below)
 ]
 
--- between the cut behind a position and its own a call stands at it
+-- an index between the cut of the next position and its own is that of a call at the position
 pub position-between : (k top p : ℕ) (cs : List ℕ) → IsFalling top cs → get_or cs p 0 ≤ k → k < cut_at top cs p → position_at k cs ≡ p
 position-between k top zero cs falls past below = omega (arith, position-under k zero cs past)
 position-between k top (suc p) cs falls past below = omega (arith, position-under k (suc p) cs past, position-over k top p cs falls below)

@@ -1,4 +1,4 @@
--- Cuts stay as they are to be.
+-- Moves preserve the invariant of cuts.
 use Rattle.std.proofs.Common.{◌≡◌, ℕ, ◌+◌, ◌-◌, ◌<◌, ◌≤◌, zero, suc, max, min, inl, inr, List, [], ◌∷◌, ◌++◌, map, get_or, refl, arith}
 use Rattle.std.proofs.lemmas.Bool.{cases_lt}
 use Rattle.chain_upgrade.specs.Cuts.{cut_at, IsFalling, IsShort, zeroed, closed_up, raised, taken_out, lowered}

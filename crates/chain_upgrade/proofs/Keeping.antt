@@ -1,4 +1,4 @@
--- A chain's own fields stay as they are to be.
+-- Operations and turns preserve the invariant of a chain's fields.
 use Rattle.std.proofs.Common.{◌≡◌, ℕ, ◌+◌, ◌-◌, ◌<◌, ◌≤◌, zero, suc, List, [], ◌∷◌, ◌++◌, length, filter, nat_le}
 use Rattle.std.proofs.Common.{subst, take, drop, get_or, insert, remove, All, None, refl, ap, ◌∙◌, arith}
 use Rattle.std.proofs.Common.{length-append, length-take, length-drop}
@@ -17,7 +17,7 @@ use Rattle.chain_upgrade.proofs.KeepLaws.{short-closed, short-raised, short-out,
 use Rattle.chain_upgrade.proofs.RowLaws.{all-count, cut-count, row-numbers, row-falls, row-push}
 use Rattle.chain_upgrade.proofs.Stands.{stands-push, stands-without, stands-cleared}
 
--- what callers see of it
+-- the chain as callers see it
 pub is-standing : (es : List EngineParts) (room n : ℕ) (calls : List StandingCall) (cuts : List ℕ) → IsKept es room n calls cuts
     → IsStandingChain (record { engines = es; attached = n; calls = calls; row = row_from 0 cuts (seqs_of calls) })
 is-standing es room n calls cuts kept = record {
@@ -121,7 +121,7 @@ module _ (es es' : List EngineParts) (room n p j : ℕ) (calls calls' : List Sta
     room_for = kept.room_for;
   }
 
--- ---- what is read of a chain
+-- ---- properties of a chain
 
 pub same-fall : (calls : List StandingCall) (cuts : List ℕ) → IsFalling (length calls) cuts → IsFalling (length (seqs_of calls)) cuts
 same-fall calls cuts falls = falls-more (length calls) (length (seqs_of calls)) cuts (omega (arith, length-map calls (λ (s : StandingCall). s.call.seq))) falls
@@ -163,7 +163,7 @@ cut-some es n (suc p) calls cuts v seen is falls =
     (cut-count p cuts (seqs_of calls) (same-fall calls cuts falls) low)
     ∙ ap (λ (q : ℕ). get_or cuts q 0) place
 
--- ---- the fields as the code leaves them
+-- ---- the fields as the code sets them
 
 pub kept-as : (es es' : List EngineParts) (room room' n : ℕ) (calls calls' : List StandingCall) (cuts cuts' : List ℕ) → es' ≡ es → room' ≡ room → calls' ≡ calls
     → cuts' ≡ cuts → IsKept es room n calls cuts → IsKept es' room' n calls' cuts'

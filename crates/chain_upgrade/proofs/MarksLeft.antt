@@ -1,4 +1,4 @@
--- What calls keep of engines that have left.
+-- The marks of detached engines that calls still have.
 use Rattle.std.proofs.Common.{◌≡◌, ◌≢◌, ℕ, ◌-◌, ◌≤◌, nat_le, Bool, true, false, zero, suc, max, min}
 use Rattle.std.proofs.Common.{List, [], ◌∷◌, ◌++◌, length, map, set, slice_get, insert, remove}
 use Rattle.std.proofs.Common.{All, Some, refl, ap, sym, ◌∙◌, arith}
@@ -24,7 +24,7 @@ have-push es (suc n) [] s have none = tt
 have-push es zero (t ∷ calls) s have none = (have.0, have-push es zero calls s have.1 none)
 have-push es (suc n) (t ∷ calls) s have none = have-push es n calls s have none
 
--- how many are left of the first calls, without the one at a place
+-- how many of the first `n` calls remain, without the one at an index
 abbrev left : ℕ → ℕ → ℕ
 left n j = max (min n j) (n - 1)
 
@@ -55,7 +55,7 @@ have-all es n [] all = tt
 have-all es zero (s ∷ calls) all = absurd (omega arith)
 have-all es (suc n) (s ∷ calls) all = have-all es n calls (omega arith)
 
--- ---- the call at a place
+-- ---- the call at an index
 
 pub have-at : (es : List EngineParts) (n j : ℕ) (calls : List StandingCall) (s : StandingCall) → RestHasOnlyMarksOf es n calls → n ≤ j → slice_get calls j ≡ Some s
     → HasOnlyMarksOf es s
@@ -79,7 +79,7 @@ have-set es zero (suc j) (t ∷ calls) s have has = (have.0, have-set es zero j 
 have-set es (suc n) zero (t ∷ calls) s have has = have
 have-set es (suc n) (suc j) (t ∷ calls) s have has = have-set es n j calls s have has
 
--- ---- engines that come, and others in their places
+-- ---- engines that are attached or replaced
 
 have-for : (es es' : List EngineParts) (n : ℕ) (calls : List StandingCall) → ((s : StandingCall) → HasOnlyMarksOf es s → HasOnlyMarksOf es' s) → RestHasOnlyMarksOf es n calls
     → RestHasOnlyMarksOf es' n calls

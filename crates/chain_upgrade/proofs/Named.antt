@@ -1,4 +1,4 @@
--- Where the engine of a name stands, and what a step on it makes of the engines.
+-- The position of the engine with a name, and the effect of an operation on the engines.
 use Rattle.std.proofs.Common.{subst, ◌≡◌, ℕ, ◌+◌, ◌<◌, ◌≤◌, zero, suc, Bool, true, false, cond, nat_lt, if◌then◌else◌}
 use Rattle.std.proofs.Common.{List, [], ◌∷◌, length, map, set, get_or, remove, slice_get, Contains, Option, Some}
 use Rattle.std.proofs.Common.{None, is_some, refl, ap, sym, ◌∙◌, arith}
@@ -20,9 +20,9 @@ use Rattle.engine_core.specs.declared.op.Op.TheVariants.{Detach, Upgrade}
 use Rattle.chain_upgrade.proofs.Stands.{remove-map}
 use Rattle.chain_upgrade.proofs.Steps.{free-detach, free-upgrade, named-is, upgraded-named, without-named, has_first}
 
--- ---- the first place of a name
+-- ---- the first position of a name
 
--- the engine of a name stands at a place
+-- the engine with a name is at a position
 pub record IsFound (name : List ℕ) (place : ℕ) (es : List EngineParts) : Type 0 where
   pub it : EngineParts
   pub within : place < length es
@@ -88,14 +88,14 @@ none-found name es is has =
     (no-first (nat_lt (position_or_len (λ (e : EngineParts). is_named name e.entry) es) (length es)) (position_or_len (λ (e : EngineParts). is_named name e.entry) es) is) in
     omega (arith, place-len name es, place-within name es has.0 has.1 has.2)
 
--- ---- a step on it
+-- ---- an operation on it
 
 pub map-at : {X Y : Type 0} (f : X → Y) (xs : List X) (p : ℕ) (x : X) → slice_get xs p ≡ Some x → slice_get (map f xs) p ≡ Some (f x)
 map-at f [] p x is = absurd cc
 map-at {X = X} f (z ∷ zs) zero x is = let there : z ≡ x = cc in ap (λ (x : X). Some (f x)) there
 map-at f (z ∷ zs) (suc p) x is = map-at f zs p x is
 
--- it leaves
+-- it is detached
 pub detach-changes : (es : List EngineParts) (n p : ℕ) (name : List ℕ)
     → ((before : Chain) (op : Op) → IsChain before → ((r : Refusal) → Refuses before op r → ⊥) → Changes before op (changed op before))
     → IsChain (record { entries = map (λ e. e.entry) es; attached = n }) → IsFound name p es
@@ -135,7 +135,7 @@ pub none-has : (name : List ℕ) (es : List EngineParts) (o : Option ℕ) → o 
 none-has name es None is test = none-found name es (sym is)
 none-has name es (Some p) is test = absurd cc
 
--- the engine behind an upgrade
+-- the engine after an upgrade
 pub upgraded-is : (policy : Policy) (e e' : EngineParts) → e'.entry ≡ upgraded e.entry policy → e'.level ≡ level_under e.entry.policy policy e.level
     → e'.last ≡ e.last → e' ≡ record { entry = upgraded e.entry policy; level = level_under e.entry.policy policy e.level; last = e.last }
 upgraded-is policy e e' entry level last =

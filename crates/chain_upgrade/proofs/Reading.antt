@@ -1,4 +1,4 @@
--- What is read of a chain by its cuts.
+-- Properties of a chain by its cuts.
 use Rattle.std.proofs.Common.{◌≡◌, ℕ, ◌+◌, ◌-◌, ◌<◌, ◌≤◌, ◌==◌, zero, suc, true, false, inl, inr, List, [], ◌∷◌}
 use Rattle.std.proofs.Common.{length, filter, nat_le, get_or, remove, slice_get, Contains, Some, None, subst, refl}
 use Rattle.std.proofs.Common.{ap, sym, ◌∙◌, arith}
@@ -17,7 +17,7 @@ use Rattle.chain_upgrade.proofs.Stands.{inside-at, number-at}
 
 -- ---- cuts
 
--- none stands behind the position for transport
+-- no call is past the position for transport
 pub short-at : (n : ℕ) (cs : List ℕ) → IsShort n cs → get_or cs n 0 ≡ 0
 short-at n [] short = refl
 short-at zero (c ∷ cs) short = short.0
@@ -30,7 +30,7 @@ top-same calls cuts p = ap (λ (top : ℕ). cut_at top cuts p) (length-map calls
 
 module _ (es : List EngineParts) (n : ℕ) (calls : List StandingCall) (cuts : List ℕ) (v : ChainParts) (seen : seen-of es n calls cuts ≡ v)
     (falls : IsFalling (length calls) cuts) where
-  -- how many stand at a position or later, as `cut` says it
+  -- the number of calls at a position or a later one, as `cut` returns it
   pub cut-is : (p : ℕ) → length (filter (λ call. nat_le p call.1) v.row) ≡ cut_at (length calls) cuts p
   cut-is zero = cut-none es n 0 calls cuts v seen refl
   cut-is (suc p) = cut-some es n (suc p) calls cuts v seen (λ none. omega arith) falls ∙ (let same : suc p - 1 ≡ p = omega arith in ap (λ (q : ℕ). get_or cuts q 0) same)
@@ -38,12 +38,12 @@ module _ (es : List EngineParts) (n : ℕ) (calls : List StandingCall) (cuts : L
   pub cut-behind : (p i : ℕ) → i ≡ p + 1 → length (filter (λ call. nat_le i call.1) v.row) ≡ get_or cuts p 0
   cut-behind p i next = cut-some es n i calls cuts v seen (λ none. omega arith) falls ∙ (let same : i - 1 ≡ p = omega arith in ap (λ (q : ℕ). get_or cuts q 0) same)
 
-  -- the cuts of a position and of the next one are equal: no call stands there
+  -- the cuts of a position and of the next one are equal: no call is there
   pub none-at : (p : ℕ) → cut_at (length calls) cuts p ≤ get_or cuts p 0 → first_at p v.row ≡ None
   none-at p le = subst (λ (v : ChainParts). first_at p v.row ≡ None) seen
       (row-no-first p cuts (seqs_of calls) (same-fall calls cuts falls) (omega (arith, top-same calls cuts p)))
 
-  -- a place below the cut of a position is that of a call
+  -- an index below the cut of a position is that of a call
   pub within-cut : (p j : ℕ) → j < cut_at (length calls) cuts p → j < length calls
   within-cut p j below = omega (arith, cut-low (length calls) p cuts falls)
 
@@ -66,7 +66,7 @@ module _ (es : List EngineParts) (n : ℕ) (calls : List StandingCall) (cuts : L
   none-stands j past = subst (λ (v : ChainParts). slice_get v.row j ≡ None) seen
       (row-none-at j cuts (seqs_of calls) (omega (arith, length-map calls (λ (s : StandingCall). s.call.seq))))
 
-  -- the first at a position stands behind all calls of later ones
+  -- the first call at a position comes after all calls at later ones
   pub within-seen : (p : ℕ) → get_or cuts p 0 < cut_at (length calls) cuts p → get_or cuts p 0 < length v.calls
   within-seen p below = subst (λ (v : ChainParts). get_or cuts p 0 < length v.calls) seen (within-cut p (get_or cuts p 0) below)
 
@@ -97,7 +97,7 @@ at-least n q more = grind (arith, nat_tests)
 too-low : (n q : ℕ) → q < n → nat_le n q ≡ false
 too-low n q less = grind (arith, nat_tests)
 
--- where no call stands at a position or later, none is the first there
+-- if no call is at a position or a later one, none is the first there
 pub none-counted : (n : ℕ) (row : Row) → length (filter (λ call. nat_le n call.1) row) ≡ 0 → first_at n row ≡ None
 none-counted n [] none = refl
 none-counted n (x ∷ xs) none = elim (cases_lt x.1 n) [
@@ -110,7 +110,7 @@ none-counted n (x ∷ xs) none = elim (cases_lt x.1 n) [
       absurd (omega (arith, ap (λ (row : Row). length row) here))
 ]
 
--- it stands for transport, and leaves
+-- it is ready for transport, and leaves
 pub row-ready : (es : List EngineParts) (n : ℕ) (calls : List StandingCall) (cuts : List ℕ) (v : ChainParts) (s : StandingCall)
     → seen-of es n calls cuts ≡ v → IsFalling (length calls) cuts → IsShort (length es) cuts → 0 < cut_at (length calls) cuts (length es)
     → slice_get calls 0 ≡ Some s
@@ -125,7 +125,7 @@ row-ready es n (t ∷ ts) cuts v s seen falls short below there =
     ∙ (ap (λ (q : ℕ). (t.call.seq, q) ∷ row_from 0 (taken_out 0 cuts) (seqs_of ts)) position
     ∙ ap (λ (t : StandingCall). (t.call.seq, length es) ∷ row_from 0 (taken_out 0 cuts) (seqs_of ts)) same))
 
--- ---- two calls of one number
+-- ---- two calls with one number
 
 numbers-within : (calls : List StandingCall) (k : ℕ) (s : StandingCall) → k < length calls → get_or calls k s ≡ s
     → get_or (seqs_of calls) k 0 ≡ s.call.seq
@@ -140,7 +140,7 @@ same-there (u ∷ us) zero (suc j) s t same inside at is = absurd (omega arith)
 same-there (u ∷ us) (suc k) zero s t same inside at is = absurd (omega arith)
 same-there (u ∷ us) (suc k) (suc j) s t same inside at is = same-there us k j s t (omega arith) (omega arith) at is
 
--- they are one
+-- they are the same call
 pub one-call : (calls : List StandingCall) (j : ℕ) (s t : StandingCall) → IsAscending (seqs_of calls) → slice_get calls j ≡ Some t
     → Contains calls s → s.call.seq ≡ t.call.seq → s ≡ t
 one-call calls j s t ascends is has same = elim (cases_eq has.0 j) [

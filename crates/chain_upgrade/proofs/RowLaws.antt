@@ -1,4 +1,4 @@
--- How moves of cuts move a row.
+-- How changes of cuts move a row.
 use Rattle.std.proofs.Common.{◌≡◌, ◌≢◌, ℕ, ◌+◌, ◌-◌, ◌<◌, ◌≤◌, ◌==◌, zero, suc, nat_lt, nat_le, min, Bool, true}
 use Rattle.std.proofs.Common.{false, not, if◌then◌else◌, inl, inr, List, [], ◌∷◌, ◌++◌, length, map, filter, find}
 use Rattle.std.proofs.Common.{get_or, Some, None, slice_get, remove, refl, ap, sym, ◌∙◌, arith}
@@ -166,7 +166,7 @@ row-again j cs seqs there ascends =
     row-by (λ s q. if nat_lt s (get_or seqs j 0) then q else 0) 0 cs (lowered j cs) seqs
     (λ i place inside at. one-again j i place cs seqs there ascends inside (omega arith))
 
--- ---- a call more, and one less
+-- ---- one more call, and one less
 
 row-end : (k place : ℕ) (cs seqs : List ℕ) (s : ℕ) → place ≡ k + length seqs → position_at place cs ≡ 0
     → row_from k cs (seqs ++ s ∷ []) ≡ row_from k cs seqs ++ (s, 0) ∷ []
@@ -243,7 +243,7 @@ row-without (suc i) cs (s ∷ ss) inside ascends =
 pub row-rest : (cs : List ℕ) (s : ℕ) (ss : List ℕ) → row_from 0 cs (s ∷ ss) ≡ (s, position_at 0 cs) ∷ row_from 0 (taken_out 0 cs) ss
 row-rest cs s ss = ap (λ (row : Row). (s, position_at 0 cs) ∷ row) (sym (row-shift 0 0 cs ss (omega arith)))
 
--- ---- what is read of a row
+-- ---- properties of a row
 
 pub row-numbers : (k : ℕ) (cs seqs : List ℕ) → map (λ call. call.0) (row_from k cs seqs) ≡ seqs
 row-numbers k cs [] = refl
@@ -315,7 +315,7 @@ pub row-no-first : (p : ℕ) (cs seqs : List ℕ) → IsFalling (length seqs) cs
     → first_at p (row_from 0 cs seqs) ≡ None
 row-no-first p cs seqs falls none = none-found 0 (length seqs) p cs seqs falls none (omega arith)
 
--- ---- how many calls stand at a position or later
+-- ---- the number of calls at a position or a later one
 
 not-below : (p q : ℕ) → p < q → nat_le (suc p) q ≡ true
 not-below p q less = grind (arith, nat_tests)

@@ -1,4 +1,4 @@
--- What stands on a chain still stands there after a step.
+-- Each step preserves the conditions of pending calls on a chain.
 use Rattle.std.proofs.Common.{◌≡◌, ℕ, ◌+◌, ◌<◌, zero, suc, List, [], ◌∷◌, ◌++◌, length, map, take, drop, set, get_or}
 use Rattle.std.proofs.Common.{insert, remove, slice_get, All, Option, Some, None, IfSome, IfNone, refl, ap, sym, ◌∙◌}
 use Rattle.std.proofs.Common.{arith, length-append, length-take, length-drop}
@@ -64,7 +64,7 @@ stands-cleared es n calls st = record {
   true_for = λ k d inside j s none. absurd (omega arith);
 }
 
--- ---- steps of an operator
+-- ---- operations
 
 pub stands-attach : (es : List EngineParts) (n p : ℕ) (calls : List StandingCall) (e : EngineParts)
     → ((e : Entry) (s : StandingCall) → note_of s.marks e.attach ≡ None → IsTrueFor e s)
@@ -106,7 +106,7 @@ stands-upgrade es n p calls e e' st is chain policy stays true_there = record {
       (All-weaker (λ s. IsTrueFor e.entry s) (λ s. IsTrueFor e'.entry s) stays calls true_there) st.true_for;
 }
 
--- ---- an item of a list, and one in its place
+-- ---- an item of a list, and its replacement
 
 pub same-map : {X Y : Type 0} (f : X → Y) (xs : List X) (p : ℕ) (x y : X) → slice_get xs p ≡ Some x → f y ≡ f x → map f (set xs p y) ≡ map f xs
 same-map f [] p x y is same = refl
@@ -146,7 +146,7 @@ inside-at [] j x is = absurd cc
 inside-at (y ∷ ys) zero x is = omega arith
 inside-at (y ∷ ys) (suc j) x is = omega (arith, inside-at ys j x is)
 
--- ---- what holds of an answer
+-- ---- properties of results
 
 pub some-weaker : {X : Type 0} (P Q : X → Type 0) (o : Option X) → ((x : X) → P x → Q x) → IfSome o P → IfSome o Q
 some-weaker P Q None f holds = holds

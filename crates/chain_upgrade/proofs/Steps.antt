@@ -1,4 +1,4 @@
--- What stands against a step of an operator, and what it makes of the engines.
+-- The reasons against an operation, and its effect on the engines.
 use Rattle.std.proofs.Common.{subst, ◌≡◌, ◌≢◌, ℕ, ◌+◌, ◌<◌, ◌≤◌, zero, suc, true, false, not, if◌then◌else◌, ◌⊎◌, inl}
 use Rattle.std.proofs.Common.{inr, List, [], ◌∷◌, length, map, filter, set, get_or, insert, remove, slice_get}
 use Rattle.std.proofs.Common.{Contains, Some, refl, ap, sym, ◌∙◌, arith}
@@ -17,7 +17,7 @@ use Rattle.engine_core.specs.declared.op.Op.TheVariants.{Attach, Detach, Upgrade
 
 -- ---- an attachment
 
--- what stands against one, by its order
+-- the reasons against one, by their order
 pub attach-order : (es : List Entry) (at : ℕ) (name label : List ℕ) (policy : Policy) (r : Refusal) → IsAgainst es (Attach at name label policy) r
     → ((order_of r ≡ 2) × Contains (names_of es) name) ⊎ (((order_of r ≡ 3) × (length es < at)) ⊎ ((order_of r ≡ 4) × (8 ≤ length es)))
 attach-order es at name label policy r (detaches_none name' is none s) = absurd cc
@@ -68,7 +68,7 @@ free-attach es at name label policy r none within few against = elim (attach-ord
   | inr rest ↦ elim rest [ inl is ↦ omega (arith, is.1) | inr is ↦ omega (arith, is.1) ]
 ]
 
--- ---- a step on the entry of a name
+-- ---- an operation on the entry with a name
 
 order-least : (r : Refusal) → 1 ≤ order_of r
 order-least (no_such name) = omega arith
@@ -98,7 +98,7 @@ refuses-upgrade c name label policy none = record {
   first = λ other less against. omega (arith, order-least other);
 }
 
--- what stands against an upgrade of a name that is there: an entry of it is of another kind
+-- the reason against an upgrade of an existing name: its entry is of another kind
 upgrade-other : (es : List Entry) (name label : List ℕ) (policy : Policy) (r : Refusal) → Contains (names_of es) name
     → IsAgainst es (Upgrade name label policy) r
     → (order_of r ≡ 5) × ((e : Entry) × Contains es e × (e.name ≡ name) × (is_same_kind e.policy policy ≡ false))
@@ -119,7 +119,7 @@ refuses-kind c name label policy e has there named other = record {
   first = λ r less against. omega (arith, (upgrade-other c.entries name label policy r has against).0);
 }
 
--- ---- the entry of a name
+-- ---- the entry with a name
 
 pub named-is : (name : List ℕ) (e : Entry) → e.name ≡ name → is_named name e ≡ true
 named-is name e same = grind (arith, common_steps, bytes_eq-Decides)
@@ -155,7 +155,7 @@ none-upgraded name policy (x ∷ xs) none =
     let rest = none-upgraded name policy xs (λ has. none (suc has.0, omega (arith, has.1), has.2)) in
     rw (other, rest) refl
 
--- the entry of a name is gone
+-- the entry with a name is removed
 pub without-named : (name : List ℕ) (es : List Entry) (p : ℕ) (e : Entry) → AreDistinct (names_of es) → slice_get es p ≡ Some e → e.name ≡ name
     → filter (λ e. not (is_named name e)) es ≡ remove es p
 without-named name [] p e apart is same = absurd cc
@@ -169,7 +169,7 @@ without-named name (x ∷ xs) (suc p) e apart is same =
     let rest = without-named name xs p e apart.1 is same in
     rw other (ap (λ (ys : List Entry). x ∷ ys) rest)
 
--- the entry of a name is upgraded
+-- the entry with a name is upgraded
 pub upgraded-named : (name : List ℕ) (policy : Policy) (es : List Entry) (p : ℕ) (e : Entry) → AreDistinct (names_of es) → slice_get es p ≡ Some e → e.name ≡ name
     → map (λ e. if is_named name e then upgraded e policy else e) es ≡ set es p (upgraded e policy)
 upgraded-named name policy [] p e apart is same = absurd cc
@@ -189,7 +189,7 @@ names-within [] k f name inside at same = absurd (omega arith)
 names-within (x ∷ xs) zero f name inside at same = (0, omega arith, ap (λ (e : Entry). e.name) at ∙ same)
 names-within (x ∷ xs) (suc k) f name inside at same = let rest = names-within xs k f name (omega arith) at same in (suc rest.0, omega (arith, rest.1), rest.2)
 
--- two entries of one name are one
+-- two entries with one name are the same
 one-at : (es : List Entry) (p k : ℕ) (e f : Entry) → AreDistinct (names_of es) → slice_get es p ≡ Some e → k < length es → get_or es k f ≡ f → f.name ≡ e.name → f ≡ e
 one-at [] p k e f apart is inside at same = absurd cc
 one-at (x ∷ xs) zero zero e f apart is inside at same = let first : x ≡ e = cc in sym at ∙ first
@@ -213,7 +213,7 @@ free-upgrade es name label policy r p e apart is same kind against =
     let not_kind : is_same_kind e.policy policy ≡ false = rw one at other.1.3 in
     cc
 
--- an engine that is taken out and put back changed
+-- an engine that is taken out, changed and put back
 pub put-back : {X : Type 0} (xs : List X) (p : ℕ) (x : X) → p < length xs → insert (remove xs p) p x ≡ set xs p x
 put-back [] p x inside = absurd (omega arith)
 put-back (y ∷ ys) zero x inside = refl

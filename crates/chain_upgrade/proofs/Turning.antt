@@ -1,4 +1,4 @@
--- What a turn makes of a chain.
+-- The effect of a turn on a chain.
 use Rattle.std.proofs.Common.{◌≡◌, ◌≢◌, ℕ, ◌<◌, ◌≤◌, zero, suc, true, List, [], ◌∷◌, length, map, get_or, slice_get}
 use Rattle.std.proofs.Common.{All, Contains, Some, None, refl, ap, sym, ◌∙◌, arith}
 use Rattle.std.proofs.lemmas.List.{length-set}
@@ -38,7 +38,7 @@ same-seq Redacted (Redact clears) call = refl
 pub number-kept : (policy : Policy) (outcome : Outcome) (before after : Call) → LeavesCall policy outcome before after → after.seq ≡ before.seq
 number-kept policy outcome before after leaves = ap (λ (call : Call). call.seq) leaves.form ∙ same-seq outcome policy before
 
--- ---- marks stay true
+-- ---- marks remain true
 
 true-same : (e : Entry) (s t : StandingCall) → t.call ≡ s.call → note_of t.marks e.attach ≡ note_of s.marks e.attach → IsTrueFor e s → IsTrueFor e t
 true-same e s t calls marks holds = record {

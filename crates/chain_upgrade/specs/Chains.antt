@@ -1,4 +1,4 @@
--- A chain as contracts see it: its engines and the calls that stand on it, never queues (this project's own).
+-- A chain as contracts see it: its engines and its pending calls, without queues (this project's own).
 use Rattle.std.specs.Prelude.{◌≡◌, ℕ, ◌<◌, ◌≤◌, List, [], ◌∷◌, ◌++◌, map, length, set, slice_get, All, Option, Some, None}
 use Rattle.engine_core.specs.Chains.{Chain, IsChain, Refusal, no_such, taken, no_place, full, other_kind}
 use Rattle.engine_core.specs.Engines as parts
@@ -17,7 +17,7 @@ use Rattle.chain_upgrade.specs.declared.turned.Turned.TheVariants.{Idle, Moved, 
 use Rattle.chain_upgrade.specs.declared.fault.ChainFault.{ChainFault}
 use Rattle.chain_upgrade.specs.declared.fault.ChainFault.TheVariants.{NoSuch, Taken, At, ChainFull, OtherKind, Memory}
 
--- the engines in the order in which they judge, how many attachments there were, the calls that stand, by ascending
+-- the engines in the order in which they judge, the number of attachments so far, the pending calls by ascending
 -- number, and the row of their numbers and positions; the number of engines is the position for transport
 pub record ChainParts : Type 0 where
   pub engines : List EngineParts
@@ -29,7 +29,7 @@ pub record ChainParts : Type 0 where
 abbrev pub chain_of : ChainParts → Chain
 chain_of c = parts.chain_of c.engines c.attached
 
--- numbers ascend, from above a number
+-- numbers ascend, and all are above a number
 abbrev pub IsAbove : ℕ → List ℕ → Type 0
 IsAbove low [] = Unit {0}
 IsAbove low (number ∷ numbers) = (low < number) × IsAbove number numbers
@@ -39,12 +39,12 @@ abbrev pub IsAscending : List ℕ → Type 0
 IsAscending [] = Unit {0}
 IsAscending (number ∷ numbers) = IsAbove number numbers
 
--- positions never rise, from one that is at most this
+-- positions never rise, and all are at most this
 abbrev pub IsFallingFrom : ℕ → Row → Type 0
 IsFallingFrom position [] = Unit {0}
 IsFallingFrom position (call ∷ row) = (call.1 ≤ position) × IsFallingFrom call.1 row
 
--- these calls may stand on these engines, of so many attachments
+-- these calls may be pending on these engines, after `attached` attachments
 pub record StandsOn (engines : List EngineParts) (attached : ℕ) (calls : List StandingCall) : Type 0 where
   -- at most eight entries, whose names and attachments are distinct
   pub chain : IsChain (parts.chain_of engines attached)
@@ -52,20 +52,20 @@ pub record StandsOn (engines : List EngineParts) (attached : ℕ) (calls : List 
   -- at most 64 calls, by ascending number
   pub few : length calls ≤ MAX_CALLS
   pub ascend : IsAscending (seqs_of calls)
-  -- marks are of attachments that were, and true for each entry
+  -- marks are of past attachments alone, and true for each entry
   pub marks : All (λ s. HasMarksUpTo attached s) calls
   pub true_for : All (λ e. All (λ s. IsTrueFor e.entry s) calls) engines
 
--- what holds of each chain
+-- the invariant of chains
 pub record IsStandingChain (c : ChainParts) : Type 0 where
   pub stands : StandsOn c.engines c.attached c.calls
-  -- the row has these calls, and no call stands at a later position than one of a smaller number
+  -- the row has these calls, and no call is at a later position than one with a smaller number
   pub row : map (λ call. call.0) c.row ≡ seqs_of c.calls
   pub falls : IsFallingFrom (length c.engines) c.row
 
 -- ---- turns
 
--- what holds of the number of the call and of the outcome of a turn, where there was a call
+-- a property of the call's number and the outcome of a turn, if there was a call
 abbrev pub OnTurn : Turned → (ℕ → Outcome → Type 0) → Type 0
 OnTurn Idle Holds = Unit {0}
 OnTurn (Moved seq noted) Holds = Holds seq (outcomes.Passed noted)
@@ -73,20 +73,20 @@ OnTurn (Held seq level cost) Holds = Holds seq (outcomes.Held level cost)
 OnTurn (Refused seq noted why) Holds = Holds seq (outcomes.Refused noted why)
 OnTurn (Redacted seq) Holds = Holds seq outcomes.Redacted
 
--- where calls stand after a turn that came out so for the call of a number: one that passed goes on, a refused one is
--- gone, and behind a redaction it begins again with those of greater numbers
+-- The row after a turn with this outcome for the call with a number. One that passed advances, and a refused one is
+-- removed. After a redaction it starts over, with the calls of greater numbers.
 abbrev pub row_after : ℕ → Outcome → Row → Row
 row_after seq (outcomes.Passed noted) row = goes_on seq row
 row_after seq (outcomes.Held level cost) row = row
 row_after seq (outcomes.Refused noted why) row = without_call seq row
 row_after seq outcomes.Redacted row = begin_again seq row
 
--- the calls after a turn that came out so for one of them: a refused one is gone
+-- the calls after a turn with this outcome for one of them: a refused one is removed
 abbrev pub calls_after : Outcome → List StandingCall → StandingCall → List StandingCall → List StandingCall
 calls_after (outcomes.Refused noted why) front call back = front ++ back
 calls_after _ front call back = front ++ call ∷ back
 
--- the engine at a position has a turn with the call of a number: `call'` and `engine'` are what it leaves of them
+-- the engine at a position has a turn with the call with a number; `call'` and `engine'` are their states afterwards
 pub record HasTurn (before : ChainParts) (position moment seq : ℕ) (outcome : Outcome)
     (after : ChainParts) : Type 0 where
   pub engine : EngineParts
@@ -100,10 +100,10 @@ pub record HasTurn (before : ChainParts) (position moment seq : ℕ) (outcome : 
   pub back : List StandingCall
   pub stood : before.calls ≡ front ++ call ∷ back
   pub calls : after.calls ≡ calls_after outcome front call' back
-  -- the turn is that of an entry of which the marks say what was noted
+  -- the turn is that of an entry with the notes of the marks
   pub comes : ComesOut engine.entry.policy engine.level moment call.call
       (past_of call.marks engine.entry.attach) outcome
-  -- the call as the engine meets it, with its marks of the chain's engines alone
+  -- the call as the engine gets it, with its marks of the chain's engines alone
   pub met : StandingCall
   pub keeps : KeepsMarksOf before.engines call met
   pub turn : IsTurn engine moment met outcome
@@ -111,7 +111,7 @@ pub record HasTurn (before : ChainParts) (position moment seq : ℕ) (outcome : 
   pub leaves_call : LeavesCall engine.entry.policy outcome call.call call'.call
   pub leaves_marks : LeavesMarks engine.entry outcome met call'
 
--- the first call at a position goes on, by a turn in which nothing was noted
+-- the first call at a position advances, by a turn that notes nothing
 pub record PassesUnnoted (before : ChainParts) (position : ℕ) (after : ChainParts) : Type 0 where
   pub seq : ℕ
   pub first : first_at position before.row ≡ Some (seq, position)
@@ -121,7 +121,7 @@ pub record PassesUnnoted (before : ChainParts) (position : ℕ) (after : ChainPa
 
 -- ---- faults
 
--- the refusal that a fault tells; out of memory tells none
+-- the reason that a fault reports; out of memory has none
 abbrev pub refusal_in : ChainFault → Option Refusal
 refusal_in (NoSuch name) = Some (no_such name)
 refusal_in (Taken name) = Some (taken name)

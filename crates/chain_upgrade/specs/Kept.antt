@@ -1,4 +1,4 @@
--- What holds of a chain's own fields: the code's own. No public clause cites this module.
+-- The code's own: the invariant of a chain's fields. No public clause cites this module.
 use Rattle.std.specs.Prelude.{ℕ, zero, suc, ◌≤◌, List, [], ◌∷◌, length, remove}
 use Rattle.engine_core.specs.Engines.{EngineParts}
 use Rattle.engine_core.specs.Marks.{StandingCall}
@@ -18,18 +18,18 @@ pub record IsKept (engines : List EngineParts) (room attached : ℕ) (calls : Li
   -- the engines have room for eight
   pub room_for : 8 ≤ room
 
--- of the calls of a row all but so many, the first ones, have marks of these engines alone
+-- except for the first `first` ones, the calls of a row have marks of these engines alone
 abbrev pub RestHasOnlyMarksOf : List EngineParts → ℕ → List StandingCall → Type 0
 RestHasOnlyMarksOf engines first [] = Unit {0}
 RestHasOnlyMarksOf engines zero (s ∷ calls) = HasOnlyMarksOf engines s × RestHasOnlyMarksOf engines zero calls
 RestHasOnlyMarksOf engines (suc first) (s ∷ calls) = RestHasOnlyMarksOf engines first calls
 
--- the calls after a turn of the one at a place: a refused one is gone
+-- the calls after a turn of the one at an index: a refused one is removed
 abbrev pub calls_left : Outcome → ℕ → List StandingCall → List StandingCall
 calls_left (outcomes.Refused noted why) place calls = remove calls place
 calls_left _ place calls = calls
 
--- what is told of a turn of the call of a number
+-- the result of an outcome for the call with a number
 abbrev pub turned_as : ℕ → Outcome → Turned
 turned_as seq (outcomes.Passed noted) = turns.Moved seq noted
 turned_as seq (outcomes.Held level cost) = turns.Held seq level cost

@@ -1,4 +1,4 @@
-//! What stands against an attachment.
+//! Checks of an attachment.
 
 ghost use Rattle.std.specs.Prelude.{◌≡◌, ◌<◌, ◌≤◌, ℕ, List, IfErr, IfOk, IsSomeAnd, OnOk, length, map};
 ghost use Rattle.engine_core.specs.Chains.{IsAgainst, Refusal, Refuses};
@@ -10,7 +10,7 @@ use crate::fault::ChainFault;
 use engine_core::{Engine, MAX_ENGINES, place_of};
 use mrpc_table::Name;
 
-// Gives the name back where nothing stands against an attachment.
+// Returns the name if there is no reason to reject an attachment.
 pub(crate) fn may_attach(engines: &[Engine], at: u32, name: Name) -> Result<Name, ChainFault>
     requires { length engines.now ≤ 8 }
     ensures refused { IfErr result (λ fault. (attached : ℕ) (label : List ℕ) (policy : Policy)

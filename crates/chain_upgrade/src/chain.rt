@@ -18,14 +18,15 @@ use mrpc_table::{Memory, Name, Table};
 use std::alloc::Global;
 use std::marker::Model;
 
-/// A chain of engines with the calls that stand on it. Contracts see it as `ChainParts` of `specs/Chains.antt`.
+/// A chain of engines with its pending calls. Contracts see it as `ChainParts` of `specs/Chains.antt`.
 #[derive(Drop)]
 pub struct Chain {
     engines: Vec<Engine>,
     attached: u32,
     row: CallRow,
     cuts: Cuts,
-    // How many calls, the first of the row, may have marks of engines that left: those that stood when one left last.
+    // The number of calls, from the first of the row, that may have marks of detached engines: those that were
+    // pending at the last detachment.
     stale: u32,
 }
 
@@ -71,8 +72,8 @@ impl Chain {
     ghost use Rattle.chain_upgrade.specs.Kept.{calls_left};
     ghost use Rattle.chain_upgrade.specs.Chains.{HasTurn, IsStandingChain, OnTurn, PassesUnnoted, chain_of, refusal_in, row_after};
 
-    /// A chain without an engine and without a call. It takes the room for all of them, so no later call of a chain
-    /// takes memory.
+    /// A chain without engines and without calls. It allocates room for all of them, so no later call of a chain
+    /// allocates.
     pub fn open(alloc: Global) -> Result<Chain, Memory>
         ensures { IfOk result (λ c. c ≡ record { engines = []; attached = 0; calls = []; row = [] }) }
     {
@@ -85,7 +86,7 @@ impl Chain {
         })
     }
 
-    /// A law; it does nothing. What holds of each chain.
+    /// A law; the function has no effect. The invariant of chains.
     pub fn is_chain(&self)
         ensures { IsStandingChain self.now }
     {
@@ -94,7 +95,7 @@ impl Chain {
 
     // ---- calls
 
-    /// Puts a call behind the others, at position 0. Where `MAX_CALLS` stand it is given back.
+    /// Appends a call, at position 0. Returns it if `MAX_CALLS` are pending.
     pub fn push(&mut self, call: Standing) -> Result<(), PushFault>
         requires unmarked { call.marks ≡ [] }
         requires greater { All (λ s. s.call.seq < call.call.seq) self.old.calls }
@@ -114,14 +115,15 @@ impl Chain {
         Ok(())
     }
 
-    /// The calls that stand, by ascending number.
+    /// The pending calls, by ascending number.
     pub fn calls(&self) -> &CallRow
         ensures { result.now ≡ self.now.calls }
     {
         &self.row
     }
 
-    /// How many calls stand at a position or later. The number of engines is the position for transport.
+    /// The number of calls pending at position `i` or a later one. The number of engines is the position for
+    /// transport.
     pub fn cut(&self, i: u32) -> u32
         requires { i ≤ length self.now.engines }
         ensures { result ≡ length (filter (λ call. nat_le i call.1) self.now.row) }
@@ -133,7 +135,7 @@ impl Chain {
         }
     }
 
-    /// The number and the position of the call at a place, by ascending number, from 0.
+    /// The number and the position of the pending call at an index, by ascending number.
     pub fn standing(&self, i: u32) -> Option<(u32, u32)>
         ensures { result ≡ slice_get self.now.row i }
     {
@@ -144,7 +146,7 @@ impl Chain {
         Some((seq, self.cuts.position(i)))
     }
 
-    /// The first call that stands for transport.
+    /// The first call that is ready for transport.
     pub fn head(&self) -> Option<&Standing>
         ensures none { IfNone result (first_at (length self.now.engines) self.now.row ≡ None) }
         ensures call { IfSome result (λ s. slice_get self.now.calls 0 ≡ Some s.now) }
@@ -157,7 +159,7 @@ impl Chain {
         Some(self.row.at(0))
     }
 
-    /// Takes the first call that stands for transport.
+    /// Takes the first call that is ready for transport.
     pub fn pop_ready(&mut self) -> Option<Standing>
         ensures none { IfNone result (first_at (length self.old.engines) self.old.row ≡ None) }
         ensures as_before { IfNone result (self.new ≡ self.old) }
@@ -185,7 +187,7 @@ impl Chain {
 
     // ---- engines
 
-    /// How many engines the chain has.
+    /// The number of engines.
     pub fn engines(&self) -> u32
         ensures count { result ≡ length self.now.engines }
         ensures few { result ≤ 8 }
@@ -201,7 +203,7 @@ impl Chain {
         &self.engines[at as usize]
     }
 
-    /// The level and the cost for which the engine at a position holds the first call there, if it does.
+    /// The level and the cost for which the engine at a position holds the first call there, or `None`.
     pub fn held(&self, at: u32) -> Option<(u64, u64)>
         requires { at < length self.now.engines }
         ensures holds { IfSome result (λ h. (e : EngineParts) (s : StandingCall) (moment : ℕ)
@@ -218,7 +220,7 @@ impl Chain {
         self.engines[at as usize].held(self.row.at(place as usize))
     }
 
-    /// Brings every bucket to a moment; a lower moment counts as the last one.
+    /// Advances every bucket to a timestamp. An earlier timestamp counts as the last one.
     pub fn clock(&mut self, now: u64)
         ensures engines { self.new.engines ≡ map (λ e. clocked now e) self.old.engines }
         ensures past { (at : ℕ) (before after : EngineParts) (first : RatePolicy) (start : ℕ)
@@ -232,10 +234,10 @@ impl Chain {
         clock_all(self.engines.as_mut_slice(), now);
     }
 
-    // ---- steps of an operator
+    // ---- operations
 
-    /// Attaches a policy at a position, with a full bucket at this moment, in milliseconds. Calls behind the position
-    /// go back to it.
+    /// Attaches a policy at a position, with a full bucket at the timestamp `now`, in milliseconds. Calls past the
+    /// position return to it.
     pub fn attach(
         &mut self,
         at: u32,
@@ -276,7 +278,7 @@ impl Chain {
         Ok(())
     }
 
-    /// Detaches the policy of a name. Calls behind it move up by one.
+    /// Detaches the policy with a name. Calls past it move up by one.
     pub fn detach(&mut self, name: Name) -> Result<(), ChainFault>
         ensures refused { IfErr result (λ fault. IsSomeAnd (refusal_in fault) (λ refusal.
             Refuses (chain_of self.old) (Op.Detach name) refusal)) }
@@ -299,8 +301,8 @@ impl Chain {
         Ok(())
     }
 
-    /// Puts another policy of its kind in the place of that of a name; its level pays for as many calls as before,
-    /// rounded down and up to a full bucket. Calls behind it go back to it.
+    /// Replaces the policy with a name by another one of its kind. The level pays for as many calls as before,
+    /// rounded down and up to a full bucket. Calls past it return to it.
     pub fn upgrade(&mut self, name: Name, policy: Policy) -> Result<(), ChainFault>
         requires ranges { IsPolicy policy }
         requires number { All (λ e. e.entry.version + 1 < 2 ^ 32) self.old.engines }
@@ -342,9 +344,10 @@ impl Chain {
 
     // ---- turns
 
-    /// Has the first call at a position go on where it passes the engine there and nothing is to be noted of it, which is a
-    /// turn. Where it answers false all is as before, and a turn decides: so it is with a call that stood when an engine
-    /// left, and at each quota and redact, which look at a call anew each time.
+    /// Advances the first call at a position past the engine there, if the call passes and there is nothing to note.
+    /// That counts as a turn. If it returns false, nothing has changed, and a turn decides. It always returns false
+    /// for a call that was pending when an engine was detached, and at each quota and redacting policy, which judge a
+    /// call anew each time.
     pub fn pass_unnoted(&mut self, at: u32, table: &Table) -> bool
         requires at { at < length self.old.engines }
         requires calls { All (λ s. IsCallOf table.now s.call) self.old.calls }
@@ -362,8 +365,8 @@ impl Chain {
         true
     }
 
-    /// The engine at a position has a turn with the first call there, whose marks of engines that have left are taken away
-    /// first. It takes no memory.
+    /// Runs a turn of the engine at a position with the first call there. The call's marks of detached engines are
+    /// removed first. It allocates nothing.
     pub fn turn<Q: Tickets>(&mut self, at: u32, table: &Table, now: u64, tickets: &mut Q) -> Turned
         requires at { at < length self.old.engines }
         requires calls { All (λ s. IsCallOf table.now s.call) self.old.calls }
@@ -387,7 +390,7 @@ impl Chain {
         Turned::told(seq, outcome)
     }
 
-    // The place of the first call at a position, where there is one: behind all calls that stand at later ones.
+    // The index of the first call at a position, if there is one: after all calls at later positions.
     fn first_place(&self, at: u32) -> Option<u32>
         requires { at < length self.now.engines }
         ensures none { IfNone result (first_at at self.now.row ≡ None) }
@@ -405,7 +408,7 @@ impl Chain {
         }
     }
 
-    // Whether the call at a place passes the engine at a position and nothing is to be noted of it.
+    // Whether the call at an index passes the engine at a position with nothing to note.
     fn passes_unnoted(&mut self, place: u32, at: u32, table: &Table) -> bool
         requires place { place < length self.old.calls }
         requires at { at < length self.old.engines }
@@ -424,7 +427,7 @@ impl Chain {
             .pass_unnoted(place as usize, engines, at as usize, table)
     }
 
-    // The engine at a position works on the call at a place, whose marks of engines that have left are taken away first.
+    // The engine at a position works on the call at an index. The call's marks of detached engines are removed first.
     fn work<Q: Tickets>(
         &mut self,
         place: u32,
@@ -455,7 +458,7 @@ impl Chain {
         )
     }
 
-    // The call at a place, the first at a position, moves as its turn came out.
+    // Moves the call at an index, the first one at a position, by the outcome of its turn.
     fn settle(&mut self, place: u32, at: u32, outcome: Outcome)
         requires at { at < length self.old.engines }
         requires place { place ≡ length (filter (λ call. nat_le (at + 1) call.1) self.old.row) }

@@ -1,18 +1,19 @@
-//! Where the calls of a row stand: nine cuts in place of a queue for each engine.
+//! The positions of the calls of a row: nine cuts instead of a queue for each engine.
 
 ghost use Rattle.std.specs.Prelude.{◌≡◌, ◌-◌, ◌<◌, ◌≤◌, length, max, min, replicate, slice_index};
 ghost use Rattle.chain_upgrade.specs.Cuts.{position_at, zeroed, closed_up, raised, taken_out, lowered};
 
 use engine_core::MAX_ENGINES;
 
-// The cuts of positions 1 to 8: how many calls of the row stand at a position or later. They never rise.
+// The cuts of positions 1 to 8: the number of calls of the row at a position or a later one. They never rise along
+// the chain.
 #[derive(Clone, Copy)]
 pub(crate) struct Cuts {
     pub behind: [u32; MAX_ENGINES],
 }
 
 impl Cuts {
-    // All calls stand at position 0.
+    // All calls are at position 0.
     pub(crate) fn new() -> Cuts
         ensures { result.behind ≡ replicate 8 0 }
     {
@@ -21,7 +22,7 @@ impl Cuts {
         }
     }
 
-    // The position of the call at a place.
+    // The position of the call at an index.
     pub(crate) fn position(&self, place: u32) -> u32
         ensures { result ≡ position_at place self.now.behind }
     {
@@ -35,7 +36,7 @@ impl Cuts {
         position
     }
 
-    // All calls behind a position go back to it.
+    // All calls past a position return to it.
     pub(crate) fn zero_behind(&mut self, at: usize)
         requires { at ≤ 8 }
         ensures { self.new.behind ≡ zeroed at self.old.behind }
@@ -43,7 +44,7 @@ impl Cuts {
         self.behind[at..].fill(0);
     }
 
-    // The engine at a position leaves: calls behind it move up by one.
+    // The engine at a position is detached: calls past it move up by one.
     pub(crate) fn close_up(&mut self, at: usize)
         requires { at < 8 }
         ensures { self.new.behind ≡ closed_up at self.old.behind }
@@ -52,7 +53,7 @@ impl Cuts {
         self.behind[MAX_ENGINES - 1] = 0;
     }
 
-    // The first call at a position goes on.
+    // The first call at a position advances.
     pub(crate) fn raise(&mut self, at: usize)
         requires at { at < 8 }
         requires room { slice_index self.old.behind at < 64 }
@@ -62,7 +63,7 @@ impl Cuts {
         self.behind[at] += 1;
     }
 
-    // The call at a place leaves the row.
+    // The call at an index leaves the row.
     pub(crate) fn take_out(&mut self, place: u32)
         ensures { self.new.behind ≡ taken_out place self.old.behind }
     {
@@ -71,7 +72,7 @@ impl Cuts {
         }
     }
 
-    // The call at a place and those behind it begin again.
+    // The call at an index and those after it start over.
     pub(crate) fn lower_to(&mut self, place: u32)
         ensures { self.new.behind ≡ lowered place self.old.behind }
     {
@@ -79,7 +80,7 @@ impl Cuts {
     }
 }
 
-// How many of the first calls of a row are left of so many, without the call at a place.
+// How many of the first `cut` calls of a row remain, without the call at an index.
 pub(crate) fn without(cut: u32, place: u32) -> u32
     ensures { result ≡ max (min cut place) (cut - 1) }
 {

@@ -1,9 +1,9 @@
-//! Why a chain refuses a step of an operator, or a call.
+//! Why a chain rejects an operation, or a call.
 
 use engine_core::Standing;
 use mrpc_table::Name;
 
-/// Why a chain refuses a step. It is as before then.
+/// Why a chain rejects an operation. The chain is unchanged.
 #[derive(Drop)]
 pub enum ChainFault {
     /// No entry has the name.
@@ -12,17 +12,17 @@ pub enum ChainFault {
     Taken { name: Name },
     /// The position is past the end.
     At { position: u32 },
-    /// The chain has eight engines, as many as may be.
+    /// The chain has eight engines, the maximum.
     ChainFull { engines: u32 },
-    /// The entry of the name has a policy of another kind.
+    /// The entry with the name has a policy of another kind.
     OtherKind { name: Name },
-    /// There was no memory. No call of a chain answers it; the layer above, which records steps, may.
+    /// Out of memory. No call of a chain returns it; the layer above, which records operations, may.
     Memory,
 }
 
-/// Why a chain takes no further call.
+/// Why a chain accepts no further call.
 #[derive(Drop)]
 pub enum PushFault {
-    /// `MAX_CALLS` stand, as many as may; the call is given back.
+    /// `MAX_CALLS` are pending, the maximum. The call is returned.
     Standing(Standing),
 }

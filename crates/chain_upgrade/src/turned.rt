@@ -1,28 +1,28 @@
-//! What came of a turn.
+//! The result of a turn.
 
 ghost use Rattle.std.specs.Prelude.{◌≡◌};
 
 use engine_core::{Noted, Outcome, Why};
 
-/// What came of a turn of the engine at a position.
+/// The result of a turn of the engine at a position.
 #[derive(Clone, Copy, PartialEq, Eq)]
 pub enum Turned {
-    /// No call stood there.
+    /// No call was there.
     Idle,
-    /// The call of this number goes on, and this was noted of it.
+    /// The call with this number continues, and this was noted of it.
     Moved { seq: u32, noted: Noted },
-    /// It waits until the level has its cost.
+    /// It is held until the level covers its cost.
     Held { seq: u32, level: u64, cost: u64 },
-    /// It is refused, and this was noted of it before.
+    /// It is refused; this was noted of it first.
     Refused { seq: u32, noted: Noted, why: Why },
-    /// Fields were cleared from it: it begins again, with the calls of greater numbers.
+    /// Fields were cleared from it: it starts over, with the calls of greater numbers.
     Redacted { seq: u32 },
 }
 
 impl Turned {
     ghost use Rattle.chain_upgrade.specs.Kept.{turned_as};
 
-    // What came of it for the call of a number.
+    // The result of an outcome for the call with a number.
     pub(crate) fn told(seq: u32, outcome: Outcome) -> Turned
         ensures { result ≡ turned_as seq outcome }
     {

@@ -25,9 +25,9 @@ use Rattle.conn_core.proofs.Fitting.{EventsKeep, Fits, connected, fits-of}
 use Rattle.conn_core.proofs.Numbers.{few-numbers, untold}
 use Rattle.conn_core.proofs.Told.{behind-one, form-taken, form-taken_another}
 
--- ---- what is behind
+-- ---- the trace
 
--- what is behind after an acceptance
+-- the trace after an acceptance
 told-behind : Taken → Option Call → Behind → Behind
 told-behind call None past = Refused call.seq cause.Malformed ∷ Took call ∷ past
 told-behind call (Some form) past = Took call ∷ past
@@ -41,7 +41,7 @@ told-is call None h =
     (λ (past : Behind). Refused call.seq cause.Malformed ∷ past) (behind-one h (Took call))
 told-is call (Some f) h = behind-one h (Took call)
 
--- the course after it
+-- the state after it
 joined-course : (conn : ℕ) (call : Taken) (copy : TookCopy) (form : Option Call) (past : Behind) (chain : ChainParts)
     (ended : Bool) → call.copy ≡ copy → form ≡ copied conn call copy
     → record {
@@ -119,7 +119,7 @@ accepted-moment old new call f is =
     ap (λ (c : Connection). moment (behind c)) is ∙ ap moment (told-is call f old.happenings) ∙ told-moment call f
     (behind old)
 
--- ---- the event
+-- ---- the transition
 
 pub accepted-now : EventsKeep → (old new : Connection) (call : Taken) (f : Option Call) → IsConnection old
     → old.ended ≡ false

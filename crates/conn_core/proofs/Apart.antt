@@ -1,4 +1,4 @@
--- Calls and entries that are told apart: by numbers, and by names and attachments.
+-- Distinct calls and entries: by numbers, and by names and attachments.
 use Rattle.std.proofs.Common.{◌≡◌, ◌≢◌, ℕ, ◌<◌, zero, suc, cond, List, [], ◌∷◌, ◌++◌, slice_get, find, Contains, Some, ap, sym, ◌∙◌, subst, arith}
 use Rattle.std.specs.Prelude.{All, option_map}
 use Rattle.std.proofs.lemmas.List.Elements.{All-nil, All-cons, All-head, All-tail, All-weaker, All-append}
@@ -83,7 +83,7 @@ name-at (y ∷ xs) (suc i) x is = let rest =
       (suc rest.1.0, omega (arith, rest.1.1), rest.1.2),
     )
 
--- what holds of an entry, and of those of other names and attachments, holds of all
+-- what holds of an entry, and of those with other names and attachments, holds of all
 pub all-keyed : (P Q : Entry → Type 0) (xs : List Entry) (i : ℕ) (x : Entry) → slice_get xs i ≡ Some x
     → AreDistinct (names_of xs) → AreDistinct (attachments_of xs)
     → ((y : Entry) → y.name ≢ x.name → y.attach ≢ x.attach → P y → Q y) → (P x → Q x) → All P xs → All Q xs

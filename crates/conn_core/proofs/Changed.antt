@@ -1,4 +1,5 @@
--- A step of an operator: levels, marks and forms go on, and the places of steps.
+-- An operation: levels, marks and forms still agree with the trace, and the indices of operations with the
+-- engines.
 use Rattle.std.proofs.Common.{◌≡◌, ℕ, ◌+◌, zero, suc, Bool, true, false, cond, List, [], ◌∷◌, ◌++◌, length, map, set}
 use Rattle.std.proofs.Common.{take, drop, insert, remove, get_or, slice_get, refl, ap, sym, ◌∙◌, subst, arith}
 use Rattle.std.proofs.Common.{add-one}
@@ -25,7 +26,7 @@ use Rattle.conn_core.proofs.Fitting.{Fits}
 use Rattle.conn_core.proofs.Lists.{all-at, all-insert, all-others, all-remove, all-set, map-at, map-map, zip-insert, zip-remove, zip-set, zip-weaker}
 use Rattle.conn_core.proofs.Told.{equal-name, level-attached, level-attached_other, level-upgraded, level-upgraded_other, noted-attached, noted-attached_other}
 
--- what a step makes of a chain is `changed`
+-- the chain after an operation is `changed`
 abbrev pub ChangesOnly : Type 0
 ChangesOnly = (before after : Chain) (op : Step) → IsChain before → Changes before op after → after ≡ changed op before
 
@@ -113,7 +114,7 @@ fits-detached only conn now name past c c' fits stands h = record {
 
 -- ---- an upgrade
 
--- the entry of a name, and its engine
+-- the entry with a name, and its engine
 pub record Named (engines : List EngineParts) (name : List ℕ) : Type 0 where
   pub engine : EngineParts
   pub at : slice_get engines (place_of name (map (λ e. e.entry) engines)) ≡ Some engine
@@ -240,7 +241,7 @@ fits-changed only conn now (Detach name) past c c' fits stands h latest =
 fits-changed only conn now (Upgrade name label policy) past c c' fits stands h latest =
     fits-upgraded only conn now name label policy past c c' fits stands h
 
--- ---- the places of steps
+-- ---- the indices of operations
 
 drop-map : {X Y : Type 0} (f : X → Y) (n : ℕ) (xs : List X) → drop n (map f xs) ≡ map f (drop n xs)
 drop-map f zero xs = refl

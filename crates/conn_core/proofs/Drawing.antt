@@ -1,4 +1,4 @@
--- Which tickets a turn draws.
+-- The tickets that a turn draws.
 use Rattle.std.proofs.Common.{◌≡◌, ℕ, ◌<◌, false, ◌&&◌, ◌==◌, cond, inl, inr, List, [], ◌∷◌, ◌++◌, refl, ap, reverse, sym, ◌∙◌, subst}
 use Rattle.std.specs.Prelude.{IfSome, IsSomeAnd, Option, Some, None}
 use Rattle.std.specs.Option.{option_map_or}
@@ -21,7 +21,7 @@ use Rattle.call_history.specs.declared.happening.Happening.{Happening}
 use Rattle.conn_core.specs.Connections.{Connection, behind}
 use Rattle.conn_core.specs.Steps.{Draws, DrawsTickets}
 
--- the tickets that a note tells
+-- the tickets that a note draws
 told : ℕ → ℕ → Policy → Noted → List ℕ
 told tenant window policy (notes.Drawn at ticket) = cond ((at == window) && is_quota_of tenant policy) (ticket ∷ []) []
 told tenant window policy notes.Nothing = []
@@ -52,9 +52,9 @@ turned-tickets tenant window e seq (Refused n why) c is =
     e.policy n c.past is
 turned-tickets tenant window e seq Redacted c is = refl
 
--- ---- the lists that are told
+-- ---- the lists of tickets that are known
 
--- the tickets of before and then these, where both lists are told
+-- the earlier tickets followed by these, if both lists are known
 abbrev Adds : List ℕ → Option (List ℕ) → Option (List ℕ) → Type 0
 Adds more drawn drawn' = IfSome drawn' (λ now. IsSomeAnd drawn (λ earlier. now ≡ earlier ++ more))
 
@@ -71,7 +71,7 @@ draws-by tenant window before after more drawn None tickets adds = tt
 draws-by tenant window before after more None (Some now) tickets adds = adds
 draws-by tenant window before after more (Some earlier) (Some now) tickets adds = (more, tickets, adds)
 
--- where nothing has happened, nothing was drawn
+-- without an event, nothing was drawn
 pub draws-unnoted : {Q : Type 0} (Knows : Q → ℕ → Type 0) (drawn_of : Q → ℕ → ℕ → Option (List ℕ)) (Since : Q → Q
     → Type 0) (a b : Connection) (x : Q) → b.happenings ≡ a.happenings → DrawsTickets Knows drawn_of Since a b x x
 draws-unnoted Knows drawn_of Since a b x same = record {
@@ -149,7 +149,7 @@ draws-turned Knows drawn_of Since e seq outcome c before after old new before-is
   since = leaves.since;
 }
 
--- nothing is drawn where nothing changes
+-- if nothing changes, nothing is drawn
 pub draws-none : {Q : Type 0} (Knows : Q → ℕ → Type 0) (drawn_of : Q → ℕ → ℕ → Option (List ℕ)) (Since : Q → Q
     → Type 0) (before after : Connection) (old new : Q)
     → after ≡ before → new ≡ old → DrawsTickets Knows drawn_of Since before after old new

@@ -1,4 +1,4 @@
--- No number of a connection is larger than its history is long.
+-- The counters of a connection are at most the length of its history.
 use Rattle.std.proofs.Common.{◌≡◌, ℕ, ◌+◌, ◌≤◌, Bool, true, false, cond, if◌then◌else◌, not, List, [], ◌∷◌, ◌++◌}
 use Rattle.std.proofs.Common.{length, map, take, drop, ap, sym, subst, arith, length-append}
 use Rattle.std.specs.Prelude.{All}

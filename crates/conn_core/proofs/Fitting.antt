@@ -1,4 +1,4 @@
--- What holds of a chain against what is behind, beside the course: its levels, marks and forms.
+-- How a chain agrees with the trace, besides the state: its levels, marks and forms.
 use Rattle.std.proofs.Common.{◌≡◌, ℕ, ◌<◌, ◌^◌, length, sym, subst}
 use Rattle.std.specs.Prelude.{All, Some}
 use Rattle.engine_core.specs.Marks.{past_of}
@@ -8,7 +8,7 @@ use Rattle.call_history.specs.Events.{Comes, Course, Event, IsCourse}
 use Rattle.call_history.specs.Rules.{Under}
 use Rattle.conn_core.specs.Connections.{Connection, IsConnection, behind, under}
 
--- each event keeps what holds of a course
+-- each transition preserves the invariant of a state
 abbrev pub EventsKeep : Type 0
 EventsKeep = (u : Under) (old new : Course) (event : Event) → IsCourse u old → Comes u old event new → IsCourse u new
 
@@ -29,7 +29,7 @@ fits-of c h = record {
   forms = h.forms;
 }
 
--- a connection, by what is behind it
+-- a connection with this trace
 pub connected : (c : Connection) (past : Behind) → behind c ≡ past → IsCourse (under c) (record {
   past = past;
   row = c.chain.row;

@@ -1,4 +1,4 @@
--- A moment, a call that is turned away, a sending, and the end of a link: levels, marks and forms go on.
+-- A timestamp, a call refused as `Away`, a send, and a failure of the link: levels, marks and forms still agree.
 use Rattle.std.proofs.Common.{◌≡◌, ℕ, ◌+◌, ◌-◌, ◌<◌, List, [], ◌∷◌, ◌++◌, get_or, map, reverse, slice_get, suc, take}
 use Rattle.std.proofs.Common.{zero, add-one, refl, ap, sym, ◌∙◌, subst, arith}
 use Rattle.std.specs.Prelude.{All, Some}
@@ -21,7 +21,7 @@ use Rattle.conn_core.proofs.Fitting.{Fits}
 use Rattle.conn_core.proofs.Lists.{all-both, all-of-map}
 use Rattle.conn_core.proofs.Told.{behind-one}
 
--- ---- a call that is turned away
+-- ---- a call refused as `Away`
 
 pub fits-away : (conn method number addr : ℕ) (past : Behind) (c : ChainParts) → Fits conn past c
     → Fits conn (Away method number addr ∷ past) c
@@ -34,7 +34,7 @@ fits-away conn method number addr past c fits =
       forms = fits.forms;
     }
 
--- ---- a moment
+-- ---- a timestamp
 
 same-engines : (now : ℕ) (engines : List EngineParts)
     → map (λ e. e.entry) (map (λ e. clocked now e) engines) ≡ map (λ e. e.entry) engines
@@ -93,7 +93,7 @@ fits-clocked conn now past c c' fits is-chain later engines attached calls =
       forms = subst (All (λ (s : StandingCall). form conn s.call.seq past ≡ Some s.call)) (sym calls) fits.forms;
     }
 
--- ---- a sending
+-- ---- a send
 
 pub fits-sent : (conn seq bytes : ℕ) (past : Behind) (c c' : ChainParts) (s : StandingCall) → Fits conn past c
     → c.calls ≡ s ∷ c'.calls → c'.engines ≡ c.engines
@@ -117,7 +117,7 @@ fits-sent conn seq bytes past c c' s fits calls engines attached = record {
       (subst (All (λ (t : StandingCall). form conn t.call.seq past ≡ Some t.call)) calls fits.forms);
 }
 
--- ---- the end of a link
+-- ---- a failure of the link
 
 pub failure-is : (calls : List StandingCall) (ts : List Taken) (h : List Happening)
     → seqs_of calls ≡ map (λ t. t.seq) ts

@@ -1,4 +1,4 @@
--- Which frames a step hands over.
+-- The frames that a transition sends.
 use Rattle.std.proofs.Common.{◌≡◌, ℕ, List, [], ◌∷◌, ◌++◌, refl, ap, sym, ◌∙◌}
 use Rattle.std.specs.Prelude.{Some, option_map, unwrap_or}
 use Rattle.std.proofs.lemmas.List.{append-nil}
@@ -13,13 +13,13 @@ use Rattle.call_history.specs.declared.happening.Taken.{Taken}
 use Rattle.conn_core.specs.Connections.{Connection, behind, frames}
 use Rattle.conn_core.specs.Steps.{Hands, Steps}
 
--- a sending hands over the frame of the call's form
+-- a send sends the frame of the call's form
 pub frames-sent : (T : Table) (conn seq bytes : ℕ) (past : Behind) (call : Call) → form conn seq past ≡ Some call
     → frames_behind T conn (Sent seq bytes ∷ past) ≡ frames_behind T conn past ++ frame_of T call ∷ []
 frames-sent T conn seq bytes past call is =
     ap (λ f. frames_behind T conn past ++ unwrap_or (option_map (frame_of T) f) [] ∷ []) is
 
--- the end of a link hands over none
+-- a failure of the link sends none
 frames-refused : (T : Table) (conn : ℕ) (ts : List Taken) (past : Behind)
     → frames_behind T conn (refused_for_link ts past) ≡ frames_behind T conn past
 frames-refused T conn [] past = refl

@@ -1,4 +1,4 @@
--- What a connection's own fields keep when a call is accepted.
+-- An acceptance preserves the invariant of a connection's own fields.
 use Rattle.std.proofs.Common.{◌≡◌, ℕ, ◌+◌, ◌*◌, ◌<◌, ◌≤◌, ◌^◌, Bool, false, List, [], ◌++◌, length, refl, ap, sym, ◌∙◌, subst, arith}
 use Rattle.std.specs.Prelude.{All, IfSome, Option, Some, None}
 use Rattle.std.specs.List.{AllZip}
@@ -58,7 +58,7 @@ greater-than-all c steps history accepted ms call form kept is number =
     greater-by c.conn call form accepted c.chain.calls is number
     (subst (λ (n : ℕ). All (λ s. s.call.seq ≤ n) c.chain.calls) (sym kept.count) (few-numbers c kept.connection))
 
--- as it is kept, and the event
+-- the invariant, and the transition
 pub record Accepted (old new : Connection) (steps : List ℕ) (history : Kept) (accepted ms : ℕ)
     (call : Taken) : Type 0 where
   pub kept : IsKept new steps history (accepted + 1) ms

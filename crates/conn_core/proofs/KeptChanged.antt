@@ -1,4 +1,4 @@
--- What a connection's own fields keep in a step of an operator.
+-- An operation preserves the invariant of a connection's own fields.
 use Rattle.std.proofs.Common.{◌≡◌, ℕ, ◌*◌, ◌≤◌, Bool, List, [], ◌∷◌, ◌++◌, length, reverse, refl, ap, sym, ◌∙◌, subst, arith}
 use Rattle.std.specs.Prelude.{All}
 use Rattle.mrpc_table.specs.declared.table.Table.{Table}

@@ -1,4 +1,4 @@
--- What a connection's own fields keep in a step.
+-- A transition preserves the invariant of a connection's own fields.
 use Rattle.std.proofs.Common.{◌≡◌, ℕ, ◌+◌, ◌*◌, ◌<◌, ◌≤◌, ◌^◌, Bool, true, false, not, if◌then◌else◌, ◌≢◌, List, []}
 use Rattle.std.proofs.Common.{◌∷◌, ◌++◌, length, map, reverse, refl, ap, sym, ◌∙◌, subst, arith}
 use Rattle.std.specs.Prelude.{All, Some}
@@ -28,13 +28,13 @@ use Rattle.conn_core.proofs.Numbers.{as-many, numbers}
 use Rattle.conn_core.proofs.Rooms.{has-room, room-first}
 use Rattle.conn_core.proofs.Told.{behind-one}
 
--- a step was taken, and what is kept holds
+-- a transition was made, and the invariant holds
 pub record Stepped (old new : Connection) (event : Event) (steps : List ℕ) (history : Kept)
     (accepted ms : ℕ) : Type 0 where
   pub kept : IsKept new steps history accepted ms
   pub step : Steps old event new
 
--- what a step has to keep, besides the course
+-- what a transition has to preserve, besides the state
 pub record Keeps (conn : ℕ) (T : Table) (past : Behind) (c : ChainParts) (steps : List ℕ) (history : Kept)
     (accepted ms : ℕ) : Type 0 where
   pub stands : IsStandingChain c
@@ -90,7 +90,7 @@ steps-still history history' steps c c' same entries h =
     subst (λ es. AllZip (IsStepOf history'.steps) steps es) (sym entries)
     (subst (λ s. AllZip (IsStepOf s) steps (chain_of c).entries) (sym same) h)
 
--- ---- a call that is turned away
+-- ---- a call refused as `Away`
 
 pub kept-away : EventsKeep
     → (conn : ℕ) (T : Table) (limit : ℕ) (c : ChainParts) (history history' : Kept) (ended : Bool) (steps : List ℕ)
@@ -115,7 +115,7 @@ kept-away keeps conn T limit c history history' ended steps accepted ms method n
       room = has-room c.calls (chain_of c).entries history'.room (few-entries c kept.connection.standing_chain) room;
     })
 
--- ---- a moment
+-- ---- a timestamp
 
 pub kept-clocked : EventsKeep
     → (conn : ℕ) (T : Table) (limit : ℕ) (c c' : ChainParts) (history history' : Kept) (ended : Bool) (steps : List ℕ)
@@ -158,7 +158,7 @@ pub shown-before : (conn : ℕ) (T : Table) (limit : ℕ) (c : ChainParts) (hist
 shown-before conn T limit c history ended steps accepted ms now kept before =
     stays now refl (omega (arith, before, kept.latest)) refl
 
--- ---- a sending
+-- ---- a send
 
 -- the others keep their places in the row
 others-stay : (seq : ℕ) (row : Row) → All (λ n. n ≢ seq) (map (λ call. call.0) row) → without_call seq row ≡ row
@@ -238,7 +238,7 @@ kept-sent keeps conn T limit c c' history history' ended steps accepted ms bytes
       room = subst (λ es. HasRoom c'.calls es history'.room) (sym entries) first-room.1;
     })
 
--- ---- the end of a link
+-- ---- a failure of the link
 
 pub kept-failed : EventsKeep
     → (conn : ℕ) (T : Table) (limit : ℕ) (c : ChainParts) (history history' : Kept) (ended : Bool) (steps : List ℕ)
@@ -272,7 +272,7 @@ kept-failed keeps conn T limit c history history' ended steps accepted ms kept s
           (omega arith);
     })
 
--- ---- as it is told
+-- ---- in the words of the clauses
 
 pub step-from : (before now after : Connection) (event : Event) (steps : List ℕ) (history : Kept) (accepted ms : ℕ)
     → now ≡ before

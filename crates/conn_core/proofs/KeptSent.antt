@@ -1,4 +1,4 @@
--- What a connection's own fields keep when a call is sent.
+-- A send preserves the invariant of a connection's own fields.
 use Rattle.std.proofs.Common.{◌≡◌, ℕ, ◌+◌, ◌<◌, ◌≤◌, Bool, true, false, List, [], ◌∷◌, ◌++◌, length, reverse}
 use Rattle.std.proofs.Common.{slice_get, refl, ap, sym, ◌∙◌, subst, arith}
 use Rattle.std.specs.Prelude.{None, Some}
@@ -37,7 +37,7 @@ runs-by : (c : Connection) → IsConnection c → (n : ℕ) (x : ℕ × ℕ) →
 runs-by c h n x is true ended = absurd (none-in n c.chain.row x (h.is_course.none_left ended) is)
 runs-by c h n x is false ended = ended
 
--- a link on which a call stands hasn't failed
+-- a link on which a call is pending hasn't failed
 pub still-runs : (c : Connection) → IsConnection c → (n : ℕ) (x : ℕ × ℕ) → first_at n c.chain.row ≡ Some x
     → c.ended ≡ false
 still-runs c h n x is = runs-by c h n x is c.ended refl
@@ -69,7 +69,7 @@ pub head-has-room : (conn : ℕ) (T : Table) (limit : ℕ) (c : ChainParts) (his
 head-has-room conn T limit c history ended steps accepted ms s kept is =
     omega (arith, room-fates c.calls _ history.room kept.room, within-at c.calls 0 s is)
 
--- it is ready, for a frame of so many bytes
+-- it is ready, in a frame of this many bytes
 pub head-is-ready : (conn : ℕ) (T : Table) (limit : ℕ) (c : ChainParts) (history : Kept) (ended : Bool) (steps : List ℕ)
     (accepted ms : ℕ) (s : StandingCall)
     → IsKept (seen conn T limit c history ended) steps history accepted ms → slice_get c.calls 0 ≡ Some s

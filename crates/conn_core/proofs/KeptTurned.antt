@@ -1,4 +1,4 @@
--- What a connection's own fields keep in a turn.
+-- A turn preserves the invariant of a connection's own fields.
 use Rattle.std.proofs.Common.{◌≡◌, ℕ, ◌+◌, ◌≤◌, Bool, List, [], ◌∷◌, ◌++◌, length, map, reverse, slice_get, refl, ap, sym, ◌∙◌, subst, arith}
 use Rattle.std.specs.Prelude.{All, Contains, Some}
 use Rattle.std.proofs.lemmas.List.Elements.{All-cons, All-head, All-nil, All-map, All-tail, All-weaker, All-contains_itself}
@@ -39,7 +39,7 @@ use Rattle.conn_core.proofs.Turning.{fits-turned, of-call, turn-behind}
 
 -- ---- calls of the table
 
--- each call that stands has a form of the table
+-- each pending call has a form of the table
 abbrev pub HaveForms : Type 0
 HaveForms = (u : Under) (past : Behind) (call : Taken) → IsLegalBehind u past → Contains (standing past) call
     → HasForm u past call
@@ -71,7 +71,7 @@ of-table have c h =
 
 -- ---- the turn
 
--- what is left of a call has no longer encoding
+-- after a clear, a call's encoding is never longer
 abbrev pub ClearsShorten : Type 0
 ClearsShorten = (T : Table) (clears : List Clear) (call : Call) → IsValid T → IsCallOf T call
     → length (payload T (cleared_call clears call)) ≤ length (payload T call)
@@ -105,7 +105,7 @@ worked before after position moment seq outcome stands has = record {
   marks = has.leaves_marks;
 }
 
--- there is room for the records of a turn
+-- there is capacity for the records of a turn
 pub turn-fits : ClearLaws → (before after : ChainParts) (position moment seq : ℕ) (outcome : Outcome) (room : ℕ)
     → IsStandingChain before → HasRoom before.calls (chain_of before).entries room
     → HasTurn before position moment seq outcome after → records_in outcome ≤ room

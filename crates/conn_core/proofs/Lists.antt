@@ -1,4 +1,4 @@
--- Lists whose elements have keys of their own, and what one of them changes.
+-- Lists whose elements have distinct keys, when one element changes.
 use Rattle.std.proofs.Common.{◌≡◌, ◌≢◌, ℕ, ◌<◌, zero, suc, List, [], ◌∷◌, ◌++◌, length, map, set, get_or, take, drop}
 use Rattle.std.proofs.Common.{insert, remove, slice_get, Contains, Some, refl, ap, sym, ◌∙◌, subst, arith}
 use Rattle.std.specs.Prelude.{All}
@@ -56,7 +56,7 @@ map-at f [] i x is = absurd cc
 map-at f (y ∷ xs) zero x is = let same : y ≡ x = cc in ap (λ z. Some (f z)) same
 map-at f (y ∷ xs) (suc i) x is = map-at f xs i x is
 
--- ---- an element that is replaced, among others of other keys
+-- ---- an element that is replaced, among others with other keys
 
 contains-at : {X Y : Type 0} (f : X → Y) (xs : List X) (i : ℕ) (x : X) → slice_get xs i ≡ Some x
     → Contains (map f xs) (f x)

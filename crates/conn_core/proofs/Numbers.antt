@@ -1,4 +1,4 @@
--- The numbers of the calls that were accepted, and of those that stand.
+-- The numbers of the accepted calls, and of the pending ones.
 use Rattle.std.proofs.Common.{◌≡◌, ℕ, ◌+◌, ◌<◌, ◌≤◌, true, false, cond, List, [], ◌∷◌, ◌++◌, length, map, refl, ap}
 use Rattle.std.proofs.Common.{sym, ◌∙◌, arith, length-append, Contains}
 use Rattle.std.specs.Prelude.{All}
@@ -17,7 +17,7 @@ use Rattle.conn_core.specs.Connections.{Connection, IsConnection, behind}
 use Rattle.conn_core.proofs.Lists.{all-of-map}
 use Rattle.conn_core.proofs.Told.{isnt-call}
 
--- no number is above that of the accepted calls
+-- no number is greater than the count of accepted calls
 numbered : (u : Under) (past : Behind) → IsPrefix u past → All (λ call. call.seq ≤ length (taken past)) (taken past)
 numbered u [] prefix = All-nil (λ (call : Taken). call.seq ≤ 0)
 numbered u (Took call ∷ past) prefix =
@@ -41,7 +41,7 @@ stood u past seq prefix there =
     All-contains (λ (n : ℕ). n ≤ length (taken past)) (map (λ (call : Taken). call.seq) (standing past)) seq
     (stand-numbered u past prefix) there
 
--- nothing is noted of a call to come
+-- nothing is noted of a later call
 pub untold : (u : Under) (past : Behind) (name : List ℕ) (seq : ℕ) → IsPrefix u past → length (taken past) < seq
     → noted name seq past ≡ nothing
 untold u [] name seq prefix above = refl
@@ -69,7 +69,7 @@ untold u (Counted call other ∷ past) name seq prefix above =
     above
 untold u (x ∷ past) name seq prefix above = untold u past name seq prefix.0 above
 
--- ---- the calls of a chain are those that stand
+-- ---- the calls of a chain are the pending ones
 
 pub numbers : (c : Connection) → IsConnection c
     → seqs_of c.chain.calls ≡ map (λ call. call.seq) (standing (behind c))

@@ -1,4 +1,4 @@
--- Turns, one after another: what a drain is made of.
+-- Sequences of turns: the first part of a drain.
 use Rattle.std.proofs.Common.{◌≡◌, ◌≢◌, ℕ, ◌+◌, inl, inr, ◌<◌, ◌≤◌, not, cond, if◌then◌else◌, ◌==◌, List, [], ◌∷◌}
 use Rattle.std.proofs.Common.{◌++◌, map, refl, ap, sym, ◌∙◌, subst, arith}
 use Rattle.std.specs.Prelude.{All, Some}
@@ -68,7 +68,7 @@ parts-fall before after position moment seq outcome has =
     has.leaves_call.smaller in
     omega (arith, less, ap parts_of has.stood, ap parts_of has.calls)
 
--- ---- how many calls stand at a position
+-- ---- how many calls are at a position
 
 pub waiting : ℕ → Row → ℕ
 waiting position [] = 0
@@ -131,7 +131,7 @@ waiting-less position seq (call ∷ row) = elim (cases_eq seq call.0) [
       ]
 ]
 
--- calls of other numbers stay where they are
+-- calls with other numbers stay where they are
 unmoved : (seq : ℕ) (row : Row) → All (λ n. n ≢ seq) (map (λ call. call.0) row) → goes_on seq row ≡ row
 unmoved seq [] apart = refl
 unmoved seq (call ∷ row) apart =
@@ -140,7 +140,7 @@ unmoved seq (call ∷ row) apart =
     ∙ ap (λ (r : Row). call ∷ r)
     (unmoved seq row (All-tail (λ (n : ℕ). n ≢ seq) call.0 (map (λ (call : ℕ × ℕ). call.0) row) apart))
 
--- each number comes once
+-- each number occurs once
 abbrev pub AreApart : Row → Type 0
 AreApart [] = Unit {0}
 AreApart (call ∷ row) = All (λ n. n ≢ call.0) (map (λ other. other.0) row) × AreApart row
@@ -159,7 +159,7 @@ found-number position seq (call ∷ row) P all first = elim (cases_eq call.1 pos
       (sym (ap (λ b. cond b (Some call) (first_at position row)) (ne_eqb call.1 position there)) ∙ first)
 ]
 
--- the first call at a position leaves one fewer there, where it goes on or is gone
+-- if the first call at a position advances or leaves, one fewer is there
 waiting-goes : (position seq : ℕ) (row : Row) → AreApart row → first_at position row ≡ Some (seq, position)
     → waiting position (goes_on seq row) + 1 ≤ waiting position row
 waiting-goes position seq [] apart first = absurd cc
@@ -260,9 +260,9 @@ ascending-apart (call ∷ row) h = let rest = above-apart call.0 row h in (rest.
 row-apart : (c : ChainParts) → IsStandingChain c → AreApart c.row
 row-apart c stands = ascending-apart c.row (subst IsAscending (sym stands.row) stands.stands.ascend)
 
--- ---- the turn behind a step
+-- ---- the turn in a transition
 
--- a step that is a turn, as what is behind says it
+-- a transition that is a turn, by the trace
 pub record Turning (u : Under) (old new : Course) (position seq : ℕ) (outcome : Outcome) : Type 0 where
   pub entry : Entry
   pub has : HasTurnBehind u old position seq outcome entry
@@ -293,7 +293,7 @@ fewer-by e position seq (Held left cost) c done apart first = absurd done
 fewer-by e position seq (Refused noted why) c done apart first = waiting-gone position seq c.row first
 fewer-by e position seq Redacted c done apart first = absurd done
 
--- behind a turn that is done with its call fewer stand at the position
+-- after a turn that is final for its call, fewer are at the position
 pub fewer-waiting : (before after : Connection) (position seq : ℕ) (outcome : Outcome) → IsConnection before
     → IsDone outcome → Steps before (turns position seq outcome) after
     → waiting position after.chain.row + 1 ≤ waiting position before.chain.row

@@ -1,4 +1,4 @@
--- The position of the engine of a name, and what the answers of a chain say of a step.
+-- The position of the engine with a name, and what the chain's results mean for an operation.
 use Rattle.std.proofs.Common.{◌≡◌, ℕ, ◌+◌, ◌<◌, ◌≤◌, zero, suc, true, false, cond, List, [], ◌∷◌, length, map, drop}
 use Rattle.std.proofs.Common.{insert, set, slice_get, refl, ap, ◌∙◌, subst, arith}
 use Rattle.std.specs.Prelude.{Err, Ok, OnOk, Result, Some}
@@ -15,14 +15,14 @@ use Rattle.conn_core.specs.Kept.{IsChanged}
 use Rattle.conn_core.proofs.Changed.{detach-has, has-named, upgraded-engine}
 use Rattle.conn_core.proofs.Lists.{map-at, within-at}
 
--- ---- where a name stands
+-- ---- the position of a name
 
 drop-at : {X : Type 0} (xs : List X) (i : ℕ) (x : X) → slice_get xs i ≡ Some x → drop i xs ≡ x ∷ drop (suc i) xs
 drop-at [] i x is = absurd cc
 drop-at (y ∷ xs) zero x is = let same : y ≡ x = cc in ap (λ z. z ∷ xs) same
 drop-at (y ∷ xs) (suc i) x is = drop-at xs i x is
 
--- the name is of none of the first so many entries
+-- none of the first so many entries has the name
 abbrev pub IsBehind : List ℕ → List EngineParts → ℕ → Type 0
 IsBehind name engines at =
     place_of name (map (λ e. e.entry) engines) ≡ at + place_of name (drop at (map (λ e. e.entry) engines))
@@ -111,7 +111,7 @@ upgrade-changed c c' now name name' label policy policy' same-name same-policy c
     (subst (λ (p : Policy). IsChanged (Upgrade name' label p) now c c') same-policy
     (record { changes = changes; engines = engines; calls = calls; row = row }))
 
--- ---- answers
+-- ---- results
 
 pub on-ok : {X E : Type 0} (P Q : Type 0) → (P → Q) → (r : Result X E) → OnOk r P → OnOk r Q
 on-ok P Q weak (Ok x) h = weak h

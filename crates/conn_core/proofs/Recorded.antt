@@ -1,4 +1,4 @@
--- What a turn records of a call was due, and is due no more.
+-- What a turn records of a call was due, and is no longer due.
 use Rattle.std.proofs.Common.{◌≡◌, ◌≢◌, ℕ, ◌≤◌, zero, suc, ◌⊎◌, inl, inr, List, slice_get, refl, ap, sym, ◌∙◌, subst, arith}
 use Rattle.std.specs.Prelude.{All, Some}
 use Rattle.mrpc_table.specs.Valid.{AreDistinct}
@@ -20,7 +20,7 @@ use Rattle.conn_core.proofs.Lists.{all-at}
 use Rattle.conn_core.proofs.Records.{ClearLaws, Clearing, may-before, may-still, none-again, none-noted, noted-of, redacted-of}
 use Rattle.conn_core.proofs.Spending.{Recording}
 
--- what a turn finds and leaves
+-- the state before and after a turn
 pub record Worked (entries : List Entry) (position level moment : ℕ) (e : Entry) (outcome : Outcome)
     (s met s' : StandingCall) : Type 0 where
   pub at : slice_get entries position ≡ Some e
@@ -32,7 +32,7 @@ pub record Worked (entries : List Entry) (position level moment : ℕ) (e : Entr
   pub call : LeavesCall e.policy outcome s.call s'.call
   pub marks : LeavesMarks e outcome met s'
 
--- what is noted behind it
+-- the notes after it
 own-past : (entries : List Entry) (position level moment : ℕ) (e : Entry) (outcome : Outcome) (s met s' : StandingCall)
     → Worked entries position level moment e outcome s met s'
     → past_of s'.marks e.attach ≡ past_after (noted_in outcome) (past_of s.marks e.attach)
@@ -42,7 +42,7 @@ own-past entries position level moment e outcome s met s' w =
     ≡ note_of s.marks y.attach) entries position e w.at w.kept) in
     w.marks.noted (subst (IsSilent e.policy) (sym same) w.silent) ∙ ap (past_after (noted_in outcome)) same
 
--- a call that isn't redacted stays as it is
+-- a call that isn't redacted is unchanged
 same-form : (outcome : Outcome) (policy : Policy) (call : Call) → outcome ≢ Redacted
     → form_after outcome policy call ≡ call
 same-form (Passed noted) policy call other = refl
@@ -50,7 +50,7 @@ same-form (Held left cost) policy call other = refl
 same-form (Refused noted why) policy call other = refl
 same-form Redacted policy call other = absurd (other refl)
 
--- all but the entry of the turn may record no more than before, and it may neither
+-- each other entry may need at most the records that it needed before, and this entry none
 others-still : (entries : List Entry) (position level moment : ℕ) (e : Entry) (outcome : Outcome)
     (s met s' : StandingCall) → Worked entries position level moment e outcome s met s'
     → ((y : Entry) → past_of s'.marks y.attach ≡ past_of s.marks y.attach → MayRecord s' y → MayRecord s y)

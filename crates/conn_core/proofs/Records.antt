@@ -1,4 +1,4 @@
--- What an entry may still record of a call, behind its turn.
+-- What an entry may still record of a call after its turn.
 use Rattle.std.proofs.Common.{◌≡◌, ◌≢◌, ℕ, ◌-◌, ◌/◌, ◌≤◌, min, List, refl, ap, sym, ◌∙◌, subst, arith}
 use Rattle.mrpc_table.specs.Node.{Node}
 use Rattle.mrpc_table.specs.declared.call.Call.{Call}
@@ -21,7 +21,7 @@ use Rattle.conn_core.specs.Kept.{MayRecord, may_clear, may_note, records_of}
 
 -- ---- notes
 
--- a note is called for whatever the form of the call is
+-- whether a note is due doesn't depend on the form of the call
 note-of-any : (policy : Policy) (level moment : ℕ) (form other : Call) (past : Past) (n : Noted)
     → Answers policy level moment form past (note n) → Answers policy level moment other past (note n)
 note-of-any policy level moment form other past n (allows p is allow answer) = absurd cc
@@ -39,7 +39,7 @@ note-of-any policy level moment form other past n (counts is none answer) = coun
 note-of-any policy level moment form other past n (is_clear clears is left answer) = absurd cc
 note-of-any policy level moment form other past n (redacts clears is changed answer) = absurd cc
 
--- what can be noted where something was
+-- no further note is possible if one was made
 abbrev IsSpent : Policy → Past → Type 0
 IsSpent policy past = (level moment : ℕ) (form : Call) (n : Noted) → Answers policy level moment form past (note n) → ⊥
 
@@ -92,7 +92,7 @@ spent-count policy is level moment form n (counts is' none answer) = absurd cc
 spent-count policy is level moment form n (is_clear clears is' left answer) = absurd cc
 spent-count policy is level moment form n (redacts clears is' changed answer) = absurd cc
 
--- behind a note none is called for
+-- after a note none is due
 spent : (policy : Policy) (level moment : ℕ) (form : Call) (past : Past) (n : Noted)
     → Answers policy level moment form past (note n) → IsSpent policy (past_after n past)
 spent policy level moment form past n (allows p is allow answer) = absurd cc
@@ -116,7 +116,7 @@ spent policy level moment form past n (counts is none answer) =
 spent policy level moment form past n (is_clear clears is left answer) = absurd cc
 spent policy level moment form past n (redacts clears is changed answer) = absurd cc
 
--- a policy that redacts calls for no note
+-- a redacting policy makes no note
 redactor-notes-nothing : (policy : Policy) (level moment : ℕ) (form : Call) (past : Past) (n : Noted)
     (clears : List Clear) → policy ≡ Redact clears → Answers policy level moment form past (note n) → ⊥
 redactor-notes-nothing policy level moment form past n clears is (allows p is' allow answer) = absurd cc
@@ -138,12 +138,12 @@ redactor-notes-nothing policy level moment form past n clears is (redacts clears
 
 -- ---- redactions
 
--- the laws of clears, as the proofs here are handed them
+-- the laws of clears, as hypotheses of the proofs here
 pub record ClearLaws : Type 0 where
   pub again : (clears : List Clear) (call : Call) → cleared clears (cleared_call clears call) ≡ cleared clears call
   pub either : (a b : List Clear) (call : Call) → cleared b (cleared_call a call) ≡ cleared a (cleared_call b call)
 
--- what would be cleared behind a redaction would have been cleared before it
+-- what would be cleared after a redaction would have been cleared before it
 cleared-before : ClearLaws → (a b : List Clear) (call : Call)
     → cleared b (cleared_call a call) ≢ (cleared_call a call).tree → cleared b call ≢ call.tree
 cleared-before laws a b call changed left =
@@ -159,7 +159,7 @@ may-before laws a s s' e call past (may_clear clears is changed) =
     may_clear clears is (cleared-before laws a clears s.call
     (subst (λ (c : Call). cleared clears c ≢ c.tree) call changed))
 
--- the policy that cleared fields clears none again
+-- a policy that cleared fields clears none again
 pub none-again : ClearLaws → (a : List Clear) (s s' : StandingCall) (e : Entry) → s'.call ≡ cleared_call a s.call
     → e.policy ≡ Redact a → MayRecord s' e → ⊥
 none-again laws a s s' e call policy (may_note level moment n answers some) =
@@ -169,7 +169,7 @@ none-again laws a s s' e call policy (may_clear clears is changed) =
     changed (ap (cleared clears) call ∙ ap (λ (c : List Clear). cleared c (cleared_call a s.call)) same ∙ laws.again a
     s.call ∙ sym (ap (λ (c : Call). c.tree) call))
 
--- of a call that stays as it is, what was noted decides
+-- for an unchanged call, the notes decide
 pub may-still : (s s' : StandingCall) (e : Entry) → s'.call ≡ s.call
     → past_of s'.marks e.attach ≡ past_of s.marks e.attach → MayRecord s' e → MayRecord s e
 may-still s s' e call past (may_note level moment n answers some) =
@@ -205,7 +205,7 @@ noted-of policy level moment form past outcome (is_noted_and_refused n why calls
 noted-of policy level moment form past outcome (is_redacted answers is) some =
     absurd (omega (arith, some, ap (λ (o : Outcome). records_of (noted_in o)) is))
 
--- the clears of a policy that redacts
+-- the clears of a redacting policy
 pub record Clearing (policy : Policy) (form : Call) : Type 0 where
   pub list : List Clear
   pub policy_is : policy ≡ Redact list

@@ -1,4 +1,4 @@
--- Room for the records of the calls that stand.
+-- Capacity for the records of the pending calls.
 use Rattle.std.proofs.Common.{◌≡◌, ℕ, ◌+◌, ◌*◌, ◌≤◌, List, [], ◌∷◌, length, refl, arith}
 use Rattle.std.specs.Prelude.{sum}
 use Rattle.std.specs.List.{AllZip, sum_by}
@@ -74,7 +74,7 @@ room-fates-by (s ∷ calls) entries (due ∷ dues) each room enough =
     let rest = room-fates-by calls entries dues each.1 (sum_by due_of dues) (omega arith) in
     omega (arith, total, rest, enough)
 
--- there is room for a fate of each call
+-- there is capacity for a fate of each call
 pub room-fates : (calls : List StandingCall) (entries : List Entry) (room : ℕ) → HasRoom calls entries room
     → length calls ≤ room
 room-fates calls entries room h = room-fates-by calls entries h.dues h.each room h.enough

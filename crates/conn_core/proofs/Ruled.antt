@@ -1,4 +1,4 @@
--- A turn that is refused by a rule names one of the policy that the engine's step put in.
+-- If a turn refuses by a rule, the rule belongs to the policy that the engine's operation set.
 use Rattle.std.proofs.Common.{◌≡◌, ℕ, ◌≤◌, Bool, true, false, cond, length, nat_lt, refl, sym, subst, arith}
 use Rattle.std.specs.Prelude.{None, Option, Some, slice_get, unwrap_or}
 use Rattle.std.specs.List.{position_or_len}
@@ -66,7 +66,7 @@ refuses-under policy level moment form past (Denied rule) answers =
 refuses-under policy level moment form past (Short left cost) answers = tt
 refuses-under policy level moment form past (Over ticket limit) answers = tt
 
--- ---- the policy is that of the step
+-- ---- the policy is that of the operation
 
 has-rule : (step : Op) (e : Entry) (rule : ℕ) → PutsIn step e → IsRuleOf e.policy rule → HasRule step rule
 has-rule (Attach at name label policy) e rule puts is = subst (λ (p : Policy). IsRuleOf p rule) (sym puts.1) is
@@ -94,7 +94,7 @@ refuses-by step e level moment form past outcome puts (is_noted_and_refused n wh
 refuses-by step e level moment form past outcome puts (is_redacted answers is) =
     subst (RefusesBy step) (sym is) tt
 
--- the turn of an engine whose policy the step put there
+-- the turn of an engine whose policy the operation set
 pub turn-by : (step : Op) (engine : EngineParts) (c c' : ChainParts) (at ms : ℕ) (t : Turned)
     → slice_get c.engines at ≡ Some engine → PutsIn step engine.entry
     → OnTurn t (λ seq outcome. HasTurn c at ms seq outcome c')

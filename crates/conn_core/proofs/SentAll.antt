@@ -1,4 +1,4 @@
--- Sendings, one after another.
+-- Sequences of sends.
 use Rattle.std.proofs.Common.{◌≡◌, ℕ, ◌+◌, ◌≤◌, inl, inr, not, cond, if◌then◌else◌, List, [], ◌∷◌, ◌++◌, length, refl, ap, sym, ◌∙◌, subst, arith}
 use Rattle.std.specs.Prelude.{Some}
 use Rattle.std.proofs.lemmas.Bool.{eq-eqb, ne_eqb, cases_eq}
@@ -20,7 +20,7 @@ use Rattle.conn_core.specs.Steps.{FailsToSend, Hands, Sends, Steps}
 use Rattle.conn_core.proofs.Handed.{frames-failed, past-failed}
 use Rattle.conn_core.proofs.TurnByTurn.{same-under}
 
--- ---- a sending
+-- ---- a send
 
 pub record Sending (old new : Course) (seq bytes : ℕ) : Type 0 where
   pub position : ℕ
@@ -48,7 +48,7 @@ sent-in u old new seq bytes (is_sent s b is running ready new-is) =
     }))
 sent-in u old new seq bytes (link_failed is new-is) = absurd cc
 
--- one fewer stands behind it
+-- one fewer is pending after it
 length-less : (seq : ℕ) (row : Row) → length (without_call seq row) ≤ length row
 length-less seq [] = omega arith
 length-less seq (call ∷ row) = elim (cases_eq seq call.0) [
@@ -113,7 +113,7 @@ failed-tickets before after step tenant window =
     ap (tickets_behind tenant window) (past-failed before after step) ∙ refused-tickets (standing (behind before))
     (behind before) tenant window
 
--- ---- what comes behind
+-- ---- further sends
 
 abbrev pub SendsBehind : Under → Course → Course → Type 0
 SendsBehind u old now = (new : Course) → SendsSome u now new → SendsSome u old new
@@ -132,7 +132,7 @@ hands-both a b c x y z ab bc = (
 
 -- ---- a link that fails
 
--- what is ready under one connection is so under the same one, later on
+-- what is ready on one connection is ready on its later state
 abbrev pub ready-as : (a m : Connection) (c : Course) (seq bytes : ℕ) → IsSame a m → IsReady (under m) c seq bytes
     → IsReady (under a) c seq bytes
 ready-as a m c seq bytes same ready = record {
@@ -146,7 +146,7 @@ none-more : (frames more : List (List ℕ)) → frames ≡ frames ++ more → mo
 none-more [] more is = sym is
 none-more (frame ∷ frames) more is = none-more frames more cc
 
--- where no frame is told, none is handed over
+-- if the history adds no frame, none is sent
 pub handed-as-before : (before after : Connection) (x y : List (List ℕ)) → Hands before after x y
     → frames after ≡ frames before → x ≡ y
 handed-as-before before after x y hands same =

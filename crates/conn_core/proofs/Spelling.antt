@@ -1,4 +1,4 @@
--- What a step adds to the loads of a connection's calls.
+-- What a transition adds to the loads of a connection's calls.
 use Rattle.std.proofs.Common.{◌≡◌, ◌≢◌, ℕ, List, [], ◌∷◌, ◌++◌, refl, sym, subst}
 use Rattle.engine_core.specs.Chains.{Entry}
 use Rattle.engine_core.specs.declared.outcome.Noted.{Noted}
@@ -55,7 +55,7 @@ pub spelled-accepted : (H seq : ℕ) (ask : Ask) (own loads : Loads) (before aft
 spelled-accepted H seq ask own loads before after a h =
     spelled-taken (under before) H a.call own loads (course before) (course after) a.step a.loaded h
 
--- ---- other steps
+-- ---- other transitions
 
 spelled-noted : (u : Under) (H : ℕ) (loads : Loads) (name : List ℕ) (seq : ℕ) (n : Noted) (past : Behind)
     → AreSpelled u.table H u.limit past loads → AreSpelled u.table H u.limit (note_behind name seq n past) loads

@@ -1,4 +1,4 @@
--- Room for records, behind a turn.
+-- Capacity for records after a turn.
 use Rattle.std.proofs.Common.{◌≡◌, ℕ, ◌+◌, ◌≤◌, ◌<◌, zero, suc, List, [], ◌∷◌, ◌++◌, length, set, get_or, slice_get, refl, ap, sym, ◌∙◌, subst, arith}
 use Rattle.std.specs.Prelude.{All, Some, sum}
 use Rattle.std.specs.List.{AllZip, sum_by}
@@ -50,7 +50,7 @@ sum-spent due position within some = omega (arith, sum_by-set (λ (n : ℕ). n) 
 sum-some : (due : List ℕ) (position : ℕ) → position < length due → 1 ≤ get_or due position 0 → 1 ≤ sum due
 sum-some due position within some = omega (arith, get_or-le-sum_by (λ (n : ℕ). n) due position 0 within, some)
 
--- so many records of a call were taken, and these are due behind it
+-- this many records of a call were made, and these are due afterwards
 record Spent (entries : List Entry) (s : StandingCall) (due : List ℕ) (records : ℕ) : Type 0 where
   left : List ℕ
   are : AreDue entries s left
@@ -148,7 +148,7 @@ few-noted (notes.Charged left) = omega arith
 few-noted (notes.Drawn window ticket) = omega arith
 few-noted notes.Counted = omega arith
 
--- what must hold of a turn for its records
+-- what a turn's records require
 pub record Recording (entries : List Entry) (e : Entry) (outcome : Outcome) (s s' : StandingCall) : Type 0 where
   pub noted : 1 ≤ records_of (noted_in outcome) → MayRecord s e
   pub redacted : outcome ≡ Redacted → MayRecord s e

@@ -1,4 +1,4 @@
--- What is taken of a call by the answer of a copy.
+-- How a call is accepted, by the result of its copy.
 use Rattle.std.proofs.Common.{◌≡◌, ◌≢◌, ℕ, ◌<◌, ◌≤◌, ◌*◌, List, length, refl, sym, ap, ◌∙◌, subst, arith}
 use Rattle.std.specs.Prelude.{IfOk, IfSome, Ok, Err, Option, Some, None, Result}
 use Rattle.mrpc_table.specs.Node.{Node}
@@ -26,7 +26,7 @@ use Rattle.mrpc_table.specs.declared.memory.Memory.{Memory}
 use Rattle.conn_core.specs.Kept.{IsOfAnswer, IsTakenWell, copy_of}
 use Rattle.conn_core.specs.declared.taking.Submission.{Submission}
 
--- the laws of sound graphs, as the proofs here are handed them
+-- the laws of sound graphs, as hypotheses of the proofs here
 pub record GraphLaws : Type 0 where
   pub normal : (T : Table) (H msg address : ℕ) (P : Placed) → IsValid T → IsSound T H msg address P
       → IsNormal T msg (tree_of T msg P)

@@ -1,4 +1,4 @@
--- What one more happening changes of levels, notes and forms.
+-- How one more event changes levels, notes and forms.
 use Rattle.std.proofs.Common.{◌≡◌, ◌≢◌, ℕ, true, false, ◌&&◌, ◌==◌, cond, List, [], ◌∷◌, ◌++◌, refl, ap, reverse}
 use Rattle.std.specs.Prelude.{option_map}
 use Rattle.std.specs.Str.{bytes_eq}
@@ -17,7 +17,7 @@ use Rattle.call_history.specs.declared.happening.Happening.{Happening}
 use Rattle.call_history.specs.declared.happening.Happening.TheVariants.{Took, Op, Redacted}
 use Rattle.call_history.specs.declared.happening.Taken.{Taken}
 
--- one more happening is the first behind
+-- the last event is the first of the trace
 pub behind-one : (h : List Happening) (x : Happening) → reverse (h ++ x ∷ []) ≡ x ∷ reverse h
 behind-one h x = reverse-append h (x ∷ [])
 
@@ -94,7 +94,7 @@ form-noted conn s name seq (notes.Charged left) past = refl
 form-noted conn s name seq (notes.Drawn window ticket) past = refl
 form-noted conn s name seq notes.Counted past = refl
 
--- ---- steps of an operator
+-- ---- operations
 
 pub level-attached : (past : Behind) (at : ℕ) (name label : List ℕ) (policy : Policy)
     → level name (Op (Attach at name label policy) ∷ past) ≡ first_level policy

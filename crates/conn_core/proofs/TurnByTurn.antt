@@ -49,7 +49,7 @@ frames-turned T conn e seq (outcomes.Refused n why) c =
     append-nil (frames_behind T conn (note_behind e.name seq n c.past)) ∙ frames-noted T conn e.name seq n c.past
 frames-turned T conn e seq outcomes.Redacted c = append-nil (frames_behind T conn c.past)
 
--- ---- connections that are the same, later on
+-- ---- later states of a connection
 
 pub same-under : (a b : Connection) → IsSame a b → under b ≡ under a
 same-under a b same =
@@ -129,7 +129,7 @@ went-unnoted Knows drawn_of Since a b x at p =
     went-turn Knows drawn_of Since a b x x at (Moved p.seq notes.Nothing) p.same (λ idle. absurd cc) p.step
     (let fewer = p.fewer in omega (arith, fewer)) (draws-unnoted Knows drawn_of Since a b x p.happenings)
 
--- the engines stay as many, and tenants known
+-- the number of engines is unchanged, and tenants are still known
 pub same-length : (a b : Connection) → IsConnection a → IsConnection b → chain (behind b) ≡ chain (behind a)
     → length b.chain.engines ≡ length a.chain.engines
 same-length a b ha hb same =
@@ -159,7 +159,7 @@ known-later P Q a b ha hb same later known =
 
 -- ---- the turns of an engine
 
--- whatever comes behind, comes behind both
+-- what can follow the later state can follow the earlier one
 abbrev pub Follows : Under → ℕ → Course → Course → Type 0
 Follows u at old now = (ending : Ending) (new : Course) → Turns u at now ending new → Turns u at old ending new
 
@@ -197,7 +197,7 @@ pub chain-long : (c : Connection) → IsConnection c → length (chain (behind c
 chain-long c h = sym (ap (λ (ch : Chain). length ch.entries) h.same_chain) ∙ length-map c.chain.engines
     (λ (e : EngineParts). e.entry)
 
--- what passes behind, passes behind both
+-- what can pass after the later state can pass after the earlier one
 abbrev pub PassesBehind : Under → ℕ → Course → Course → Type 0
 PassesBehind u at first now = (new : Course) → Passes u at now new → Passes u 0 first new
 

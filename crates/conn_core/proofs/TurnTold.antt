@@ -1,4 +1,4 @@
--- What came of a turn, as it is told: for each answer of a chain.
+-- The outcome of a turn in the words of the clauses, for each result of a chain.
 use Rattle.std.proofs.Common.{◌≡◌, ℕ, ◌+◌, ◌<◌, ◌≤◌, Bool, true, false, List, ◌++◌, length, get_or, reverse, slice_get, refl, ap, sym, ◌∙◌, subst, arith}
 use Rattle.std.specs.Bool.{OnFalse, OnTrue}
 use Rattle.std.specs.Prelude.{Option, Some}
@@ -32,7 +32,7 @@ use Rattle.conn_core.proofs.Passing.{parts-fall}
 use Rattle.conn_core.proofs.Records.{ClearLaws}
 use Rattle.conn_core.proofs.Turned.{turn-is}
 
--- where there was a call, one fact follows from others
+-- if there was a call, one fact follows from others
 pub on-turn : (P Q : ℕ → Outcome → Type 0) → ((seq : ℕ) (outcome : Outcome) → P seq outcome → Q seq outcome)
     → (t : Turned) → OnTurn t P → OnTurn t Q
 on-turn P Q weak Idle h = tt
@@ -49,7 +49,7 @@ on-both P Q (Held seq level cost) p q = (p, q)
 on-both P Q (Refused seq noted why) p q = (p, q)
 on-both P Q (Redacted seq) p q = (p, q)
 
--- what holds where there was no call, and where there was one
+-- what holds if there was no call, and if there was one
 pub at-turn : (A : Type 0) (P : ℕ → Outcome → Type 0) (t : Turned) → (t ≡ Idle → A)
     → ((seq : ℕ) (outcome : Outcome) → P seq outcome → A) → OnTurn t P → A
 at-turn A P Idle idle some h = idle refl
@@ -68,7 +68,7 @@ same-entry c at engine e is-engine is =
     let same : e ≡ engine.entry = cc in
     ap (λ (x : Entry). x.version) same
 
--- the step that put its policy there
+-- the operation that set its policy
 pub step-put : (c : Connection) (steps : List ℕ) (history : Kept) (accepted ms at place : ℕ) (e : Entry)
     → IsKept c steps history accepted ms → slice_get (chain_of c.chain).entries at ≡ Some e
     → place ≡ get_or steps at place → IsStepOf history.steps place e
@@ -151,7 +151,7 @@ turn-has-room laws conn T limit c c' history ended steps accepted ms at t kept h
     (λ seq outcome h. turn-fits laws c c' at ms seq outcome history.room kept.connection.standing_chain kept.room h) t
     has
 
--- what is kept, also where no call stood there
+-- the invariant, also if no call was there
 pub kept-behind : (conn : ℕ) (T : Table) (limit : ℕ) (c c' : ChainParts) (history history' : Kept) (ended : Bool)
     (steps : List ℕ) (accepted ms at : ℕ) (t : Turned)
     → IsKept (seen conn T limit c history ended) steps history accepted ms → (t ≡ Idle → c' ≡ c)
@@ -230,7 +230,7 @@ parts-behind before conn T limit c c' history history' ended at ms t is has =
     (λ seq outcome. parts (seen conn T limit c' history' ended) + redactions outcome ≤ parts before)
     (λ seq outcome h. omega (arith, parts-fall c c' at ms seq outcome h, ap parts is)) t has
 
--- a turn in which nothing was noted, as it is told of the connection
+-- a turn in which nothing was noted, in the words of the clauses
 pub passed-by : (before : Connection) (conn : ℕ) (T : Table) (limit : ℕ) (c c' : ChainParts) (history : Kept)
     (ended : Bool) (steps : List ℕ) (accepted ms at : ℕ) → seen conn T limit c history ended ≡ before
     → (p : PassesUnnoted c at c')
@@ -246,7 +246,7 @@ passed-by before conn T limit c c' history ended steps accepted ms at is p stepp
       same = record { conn = refl; table = refl; limit = refl };
     })
 
--- what follows from an answer, and from either
+-- what follows from a result, and from either
 pub then-true : {P Q : Type 0} (b : Bool) → (P → Q) → OnTrue b P → OnTrue b Q
 then-true true f p = f p
 then-true false f p = tt

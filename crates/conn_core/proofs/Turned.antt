@@ -1,4 +1,4 @@
--- What a turn changes of what is behind.
+-- How a turn changes the trace.
 use Rattle.std.proofs.Common.{◌≡◌, ◌≢◌, ℕ, List, [], ◌∷◌, ◌++◌, reverse, refl, ap, sym, ◌∙◌}
 use Rattle.std.specs.Prelude.{option_map, Some}
 use Rattle.std.proofs.lemmas.List.{append_assoc, append-nil}
@@ -20,7 +20,7 @@ use Rattle.call_history.specs.declared.happening.Happening.TheVariants as what
 use Rattle.conn_core.specs.Kept.{told_note, told_turn}
 use Rattle.conn_core.proofs.Told.{behind-one, form-cleared, form-cleared_another, form-noted, level-noted, level-noted_other, noted-another, noted-elsewhere, noted-noted}
 
--- ---- what is told
+-- ---- the events
 
 note-is : (name : List ℕ) (seq : ℕ) (n : Noted) (h : List Happening)
     → reverse (h ++ told_note name seq n) ≡ note_behind name seq n (reverse h)
@@ -55,7 +55,7 @@ ended-turned e seq (Held left cost) c = refl
 ended-turned e seq (Refused n why) c = refl
 ended-turned e seq Redacted c = refl
 
--- ---- what a turn leaves
+-- ---- the state after a turn
 
 chain-noted : (name : List ℕ) (seq : ℕ) (n : Noted) (past : Behind) → chain (note_behind name seq n past) ≡ chain past
 chain-noted name seq notes.Nothing past = refl

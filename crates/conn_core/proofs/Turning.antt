@@ -1,4 +1,4 @@
--- The engine at a position has a turn: what its chain says of the call goes on as what is behind says.
+-- The engine at a position has a turn, and the call's marks and levels still agree with the trace.
 use Rattle.std.proofs.Common.{◌≡◌, ◌≢◌, ℕ, List, ◌∷◌, map, slice_get, refl, ap, sym, ◌∙◌, subst}
 use Rattle.std.specs.Prelude.{All, Some}
 use Rattle.std.proofs.lemmas.List.Elements.{All-head, All-tail, All-map, All-weaker, All-set}
@@ -25,7 +25,7 @@ use Rattle.conn_core.proofs.Lists.{all-at, all-back, all-both, all-front, all-of
 use Rattle.conn_core.proofs.Turned.{chain-turned, form-turned, form-turned_another, level-turned, level-turned_other}
 use Rattle.conn_core.proofs.Turned.{moment-turned, noted-turned, noted-turned_another, noted-turned_elsewhere}
 
--- ---- the turn, as what is behind says it
+-- ---- the turn, by the trace
 
 entry-at : (conn position moment seq : ℕ) (past : Behind) (outcome : Outcome) (before after : ChainParts)
     → Fits conn past before → (has : HasTurn before position moment seq outcome after)
@@ -72,7 +72,7 @@ turn-behind u c before after position seq outcome fits has first =
 
 -- ---- marks
 
--- what is noted of the call for each entry of the chain, behind the turn
+-- the notes of the call for each entry of the chain, after the turn
 call-notes : (entries : List Entry) (position seq : ℕ) (outcome : Outcome) (c : Course) (e : Entry)
     (call met call' : StandingCall) → slice_get entries position ≡ Some e
     → IsChain (chain c.past) → (chain c.past).entries ≡ entries
@@ -97,7 +97,7 @@ call-notes entries position seq outcome c e call met call' is is-chain same note
     (λ (y : Entry). (past_of call.marks y.attach ≡ noted y.name seq c.past)
     × (note_of met.marks y.attach ≡ note_of call.marks y.attach)) (λ y a b. (a, b)) entries notes kept)
 
--- a turn leaves a call its number
+-- a turn doesn't change a call's number
 form-seq : (outcome : Outcome) (policy : Policy) (call : Call) → (form_after outcome policy call).seq ≡ call.seq
 form-seq (Passed noted) policy call = refl
 form-seq (Held left cost) policy call = refl
@@ -108,7 +108,7 @@ form-seq Redacted (policies.Quota tenant per cap) call = refl
 form-seq Redacted policies.Count call = refl
 form-seq Redacted (policies.Redact clears) call = refl
 
--- of all entries, in the words of engines
+-- a fact about all entries, as a fact about engines
 over-entries : (P : Entry → Type 0) (engines : List EngineParts) → All (λ e. P e.entry) engines
     → All P (map (λ e. e.entry) engines)
 over-entries P engines all = All-map P (λ (e : EngineParts). e.entry) engines all

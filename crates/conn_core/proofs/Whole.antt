@@ -1,4 +1,4 @@
--- A whole drain, by its turns and its sendings.
+-- A complete drain, by its turns and its sends.
 use Rattle.std.proofs.Common.{◌≡◌, ℕ, ◌++◌, List, length, map, ap, sym, ◌∙◌, subst}
 use Rattle.std.specs.Prelude.{None, Option, Some}
 use Rattle.std.proofs.lemmas.List.{length-map}
@@ -57,7 +57,7 @@ fails-in-drain Refused handed_of faults_of Since a m f x y same passes fault = r
   since = fault.since;
 }
 
--- a whole drain settles
+-- a complete drain settles
 abbrev pub DrainsSettle : Type 0
 DrainsSettle = (u : Under) (old new : Course) → IsCourse u old → Drains u old new
     → IsSettled u new.past (map (λ call. call.1) new.row)

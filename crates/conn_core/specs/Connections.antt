@@ -9,8 +9,8 @@ use Rattle.call_history.specs.Frames.{frames_behind}
 use Rattle.call_history.specs.Rules.{Under}
 use Rattle.call_history.specs.declared.happening.Happening.{Happening}
 
--- its number, its table and limit of loads, its chain with the calls that stand on it, what has happened, in order, and
--- whether its link has failed
+-- its number, table and limit of loads, its chain with the pending calls, its events in order, and whether its
+-- link has failed
 pub record Connection : Type 0 where
   pub conn : ℕ
   pub table : Table
@@ -19,38 +19,38 @@ pub record Connection : Type 0 where
   pub happenings : List Happening
   pub ended : Bool
 
--- under which its happenings are judged
+-- the context in which its events are judged
 abbrev pub under : Connection → Under
 under c = record { conn = c.conn; table = c.table; limit = c.limit }
 
--- what is behind it, the latest first
+-- its trace: the events, latest first
 abbrev pub behind : Connection → Behind
 behind c = reverse c.happenings
 
--- how far its course has come: what is behind, where its calls stand, and whether its link has failed
+-- its state: the trace, the positions of its calls, and whether its link has failed
 abbrev pub course : Connection → Course
 course c = record { past = behind c; row = c.chain.row; ended = c.ended }
 
--- the frames that were handed over, in order
+-- the frames that were sent, in order
 abbrev pub frames : Connection → List (List ℕ)
 frames c = frames_behind c.table c.conn (behind c)
 
--- number, table and limit of a connection stay
+-- number, table and limit of a connection are unchanged
 pub record IsSame (before after : Connection) : Type 0 where
   pub conn : after.conn ≡ before.conn
   pub table : after.table ≡ before.table
   pub limit : after.limit ≡ before.limit
 
--- What holds of each connection. Its history is legal and its calls stand at places; the chain that its history makes
--- is the chain with which its calls are judged, and levels and marks are what the history says.
+-- The invariant of a connection. Its history is legal and its calls are at legal positions. The chain with its
+-- levels and marks is the one that follows from the history.
 pub record IsConnection (c : Connection) : Type 0 where
   pub is_course : IsCourse (under c) (course c)
   pub standing_chain : IsStandingChain c.chain
   pub same_chain : chain_of c.chain ≡ chain (behind c)
-  -- the level of each bucket, at the latest moment
+  -- the level of each bucket, at the latest timestamp
   pub levels : All (λ e. e.level ≡ level e.entry.name (behind c)) c.chain.engines
   pub moments : All (λ e. e.last ≡ moment (behind c)) c.chain.engines
-  -- a call's marks say what was noted of it since the attachment, and the call is its form
+  -- a call's marks agree with what was noted of it since the attachment, and the call is its form
   pub notes : All (λ s. All (λ e. past_of s.marks e.entry.attach ≡ noted e.entry.name s.call.seq (behind c))
       c.chain.engines) c.chain.calls
   pub forms : All (λ s. form c.conn s.call.seq (behind c) ≡ Some s.call) c.chain.calls

@@ -1,4 +1,4 @@
--- What holds of a connection's own fields: the code's own. No public clause cites this module.
+-- The invariant of a connection's own fields: the code's own. No public clause cites this module.
 use Rattle.std.specs.Prelude.{◌≡◌, ◌≢◌, ℕ, ◌+◌, ◌≤◌, ◌<◌, Bool, List, [], ◌∷◌, ◌++◌, All, insert, length, remove, set, slice_get, sum, IfSome, Option, Some, None}
 use Rattle.std.specs.List.{AllZip, sum_by}
 use Rattle.mrpc_table.specs.Valid.{IsValid}
@@ -43,22 +43,22 @@ use Rattle.conn_core.specs.declared.answers.Ask.{Ask}
 use Rattle.conn_core.specs.Connections.{Connection, IsConnection, IsSame, behind, frames}
 use Rattle.conn_core.specs.Steps.{DrawsTickets, FailsAfter, Steps, parts}
 
--- ---- which step put its policy into an entry
+-- ---- the operation that set an entry's policy
 
--- a step put the entry's present policy there
+-- an operation set the entry's present policy
 abbrev pub PutsIn : Op → Entry → Type 0
 PutsIn (Attach at name label policy) e = (name ≡ e.name) × (policy ≡ e.policy)
 PutsIn (Detach name) e = ⊥
 PutsIn (Upgrade name label policy) e = (name ≡ e.name) × (policy ≡ e.policy)
 
--- the place is that of the step
+-- the index is that of the operation
 pub record IsStepOf (steps : List Op) (place : ℕ) (e : Entry) : Type 0 where
   pub within : place < length steps
   pub put : PutsIn (step_at steps place) e
 
 -- ---- what an acceptance adds
 
--- the call of an ask, under a number
+-- the call of a submission, with a number
 pub record IsAsked (seq : ℕ) (ask : Ask) (call : Taken) : Type 0 where
   pub number : call.seq ≡ seq
   pub method : call.method ≡ ask.method
@@ -66,12 +66,12 @@ pub record IsAsked (seq : ℕ) (ask : Ask) (call : Taken) : Type 0 where
   pub address : call.addr ≡ ask.addr
   pub stores : call.after ≡ ask.after
 
--- the copy of an answer
+-- the copy that a result has
 abbrev pub copy_of : CopyResult → TookCopy
 copy_of (results.Copied tree loads) = Copy tree
 copy_of (results.Malformed reason place value loads) = Malformed reason place value
 
--- a call and its form are those of an ask, by a copy's answer
+-- a call and its form follow from a submission and the result of the copy
 pub record IsOfAnswer (conn seq : ℕ) (ask : Ask) (answer : CopyResult) (call : Taken)
     (form : Option Call) : Type 0 where
   pub asked : IsAsked seq ask call
@@ -79,19 +79,19 @@ pub record IsOfAnswer (conn seq : ℕ) (ask : Ask) (answer : CopyResult) (call :
   pub count : call.count ≡ loads_of answer
   pub form_is : form ≡ copied conn call call.copy
 
--- what holds of a call that was taken, and of its form, by these loads
+-- what holds of a call that was copied by these loads, and of its form
 pub record IsTakenWell (T : Table) (H limit : ℕ) (own : Loads) (call : Taken) (form : Option Call) : Type 0 where
   pub loaded : IsLoaded T H limit call own
   pub few : call.count ≤ limit
   pub sound : IsTakenBy T call call.copy
   pub short : IfSome form (λ f. length (payload T f) ≤ MAX_PAYLOAD)
 
--- what happens when a call is accepted, in order: one without a form is refused at once
+-- the events of an acceptance, in order: a call without a form is refused at once
 abbrev pub told_acceptance : Taken → Option Call → List Happening
 told_acceptance call None = what.Took call ∷ what.Refused call.seq cause.Malformed ∷ []
 told_acceptance call (Some form) = what.Took call ∷ []
 
--- a chain, with a call that joins it
+-- a chain after a call was added to it
 abbrev pub joined : Option Call → ChainParts → ChainParts
 joined None c = c
 joined (Some form) c = record c {
@@ -101,21 +101,21 @@ joined (Some form) c = record c {
 
 -- ---- what a turn adds
 
--- a note of a turn, as it happens
+-- the event of a note, if any
 abbrev pub told_note : List ℕ → ℕ → Noted → List Happening
 told_note name seq notes.Nothing = []
 told_note name seq (notes.Charged left) = what.Charged seq name left ∷ []
 told_note name seq (notes.Drawn window ticket) = what.Drawn seq name window ticket ∷ []
 told_note name seq notes.Counted = what.Counted seq name ∷ []
 
--- what happens in a turn of an entry that comes out so for the call of a number, in order
+-- the events of a turn of an entry with this outcome for a call, in order
 abbrev pub told_turn : Entry → ℕ → Outcome → List Happening
 told_turn e seq (outcomes.Passed n) = told_note e.name seq n
 told_turn e seq (outcomes.Held left cost) = []
 told_turn e seq (outcomes.Refused n why) = told_note e.name seq n ++ what.Refused seq (cause_of e why) ∷ []
 told_turn e seq outcomes.Redacted = what.Redacted seq e.name e.version ∷ []
 
--- the rule of a refusal, if it has one, is one of the policy that a step puts in
+-- the rule of a refusal, if it has one, is a rule of the policy that an operation sets
 abbrev pub GivesRule : Op → Why → Type 0
 GivesRule step (Denied rule) = HasRule step rule
 GivesRule step (Short level cost) = Unit {0}
@@ -125,7 +125,7 @@ abbrev pub RefusesBy : Op → Outcome → Type 0
 RefusesBy step (outcomes.Refused n why) = GivesRule step why
 RefusesBy step _ = Unit {0}
 
--- how many records a note takes, and a turn
+-- how many records a note needs, and a turn
 abbrev pub records_of : Noted → ℕ
 records_of notes.Nothing = 0
 records_of (notes.Charged left) = 1
@@ -138,9 +138,9 @@ records_in (outcomes.Held left cost) = 0
 records_in (outcomes.Refused n why) = records_of n + 1
 records_in outcomes.Redacted = 1
 
--- ---- what a sending adds
+-- ---- what a send adds
 
--- the first call that is ready leaves, and is recorded as sent
+-- the first ready call leaves the chain, and is recorded as sent
 pub record Leaves (seq bytes : ℕ) (before after : ChainParts) (old new : Kept) : Type 0 where
   pub call : StandingCall
   pub number : call.call.seq ≡ seq
@@ -152,9 +152,9 @@ pub record Leaves (seq bytes : ℕ) (before after : ChainParts) (old new : Kept)
   pub told : new.happenings ≡ old.happenings ++ what.Sent seq bytes ∷ []
   pub room : old.room ≤ new.room + 1
 
--- ---- what a step of an operator changes
+-- ---- what an operation changes
 
--- the engines behind it
+-- the engines after it
 abbrev pub AreEngines : Op → ℕ → ChainParts → List EngineParts → Type 0
 AreEngines (Attach at name label policy) now c engines = engines ≡ insert c.engines at (record {
   entry = new_entry name (c.attached + 1) policy;
@@ -170,44 +170,44 @@ AreEngines (Upgrade name label policy) now c engines = (e : EngineParts)
       last = e.last;
     })
 
--- a chain took a step at a moment
+-- an operation was applied to a chain at a timestamp
 pub record IsChanged (step : Op) (now : ℕ) (before after : ChainParts) : Type 0 where
   pub changes : Changes (chain_of before) step (chain_of after)
   pub engines : AreEngines step now before after.engines
   pub calls : after.calls ≡ before.calls
   pub row : after.row ≡ moved_by step (chain_of before).entries before.row
 
--- the places of the steps that put their policies into the engines, behind a step of this place
+-- by position, the operation that set each engine's policy, after an operation with this index
 abbrev pub places_after : Op → List Entry → ℕ → List ℕ → List ℕ
 places_after (Attach at name label policy) entries place places = insert places at place
 places_after (Detach name) entries place places = remove places (place_of name entries)
 places_after (Upgrade name label policy) entries place places = set places (place_of name entries) place
 
--- ---- what the end of a link adds
+-- ---- what a failure of the link adds
 
--- what happens when a link fails: the calls that stand are refused
+-- the events of a link failure: the pending calls are refused
 abbrev pub told_failure : List StandingCall → List Happening
 told_failure [] = []
 told_failure (s ∷ calls) = what.Refused s.call.seq cause.Transport ∷ told_failure calls
 
--- ---- room for records
+-- ---- capacity for records
 
--- An entry may still record something of a call: at some level and moment it calls for a note, or it would clear
--- fields.
+-- An entry may still need a record for a call: at some level and timestamp it calls for a note, or it would
+-- clear fields.
 pub data MayRecord (s : StandingCall) (e : Entry) : Type 0 where
   may_note : (level moment : ℕ) (n : Noted) → Answers e.policy level moment s.call (past_of s.marks e.attach) (note n)
       → 1 ≤ records_of n → MayRecord s e
   may_clear : (clears : List Clear) → e.policy ≡ Redact clears → cleared clears s.call ≢ s.call.tree → MayRecord s e
 
--- so many records of a call may be due by each entry at the most
+-- for each entry, an upper bound on the records that it may still need for a call
 abbrev pub AreDue : List Entry → StandingCall → List ℕ → Type 0
 AreDue entries s due = AllZip (λ e n. MayRecord s e → 1 ≤ n) entries due
 
--- the records that are due of a call, its fate among them
+-- the records that a call may still need, its fate included
 abbrev pub due_of : List ℕ → ℕ
 due_of due = sum due + 1
 
--- there is room for all records that the calls which stand may still have
+-- there is capacity for all records that the pending calls may still need
 pub record HasRoom (calls : List StandingCall) (entries : List Entry) (room : ℕ) : Type 0 where
   pub dues : List (List ℕ)
   pub each : AllZip (AreDue entries) calls dues
@@ -215,7 +215,7 @@ pub record HasRoom (calls : List StandingCall) (entries : List Entry) (room : �
 
 -- ---- a connection
 
--- as its fields show it
+-- as a view of its fields
 abbrev pub seen : ℕ → Table → ℕ → ChainParts → Kept → Bool → Connection
 seen conn table limit chain history ended = record {
   conn = conn;
@@ -239,8 +239,8 @@ pub record IsKept (c : Connection) (steps : List ℕ) (history : Kept) (accepted
 
 -- ---- drains
 
--- A connection went on by turns alone: it is the same, with the same chain; nothing was handed over, those tickets were
--- drawn that its history tells, and the trees of its calls have no more parts.
+-- A connection advanced by turns alone. It is the same connection with the same chain, and no frame was sent.
+-- The drawn tickets are those of its history, and the trees of its calls have no more parts.
 pub record Went {Q : Type 0} (Knows : Q → ℕ → Type 0) (drawn_of : Q → ℕ → ℕ → Option (List ℕ)) (Since : Q → Q → Type 0)
     (before after : Connection) (old new : Q) : Type 0 where
   pub same : IsSame before after
@@ -249,8 +249,8 @@ pub record Went {Q : Type 0} (Knows : Q → ℕ → Type 0) (drawn_of : Q → �
   pub draws : DrawsTickets Knows drawn_of Since before after old new
   pub fewer : parts after ≤ parts before
 
--- The first call at a position went on, by a turn in which nothing was noted: nothing has happened, and the trees of the
--- calls have no more parts.
+-- The first call at a position advanced by a turn without a note: no event was added, and the trees of the calls
+-- have no more parts.
 pub record PassesBy (position : ℕ) (before after : Connection) : Type 0 where
   pub seq : ℕ
   pub step : Steps before (turns position seq (outcomes.Passed notes.Nothing)) after

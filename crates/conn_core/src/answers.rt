@@ -1,30 +1,30 @@
-//! What is asked of a connection, and what it answers.
+//! The submissions that a connection takes, and the results of its calls.
 
 ghost use Rattle.std.specs.Prelude.{◌≡◌};
 
 use mrpc_table::Memory;
 
-/// What an application submits.
+/// A submission of an application.
 #[derive(Clone, Copy)]
 pub struct Ask {
     /// The index of the method.
     pub method: u16,
-    /// 0 of a request, or the number of the request that it answers.
+    /// 0 for a request; for a reply, the number of the request that it answers.
     pub number: u32,
-    /// Where the message stands in the heap.
+    /// The address of the message in the heap.
     pub addr: u64,
-    /// How many stores had been made on that heap before it was submitted.
+    /// How many stores were made on that heap before the submission.
     pub after: u64,
 }
 
 /// Why a call isn't accepted.
 #[derive(Clone, Copy, PartialEq, Eq)]
 pub enum AcceptFault {
-    /// As many calls stand as may.
+    /// `MAX_CALLS` (64) calls are pending.
     Standing,
     /// The link has failed.
     Ended,
-    /// No memory was found.
+    /// Out of memory.
     Memory,
 }
 
@@ -38,26 +38,26 @@ impl From<Memory> for AcceptFault {
     }
 }
 
-/// What a sending comes to.
+/// The result of a send.
 #[derive(Clone, Copy, PartialEq, Eq)]
 pub enum Sending {
     /// No call is ready.
     Nothing,
-    /// The frame of the call of this number was handed over.
+    /// The frame of the call with this number was sent.
     Sent { seq: u32 },
     /// The link failed.
     Failed,
-    /// No memory was found, and the call stands where it stood.
+    /// Out of memory. The call stays ready.
     Memory,
 }
 
-/// What a drain comes to.
+/// The result of a drain.
 #[derive(Clone, Copy, PartialEq, Eq)]
 pub enum Drained {
-    /// No call can go on.
+    /// No call can advance.
     Done,
     /// The link failed.
     Failed,
-    /// No memory was found for a frame. The turns and the sendings before it stand.
+    /// Out of memory for a frame. Earlier turns and sends are kept.
     Memory,
 }

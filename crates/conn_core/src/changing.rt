@@ -1,4 +1,4 @@
-//! Changes of the chain, and of the steps that put the policies of its engines there.
+//! Changes of the chain, and of the list of operations that set the policies of its engines.
 
 ghost use Rattle.std.specs.Prelude.{◌≡◌, ◌≢◌, ◌+◌, ◌<◌, ◌≤◌, ◌^◌, ℕ, All, List, IfErr, IsSomeAnd, OnErr, OnOk, insert, length, remove, set, vec_capacity};
 ghost use Rattle.engine_core.specs.Chains.{Refuses};
@@ -15,7 +15,7 @@ use engine_core::{Op, Policy};
 use mrpc_table::{Memory, Name};
 use std::alloc::Global;
 
-// Makes room for a step of an operator, for so many records, and for one more place of a step.
+// Reserves capacity for an operation, for `records` records, and for one more operation index.
 pub(crate) fn reserve(
     history: &mut History,
     steps: &mut Vec<usize>,
@@ -34,8 +34,9 @@ pub(crate) fn reserve(
     Ok(steps.reserve(1)?)
 }
 
-// Takes a step of an operator, of this place among the steps, at a moment. `steps` has the places of the steps that
-// put their policies into the engines, by position, and room for one more. After any fault both are as before.
+// Applies an operation to the chain at a timestamp; `place` is its index among the operations. `steps` has, by
+// position, the index of the operation that set each engine's policy, and capacity for one more. After an error
+// both are unchanged.
 pub(crate) fn change(
     alloc: Global,
     chain: &mut Chain,
@@ -158,7 +159,7 @@ fn upgrade(
     Ok(())
 }
 
-// The position of the engine of a name, or the number of engines where there is none.
+// The position of the engine with a name, or the number of engines if there is none.
 fn place_of(chain: &Chain, name: &Name) -> usize
     ensures { result ≡ place_in name.now (chain_of chain.now).entries }
 {
@@ -170,7 +171,7 @@ fn place_of(chain: &Chain, name: &Name) -> usize
     chain.engines() as usize
 }
 
-// Puts the place of a step at a position, for which there is room.
+// Inserts the index of an operation at a position. There is capacity for it.
 fn put(steps: &mut Vec<usize>, at: usize, place: usize)
     requires at { at ≤ length steps.old.items }
     requires room { length steps.old.items < vec_capacity steps.old }

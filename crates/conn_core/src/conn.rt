@@ -25,28 +25,28 @@ use std::alloc::Global;
 use std::marker::Model;
 use wire_encode::Output;
 
-// The most records that a call which stands may still have: one of each engine, and its fate.
+// The most records that a pending call can still need: one for each engine, and its fate.
 const RECORDS: usize = MAX_ENGINES + 1;
 
-/// A connection, which one thread holds by value. Contracts see it as `Connection` of `specs/Connections.antt`.
+/// A connection, which one thread owns. Contracts see it as `Connection` of `specs/Connections.antt`.
 pub struct Conn<'t> {
     conn: u32,
     table: &'t Table,
     limit: u64,
     chain: Chain,
-    // The steps that put their policies into the engines, by position.
+    // By position, the index of the operation that set each engine's policy.
     steps: Vec<usize>,
     history: History,
     // How many calls were accepted.
     accepted: u32,
     moment: u64,
     ended: bool,
-    // Room for an encoding, and for a frame.
+    // Buffers that are reused for each encoding and each frame.
     payload: Output,
     frame: Bytes,
 }
 
-// By hand, so that a drop is one call where it is needed, and not a drop of each part.
+// By hand, so that each drop is one call, and not a drop of every field.
 impl<'t> Drop for Conn<'t> {
     fn drop(self) {
         let Conn {
@@ -96,8 +96,8 @@ impl<'t> Conn<'t> {
     ghost use Rattle.conn_core.specs.Kept.{PassesBy};
     ghost use Rattle.conn_core.specs.Steps.{Accepts, DrawsTickets, FailsInDrain, FailsToSend, Hands, IfPolicy, OnSent, Reads, Sends, Steps, parts, redactions};
 
-    /// A connection without a call, of this number, whose moment is 0 and whose chain is empty. All its calls
-    /// are judged and encoded by this table, and each is taken by at most `limit` loads, 1 to 16384.
+    /// A connection without calls, with this number, timestamp 0 and an empty chain. `table` is used to check and
+    /// encode all its calls. Each call is copied by at most `limit` loads, 1 to 16384.
     pub fn open(alloc: Global, conn: u32, table: &'t Table, limit: u64) -> Result<Conn<'t>, Memory>
         requires valid { IsValid table.now }
         requires least_limit { 1 ≤ limit }
@@ -128,16 +128,16 @@ impl<'t> Conn<'t> {
         })
     }
 
-    /// A law; it does nothing. What holds of each connection: its history is legal, its calls stand at places, and the
-    /// chain, the levels and the marks by which they are judged are those that the history makes.
+    /// A law; it does nothing. The invariant of a connection: its history is legal and its calls are at legal
+    /// positions. Its chain, levels and marks are those that follow from the history.
     pub fn is_connection(&self)
         ensures { IsConnection self.now }
     {
         let _ = &self.chain;
     }
 
-    /// A law; it does nothing. Three numbers of a connection are no larger than its history is long: at most so many
-    /// calls were accepted and so many policies attached, and none was upgraded more often.
+    /// A law; it does nothing. Three counters of a connection are at most the number of its events: accepted calls,
+    /// attached policies, and the version of each policy.
     pub fn numbers_are_few(&self)
         ensures calls { length (taken (behind self.now)) ≤ length self.now.happenings }
         ensures attachments { self.now.chain.attached ≤ length self.now.happenings }
@@ -148,9 +148,11 @@ impl<'t> Conn<'t> {
 
     // ---- calls
 
-    /// Accepts what an application submits: numbers the call, copies its message, and has it stand at the front of the
-    /// chain. A malformed call is refused at once. Before any load, `Standing` comes exactly where 64 calls stand, and
-    /// else `Ended` exactly where the link has failed. After `Memory` all is as before but for the loads.
+    /// Accepts a submission: assigns the call its number, copies its message, and queues it at position 0 of the
+    /// chain. A malformed call is refused at once.
+    ///
+    /// Checked before any load: `Standing` exactly if 64 calls are pending; otherwise `Ended` exactly if the link has
+    /// failed. After `Memory` the connection is unchanged, but words may have been loaded.
     pub fn accept<W: Words>(
         &mut self,
         alloc: Global,
@@ -169,7 +171,7 @@ impl<'t> Conn<'t> {
         ensures as_before { OnErr result (self.new ≡ self.old) }
         ensures same { IsSame self.old self.new }
 
-        // Whatever the answer is, nothing becomes of the heap, or room is made and there are these loads more.
+        // Whatever the result, the heap's reader is unchanged, or it reserved memory and then made these loads.
         ensures size { W.size words.new ≡ W.size words.old }
         ensures adds { W.loads words.new ≡ W.loads words.old ++ since (W.loads words.old) (W.loads words.new) }
         ensures reads { Reads W.after_room W.after_load words.old (since (W.loads words.old) (W.loads words.new))
@@ -194,8 +196,7 @@ impl<'t> Conn<'t> {
         Ok(seq)
     }
 
-    /// Records what an application submitted while 64 calls stood, and which therefore wasn't accepted. After `Memory`
-    /// all is as before.
+    /// Records a submission that is refused because 64 calls are pending. `Memory` changes nothing.
     pub fn turn_away(&mut self, ask: Ask) -> Result<(), Memory>
         requires { length self.old.chain.calls ≡ MAX_CALLS }
         ensures away { OnOk result (Steps self.old (turns_away ask.method ask.number ask.addr) self.new) }
@@ -215,7 +216,7 @@ impl<'t> Conn<'t> {
 
     // ---- operators and the clock
 
-    /// Takes a step of an operator, and records it, unless the chain refuses it. After `Memory` all is as before.
+    /// Applies an operation and records it, unless the chain rejects it. `Memory` changes nothing.
     pub fn operate(&mut self, alloc: Global, step: Op) -> Result<(), ChainFault>
         requires ranges { IfPolicy step IsPolicy }
         requires attachments { self.old.chain.attached + 1 < 2 ^ 32 }
@@ -246,8 +247,8 @@ impl<'t> Conn<'t> {
         Ok(())
     }
 
-    /// Shows the connection a moment, in milliseconds, and records it exactly where it is greater than the last. After
-    /// `Memory` all is as before.
+    /// Advances the connection's clock to a timestamp in milliseconds. Records the timestamp exactly if it is later
+    /// than the last one. `Memory` changes nothing.
     pub fn clock(&mut self, now: u64) -> Result<(), Memory>
         ensures shown { OnOk result (Steps self.old (shows now) self.new) }
         ensures as_before { OnErr result (self.new ≡ self.old) }
@@ -266,9 +267,9 @@ impl<'t> Conn<'t> {
         Ok(())
     }
 
-    // ---- turns and sendings
+    // ---- turns and sends
 
-    /// The engine at a position has a turn with the first call there. It takes no memory.
+    /// The engine at a position has a turn with the first call there. Never allocates.
     pub fn turn<Q: Tickets>(&mut self, at: u32, tickets: &mut Q) -> Turned
         requires at { at < length self.old.chain.engines }
         requires known { All (λ e. KnowsTenantOf (Q.knows tickets.old) e.entry.policy) self.old.chain.engines }
@@ -292,8 +293,8 @@ impl<'t> Conn<'t> {
         turned
     }
 
-    // Has the first call at a position go on where it passes the engine there and nothing is to be noted of it, which is a
-    // turn. Where it answers false all is as before, and a turn decides.
+    // Advances the first call at a position if it passes the engine there and nothing is to be noted, which is a
+    // turn. If it returns false, nothing has changed, and `turn` decides.
     pub(crate) fn pass_unnoted(&mut self, at: u32) -> bool
         requires at { at < length self.old.chain.engines }
         ensures passed { OnTrue result (PassesBy at self.old self.new) }
@@ -309,8 +310,8 @@ impl<'t> Conn<'t> {
         passed
     }
 
-    /// Has the engines take turns, from the first on, until no call can go on, as a drain does before it sends. Behind a
-    /// turn that cleared fields from a call it begins again at the first engine. It takes no memory.
+    /// Runs each engine in order until no call can advance, as a drain does before it sends. After a turn that clears
+    /// fields it starts over at the first engine. Never allocates.
     pub fn judge<Q: Tickets>(&mut self, tickets: &mut Q)
         requires known { All (λ e. KnowsTenantOf (Q.knows tickets.old) e.entry.policy) self.old.chain.engines }
         ensures judged { Passes (under self.old) 0 (course self.old) (course self.new) }
@@ -322,9 +323,9 @@ impl<'t> Conn<'t> {
         self.is_connection();
     }
 
-    /// Encodes the first call that is ready and hands its frame to a link. `Nothing` comes exactly where no call is
-    /// ready, so `Failed` and `Memory` only where one is. Where the link fails, the connection is at its end, as after
-    /// `fail`. After `Memory` the call stands where it stood.
+    /// Encodes the first ready call and sends its frame. Returns `Nothing` exactly if no call is ready, so `Failed`
+    /// and `Memory` only if one is. If the link fails, the connection ends, as after `fail`. After `Memory` the
+    /// call is still ready.
     pub fn send_ready<L: Link>(&mut self, link: &mut L) -> Sending
         ensures nothing { (result ≡ Sending.Nothing)
             ↔ (first_at (length self.old.chain.engines) self.old.chain.row ≡ None) }
@@ -369,9 +370,9 @@ impl<'t> Conn<'t> {
         }
     }
 
-    /// Has the engines take turns, from the first on, until no call can go on, and then sends all calls that are ready.
-    /// Behind a turn that cleared fields from a call it begins again at the first engine. After `Memory` and `Failed`,
-    /// which come only where a call is ready, the turns and sendings before it stand.
+    /// Runs each engine in order until no call can advance, then sends all ready calls. After a turn that clears
+    /// fields it starts over at the first engine. `Memory` and `Failed`, returned only if a call is ready, keep the
+    /// turns and sends made so far.
     pub fn drain<Q: Tickets, L: Link>(&mut self, tickets: &mut Q, link: &mut L) -> Drained
         requires known { All (λ e. KnowsTenantOf (Q.knows tickets.old) e.entry.policy) self.old.chain.engines }
         ensures done { result ≡ Drained.Done → Drains (under self.old) (course self.old) (course self.new) }
@@ -401,7 +402,7 @@ impl<'t> Conn<'t> {
         drained
     }
 
-    /// Ends the connection since its link failed: the calls that stand are refused, in order. It takes no memory.
+    /// Ends the connection after its link failed: refuses the pending calls, in order. Never allocates.
     pub fn fail(&mut self)
         ensures failed { Steps self.old fails self.new }
         ensures same { IsSame self.old self.new }
@@ -413,7 +414,7 @@ impl<'t> Conn<'t> {
         self.ended = true;
     }
 
-    // ---- what has become of it
+    // ---- state
 
     /// The number of the connection.
     pub fn number(&self) -> u32
@@ -422,14 +423,14 @@ impl<'t> Conn<'t> {
         self.conn
     }
 
-    /// What has happened, in order.
+    /// The events so far, in order.
     pub fn history(&self) -> &History
         ensures { result.now.happenings ≡ self.now.happenings }
     {
         &self.history
     }
 
-    /// The chain, with the calls that stand on it.
+    /// The chain with the pending calls.
     pub fn chain(&self) -> &Chain
         ensures { result.now ≡ self.now.chain }
     {

@@ -1,4 +1,4 @@
-//! What a drain is made of: turns and sendings, one after another.
+//! The parts of a drain: turns and sends.
 
 ghost use Rattle.std.specs.Prelude.{◌≡◌, ◌≢◌, ◌<◌, ℕ, All, None, length};
 ghost use Rattle.std.specs.Bool.{OnFalse, OnTrue};
@@ -16,8 +16,8 @@ use crate::conn::Conn;
 use chain_upgrade::Turned;
 use mrpc_base::{Link, Tickets};
 
-// Has the engines take turns, from the first on, until no call can go on. Behind a turn that cleared fields from a
-// call it begins again at the first engine.
+// Runs each engine in order until no call can advance. After a turn that clears fields it starts over at the
+// first engine.
 pub(crate) fn pass_all<Q: Tickets>(conn: &mut Conn, tickets: &mut Q)
     requires { All (λ e. KnowsTenantOf (Q.knows tickets.old) e.entry.policy) conn.old.chain.engines }
     ensures passes { Passes (under conn.old) 0 (course conn.old) (course conn.new) }
@@ -36,8 +36,8 @@ pub(crate) fn pass_all<Q: Tickets>(conn: &mut Conn, tickets: &mut Q)
     conn.is_connection();
 }
 
-// Has an engine take turns until none can go on there, or until it has cleared fields from a call. Answers whether none
-// can go on there.
+// Runs an engine until no call can advance there or a turn clears fields. Returns true if no call can advance
+// there.
 fn turns_at<Q: Tickets>(conn: &mut Conn, at: u32, tickets: &mut Q) -> bool
     requires at { at < length conn.old.chain.engines }
     requires known { All (λ e. KnowsTenantOf (Q.knows tickets.old) e.entry.policy) conn.old.chain.engines }
@@ -61,7 +61,7 @@ fn turns_at<Q: Tickets>(conn: &mut Conn, at: u32, tickets: &mut Q) -> bool
     }
 }
 
-// Sends the calls that are ready, in order.
+// Sends the ready calls, in order.
 pub(crate) fn send_all<L: Link>(conn: &mut Conn, link: &mut L) -> Drained
     ensures done { result ≡ Drained.Done → SendsSome (under conn.old) (course conn.old) (course conn.new) }
     ensures none_ready { result ≡ Drained.Done

@@ -1,4 +1,4 @@
-//! How a call is handed to a link, and leaves its chain.
+//! How a call is sent, and leaves its chain.
 
 ghost use Rattle.std.specs.Prelude.{◌≡◌, ◌≢◌, ◌<◌, ◌≤◌, ◌++◌, ◌∷◌, [], None, OnOk, length};
 ghost use Rattle.mrpc_base.specs.Faults.{HasCause};
@@ -17,7 +17,7 @@ use mrpc_base::{Handed, Link};
 use mrpc_table::{Bytes, Call, Memory, Sort, Table};
 use wire_encode::{Output, encode_into};
 
-// Encodes a call into `payload`, and hands its frame, which is put into `bytes`, to a link.
+// Encodes a call into `payload`, writes its frame into `bytes`, and sends the frame.
 pub(crate) fn hand<L: Link>(
     payload: &mut Output,
     bytes: &mut Bytes,
@@ -44,7 +44,7 @@ pub(crate) fn hand<L: Link>(
     }
 }
 
-// The frame of a call, put into `bytes`. The call's encoding is left in `payload`.
+// Writes the frame of a call into `bytes`, and leaves the call's encoding in `payload`.
 fn frame_for(
     payload: &mut Output,
     bytes: &mut Bytes,
@@ -70,7 +70,7 @@ fn frame_for(
     )
 }
 
-// The number in the frame of a call: a request's own, and that of the request which a reply answers.
+// The number in a call's frame: a request's own, and for a reply that of the request it answers.
 fn number_for(call: &Call) -> u32
     ensures { result ≡ number_in_frame call.now }
 {
@@ -81,8 +81,8 @@ fn number_for(call: &Call) -> u32
     }
 }
 
-// Takes the first call that is ready from a chain, and records that it was sent, in a frame of so many bytes. It
-// answers the number of the call, and takes no memory.
+// Removes the first ready call from a chain and records that it was sent, in a frame of `bytes` bytes. Returns
+// the number of the call. Never allocates.
 pub(crate) fn leave(chain: &mut Chain, history: &mut History, bytes: u64) -> u32
     requires ready { first_at (length chain.old.engines) chain.old.row ≢ None }
     requires room { 0 < history.old.room }

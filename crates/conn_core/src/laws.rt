@@ -10,7 +10,7 @@ ghost use Rattle.conn_core.specs.Connections.{Connection, behind};
 ghost use Rattle.conn_core.specs.Steps.{Accepts};
 ghost use Rattle.conn_core.specs.declared.answers.Ask.{Ask};
 
-/// The loads of a connection's calls once it goes on: an acceptance adds its own behind them, and no other step and no
+/// The loads of a connection's accepted calls. An acceptance appends its own loads; no other transition and no
 /// drain adds any.
 pub fn loads_go_on()
     ensures accepted { (H seq : ℕ) (ask : Ask) (own loads : Loads) (before after : Connection)

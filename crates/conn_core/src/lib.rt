@@ -1,13 +1,14 @@
-//! A connection: calls are accepted on it, judged by its chain of policies while operators change the chain, and sent.
+//! A connection: it accepts calls, judges them by its chain of policies while operators change the chain, and
+//! sends them.
 //!
-//! A [`Conn`] is what one thread holds by value. It copies a call's arguments once into private memory, keeps the calls
-//! that stand on the chain, and records everything that happens. Its calls are events of `call_history`'s relation
-//! `Comes`, none, one or many, as each clause says. `specs/Connections.antt` says what contracts see of a connection and
-//! what holds of each; `specs/Steps.antt` what the answers say of a step.
+//! One thread owns a [`Conn`]. It copies a call's arguments once into private memory, keeps the pending calls on
+//! the chain, and records every event. Each of its calls makes transitions in the sense of `call_history`'s
+//! relation `Comes`: none, one or many, as the clauses state. `specs/Connections.antt` defines what contracts see
+//! of a connection and its invariant; `specs/Steps.antt` what the results of its calls mean.
 //!
-//! It stands on the chain (`chain_upgrade`), on histories (`call_history`), on the bounded reader (`graph_copy`) and on
-//! the encoder. The layers above use one contract: the history of a connection is legal, and what its calls hand to a
-//! link are the frames that they add to it.
+//! The crate uses the chain (`chain_upgrade`), histories (`call_history`), the bounded reader (`graph_copy`) and
+//! the encoder (`wire_encode`). The layers above rely on one contract: the history of a connection is legal, and
+//! the frames that its calls send on a link are the frames that they add to the history.
 #![tactic(auto)]
 
 mod answers;

@@ -13,7 +13,8 @@ use call_history::{History, Record, Refusal};
 use chain_upgrade::Turned;
 use engine_core::{CallRow, Noted, Why};
 
-// Records what came of a turn of an engine of this version, whose policy the step at a place put there.
+// Records the outcome of a turn of an engine with this version; `step` is the index of the operation that set
+// its policy.
 pub(crate) fn record_turn(history: &mut History, step: usize, version: u32, turned: Turned)
     requires step { step < length history.old.steps }
     requires room { OnTurn turned (λ seq outcome. records_in outcome ≤ history.old.room) }
@@ -36,7 +37,7 @@ pub(crate) fn record_turn(history: &mut History, step: usize, version: u32, turn
     }
 }
 
-// Records a note of a call by the engine whose policy the step at a place put there.
+// Records a note of a call by an engine; `step` is the index of the operation that set its policy.
 fn record_note(history: &mut History, step: usize, seq: u32, noted: Noted)
     requires step { step < length history.old.steps }
     requires room { records_of noted ≤ history.old.room }
@@ -58,7 +59,7 @@ fn record_note(history: &mut History, step: usize, seq: u32, noted: Noted)
     }
 }
 
-// A refusal by an engine, as it is kept.
+// A refusal by an engine, as it is stored.
 fn refusal(step: usize, version: u32, why: Why) -> Refusal
     ensures cause { (steps : List Op) (e : Entry) → PutsIn (step_at steps step) e → e.version ≡ version
         → cause_told_by steps result ≡ cause_of e why }
@@ -76,7 +77,7 @@ fn refusal(step: usize, version: u32, why: Why) -> Refusal
     }
 }
 
-// Records that calls are refused since a link failed.
+// Records that a failed link refuses these calls.
 pub(crate) fn refuse_all(history: &mut History, calls: &CallRow)
     requires room { length calls.now ≤ history.old.room }
     ensures steps { history.new.steps ≡ history.old.steps }

@@ -1,4 +1,4 @@
-//! What is taken of a submission, and how its call comes to stand.
+//! How a submission is copied, and how its call becomes pending.
 
 ghost use Rattle.std.specs.Prelude.{◌≡◌, ◌<◌, ◌≤◌, ◌+◌, ◌++◌, ◌∷◌, [], ℕ, All, IfOk, IfSome, None, length};
 ghost use Rattle.mrpc_table.specs.Valid.{IsValid};
@@ -19,15 +19,15 @@ use mrpc_base::Words;
 use mrpc_table::{Call, Memory, Table};
 use std::alloc::Global;
 
-// What was taken of a submission: the call as it is recorded and, where it has a copy, its form.
+// A copied submission: the call as it is recorded and, if it has a copy, its form.
 #[derive(Drop)]
 pub(crate) struct Submission {
     pub call: Taken,
     pub form: Option<Call>,
 }
 
-// Takes the message of a submission from a heap, by at most `limit` loads. Where the table lacks the method there is
-// none.
+// Copies the message of a submission from a heap, by at most `limit` loads. If the table lacks the method, loads
+// nothing.
 pub(crate) fn take<W: Words>(
     alloc: Global,
     words: &mut W,
@@ -63,7 +63,7 @@ pub(crate) fn take<W: Words>(
     taken_by(alloc, conn, seq, ask, answer)
 }
 
-// What is taken where the table lacks the method.
+// A submission whose method the table lacks.
 fn lacks_method(seq: u32, ask: Ask) -> Submission
     ensures asked { IsAsked seq ask result.call }
     ensures copy { result.call.copy ≡ TookCopy.Malformed Reason.NoMethod 0 ask.method }
@@ -81,7 +81,7 @@ fn lacks_method(seq: u32, ask: Ask) -> Submission
     }
 }
 
-// What is taken by a copy's answer. The recorded copy and the form are two trees.
+// The submission for a result of the copy. The recorded copy and the form are two separate trees.
 fn taken_by(
     alloc: Global,
     conn: u32,
@@ -141,7 +141,7 @@ fn call_of(seq: u32, ask: Ask, count: u64, copy: TookCopy) -> Taken
     }
 }
 
-// Records a call that is accepted, and has it stand, or be refused where it is malformed. It takes no memory.
+// Records an accepted call. It becomes pending, or is refused if it is malformed. Never allocates.
 pub(crate) fn stand(chain: &mut Chain, history: &mut History, submission: Submission)
     requires few { length chain.old.calls < MAX_CALLS }
     requires greater { IfSome submission.form (λ form. All (λ s. s.call.seq < form.seq) chain.old.calls) }
@@ -163,7 +163,7 @@ pub(crate) fn stand(chain: &mut Chain, history: &mut History, submission: Submis
     }
 }
 
-// Puts a call behind the others, of which there are fewer than may stand.
+// Appends a call to the others, of which there are fewer than `MAX_CALLS`.
 fn push(chain: &mut Chain, call: Standing)
     requires few { length chain.old.calls < MAX_CALLS }
     requires unmarked { call.marks ≡ [] }

@@ -1,4 +1,4 @@
--- What happens on a connection can be told under its table.
+-- Each event of a connection can be written under its table.
 use Rattle.std.proofs.Common.{◌≡◌, ℕ, zero, suc, List, [], ◌∷◌, ◌++◌, reverse, Some, subst}
 use Rattle.std.proofs.lemmas.List.{reverse-append}
 use Rattle.std.specs.Prelude.{slice_get}
@@ -40,7 +40,7 @@ module _ (P : Happening → Type 0) where
   all-front [] back all = all
   all-front (x ∷ front) back all = all-front front back all.1
 
-  -- what holds of all, told the other way round, holds of the one at a place
+  -- what holds for all elements of the reversed list holds for the element at an index
   pub reversed-at : (xs : List Happening) (place : ℕ) (x : Happening) → AllByRecursion P (reverse xs) → slice_get xs place ≡ Some x → P x
   reversed-at [] place x all at = cc
   reversed-at (y ∷ xs) zero x all at =

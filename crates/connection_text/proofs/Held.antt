@@ -1,4 +1,4 @@
--- Which call is the first at a position, and for what it is held.
+-- The first call at a position, and the level and cost at which it is held.
 use Rattle.std.proofs.Common.{◌≡◌, ◌≢◌, ℕ, zero, suc, ◌+◌, ◌<◌, ◌≤◌, ◌⊎◌, inl, inr, Bool, true, false, nat_lt, nat_le}
 use Rattle.std.proofs.Common.{List, [], ◌∷◌, All, length, map, Option, Some, None, refl, sym, ap, ◌∙◌, subst, arith}
 use Rattle.std.specs.Prelude.{◌==◌, ◌&&◌, filter, slice_get}
@@ -23,13 +23,13 @@ use Rattle.call_history.specs.Behind.{level, noted}
 use Rattle.conn_core.specs.Connections.{Connection as Calls, IsConnection, behind, course}
 use Rattle.connection_text.specs.Standing.{entry_at, held_at, held_below, held_by, holding, is_first}
 
--- an element stands at each place
+-- each index has an element
 there : {A : Type 0} (xs : List A) (place : ℕ) → suc place ≤ length xs → (x : A) × (slice_get xs place ≡ Some x)
 there [] place low = absurd (omega arith)
 there (x ∷ xs) zero low = (x, refl)
 there (x ∷ xs) (suc place) low = there xs place (omega arith)
 
--- ---- what an entry answers
+-- ---- the answer of an entry
 
 pub holds-by : (policy : Policy) (level moment : ℕ) (form : Call) (past : Past) (low cost : ℕ) → Answers policy level moment form past (hold low cost)
     → held_by policy level past ≡ Some (record { level = low; cost = cost })
@@ -76,7 +76,7 @@ holds-not (Redact clears) level moment form past free = refl
 
 -- ---- the first call at a position
 
--- how many calls stand behind a position
+-- how many calls are at later positions
 abbrev pub behind_of : ℕ → Row → ℕ
 behind_of at row = length (filter (λ call. nat_le (at + 1) call.1) row)
 
@@ -113,7 +113,7 @@ never-here at seq call row is past =
 less-or-not : (at n : ℕ) → (at < n) ⊎ (n ≤ at)
 less-or-not at n = grind arith
 
--- the first call at a position stands at the place of as many calls as stand behind it
+-- the index of the first call at a position is the number of calls at later positions
 pub record IsFirstThere (at place : ℕ) (row : Row) : Type 0 where
   pub low : behind_of at row ≤ place
   pub first : first_at at row ≡ slice_get row (behind_of at row)
@@ -213,7 +213,7 @@ module _ (c : Calls) (sound : IsConnection c) (place seq at : ℕ) (is : slice_g
   found : IsFirstThere at place c.chain.row
   found = first-there at seq (length c.chain.engines) place c.chain.row sound.standing_chain.falls is
 
-  -- the call that stands at the place
+  -- the pending call at the index
   pub standing-there : (s : StandingCall) × (slice_get c.chain.calls place ≡ Some s) × (s.call.seq ≡ seq)
   standing-there = called-at c.chain.row c.chain.calls place (seq, at) sound.standing_chain.row is
 
@@ -264,14 +264,14 @@ module _ (c : Calls) (sound : IsConnection c) (place seq at : ℕ) (is : slice_g
       ∙ (λ i. held_by e.entry.policy (sym level_is i) (noted e.entry.name (sym standing-there.2 i) (behind c)))
       ∙ ap (held_by e.entry.policy e.level) (sym note_is)
 
-  -- as the first call there meets its engine
+  -- the first call there is the one that its engine runs
   pub met-first : place ≡ behind_of at c.chain.row → first_at at c.chain.row ≡ Some (standing-there.0.call.seq, at)
   met-first here = first-is here ∙ ap (λ n. Some (n, at)) (sym standing-there.2)
 
   engine-there : at < length c.chain.engines → (e : EngineParts) × (slice_get c.chain.engines at ≡ Some e)
   engine-there low = there c.chain.engines at (omega arith)
 
-  -- what a chain answers of the first call at a position
+  -- the answer of a chain for the first call at a position
   abbrev pub Meets : ChainParts → (EngineParts → StandingCall → ℕ → Type 0) → Type 0
   Meets ch Holds = (e : EngineParts) (s : StandingCall) (moment : ℕ) → slice_get ch.engines at ≡ Some e
       → first_at at ch.row ≡ Some (s.call.seq, at) → Contains ch.calls s → Holds e s moment

@@ -1,4 +1,4 @@
--- How a call that stands is told (this project's own).
+-- The line of a pending call (this project's own).
 use Rattle.std.specs.Prelude.{ℕ, ◌==◌, ◌&&◌, nat_lt, Bool, false, List, slice_get, Option, Some, None, option_map, unwrap_or, if◌then◌else◌}
 use Rattle.std.specs.List.{flat_map}
 use Rattle.std.specs.Option.{option_and_then, option_map_or}
@@ -13,8 +13,7 @@ use Rattle.call_history.specs.Events.{Course}
 use Rattle.audit_text.specs.Lines.{stands_line, transport}
 use Rattle.audit_text.specs.declared.holding.Holding.{Holding}
 
--- A call of which an entry has noted nothing is held by one that charges calls and holds those that it can't charge,
--- where the level is below the cost.
+-- A rate policy that holds calls holds a call of which its entry has noted nothing, if the level is below the cost.
 abbrev pub held_below : RatePolicy → (level : ℕ) → Option Holding
 held_below rate level =
     if rate.hold && nat_lt level rate.per then Some (record { level = level; cost = rate.per }) else None
@@ -30,21 +29,21 @@ is_first c call = option_map_or (λ first. first.0 == call.0) (first_at call.1 c
 abbrev pub entry_at : Course → (position : ℕ) → Option Entry
 entry_at c position = slice_get (chain c.past).entries position
 
--- the name of the queue at a position: that of its engine, or of transport behind the last
+-- the name of the queue at a position: the engine's, or the transport queue's after the last engine
 abbrev pub queue_name : Course → (position : ℕ) → List ℕ
 queue_name c position = unwrap_or (option_map (λ e. e.name) (entry_at c position)) transport
 
 abbrev pub held_at : Course → ℕ × ℕ → Entry → Option Holding
 held_at c call e = held_by e.policy (level e.name c.past) (noted e.name call.0 c.past)
 
--- at which level and cost a call is held, if it is
+-- the level and cost at which a call is held; none if it isn't held
 abbrev pub holding : Course → ℕ × ℕ → Option Holding
 holding c call = if is_first c call then option_and_then (held_at c call) (entry_at c call.1) else None
 
--- the line of a call that stands, a number and a position
+-- the line of a pending call, which is a number and a position
 abbrev pub told_call : (conn : ℕ) → Course → ℕ × ℕ → List ℕ
 told_call conn c call = stands_line conn call.0 call.1 (queue_name c call.1) (holding c call)
 
--- the lines of the calls that stand on a connection, by ascending number of the call
+-- the lines of a connection's pending calls, by ascending number of the call
 abbrev pub all_told : (conn : ℕ) → Course → List ℕ
 all_told conn c = flat_map (told_call conn c) c.row

@@ -1,4 +1,4 @@
-//! The line of what happened on a connection.
+//! The line of an event of a connection.
 
 ghost use Rattle.std.specs.Prelude.{◌≡◌, ◌<◌, ◌++◌, OnOk, Some, length, slice_get};
 ghost use Rattle.mrpc_table.specs.Valid.{IsValid};
@@ -10,8 +10,8 @@ use conn_core::Conn;
 use mrpc_table::{Bytes, Memory, Table};
 use wire_encode::Output;
 
-/// Appends the line of what happened on a connection at a place of its history, under the connection's table. A copy is
-/// encoded into `encoding`, whose room is used again. The only error is `Memory`.
+/// Appends the line of the event at an index of a connection's history, under the connection's table. A copy is encoded
+/// into `encoding`, whose capacity is reused. The only error is `Memory`.
 pub fn append_happened(
     out: &mut Bytes,
     encoding: &mut Output,

@@ -1,8 +1,8 @@
-//! The lines of a connection: of what happened on it, and of the calls that stand (this project's own format).
+//! The audit lines of a connection: of its events and of its pending calls (this project's own format).
 //!
-//! `specs/Standing.antt` says which line tells a call that stands: at which position of the chain, in the queue of which
-//! engine, and at which level and cost it is held. It stands on connections and on the audit text. The layers above use
-//! one contract: what is appended for a happening or a call is its line.
+//! `specs/Standing.antt` defines the line of a pending call: the position of the chain, the engine whose queue has the
+//! call, and the level and cost at which it is held. The crate depends on connections and on the audit text. Its one
+//! contract for the layers above: what is appended for an event or a call is its line.
 #![tactic(auto)]
 
 mod happened;

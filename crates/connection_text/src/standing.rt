@@ -1,4 +1,4 @@
-//! The line of a call that stands.
+//! The line of a pending call.
 
 ghost use Rattle.std.specs.Prelude.{◌≡◌, ◌<◌, ◌++◌, ℕ, OnOk, Some, length, slice_get};
 ghost use Rattle.conn_core.specs.Connections.{course};
@@ -8,10 +8,10 @@ use audit_text::{Holding, append_stands_line};
 use conn_core::Conn;
 use mrpc_table::{Bytes, Memory};
 
-// The name of the queue for transport.
+// The name of the transport queue.
 const TRANSPORT: &[u8] = b"-";
 
-/// Appends the line of the call at a place among those that stand, by ascending number, from 0. The only error is
+/// Appends the line of the pending call at an index, counted from 0 by ascending number of the call. The only error is
 /// `Memory`.
 pub fn append_standing(out: &mut Bytes, calls: &Conn<'_>, place: u32) -> Result<(), Memory>
     requires { place < length calls.now.chain.row }
@@ -30,7 +30,8 @@ pub fn append_standing(out: &mut Bytes, calls: &Conn<'_>, place: u32) -> Result<
     append_stands_line(out, calls.number(), seq, position, TRANSPORT, None)
 }
 
-// At which level and cost the call at a place is held by the engine at its position, if it is the first there and held.
+// Returns the level and cost at which the engine at this position holds the call at an index; `None` unless the call is
+// the first at its position and held.
 fn holding(calls: &Conn<'_>, place: u32, position: u32) -> Option<Holding>
     requires position { position < length calls.now.chain.engines }
     ensures { (seq : ℕ) → slice_get calls.now.chain.row place ≡ Some (seq, position)
@@ -38,7 +39,7 @@ fn holding(calls: &Conn<'_>, place: u32, position: u32) -> Option<Holding>
 {
     calls.is_connection();
     let chain = calls.chain();
-    // Calls of smaller numbers stand at this position or behind it, and no others.
+    // The pending calls with smaller numbers are at this position or a later one; no other call is.
     if place != chain.cut(position + 1) {
         return None;
     }

@@ -1,4 +1,4 @@
--- How views of frames end, in the words of `decode`.
+-- How views of frames end, in the terms of `decode`.
 use Rattle.std.proofs.Common.{ℕ, List, Option}
 use Rattle.mrpc_table.specs.declared.table.Table.{Table}
 use Rattle.frame_transport.specs.declared.format.Frame.{Frame}
@@ -11,7 +11,7 @@ use Rattle.decode_laws.specs.Decodings.{IsDecodable, IsDecodeFault, fault_of_tex
 use Rattle.decode_laws.proofs.Lines.{lines_of}
 use Rattle.decode_laws.proofs.Texts.{holds_there, fault_there}
 
--- behind frames with lines a fault is that of `decode`
+-- a fault after frames with lines is the fault of `decode`
 abbrev pub CutLaw : Type 0
 CutLaw = (T : Table) (stream lines word : List ℕ) (to place : ℕ) (fs : List Frame) → Stands stream 0 to fs
     → AreLinesOf T fs lines → IsFaultHere T to (drop to stream) place word → IsCutAt T 0 stream lines place word

@@ -1,4 +1,4 @@
--- The faults of a stream in the words of `decode`.
+-- The faults of a stream in the terms of `decode`.
 use Rattle.std.proofs.Common.{◌≡◌, ℕ, ◌+◌, List, [], ◌∷◌, ◌++◌, length, drop, Option, Some, None, sym, ap, subst, ◌∙◌, append_assoc, append-nil}
 use Rattle.std.proofs.lemmas.List.Elements.{All-append, All-nil, All-cons}
 use Rattle.std.proofs.lemmas.List.Concat.{flat_map-append}
@@ -14,12 +14,12 @@ use Rattle.frame_reading.specs.Faults.{IsFaultIn, no_method, in_payload, IsFault
 use Rattle.frame_reading.specs.Faults.{IsFaultOfFront, in_header as header_front, too_short, IsFaultHere, of_front, of_frame}
 use Rattle.frame_reading.specs.Walks.{Stands}
 
--- what holds of frames that stand one behind another
+-- laws of consecutive frames
 abbrev pub PlaceLaw : Type 0
 PlaceLaw = (place : ℕ) (frames others : List Frame) → StandFrom place frames
     → StandFrom (place + length (joined frames)) others → StandFrom place (frames ++ others)
 
--- the fault of the same bytes at the same place
+-- the fault of the same bytes at the same offset
 fault_at : (place other : ℕ) (bytes : List ℕ) (fault : Option FeedFault) → place ≡ other → HasFault place bytes fault → HasFault other bytes fault
 fault_at place other bytes fault p h = subst (λ (n : ℕ). HasFault n bytes fault) p h
 
@@ -54,7 +54,7 @@ joined-more fs f more =
     ∙ ap (λ (bs : List ℕ). (joined fs ++ bs) ++ more) (sym (append-nil (bytes_of f)))
     ∙ ap (λ (bs : List ℕ). bs ++ more) (sym (flat_map-append bytes_of fs (f ∷ [])))
 
--- the frames and the one behind them stand in front
+-- the frames and the next one are a prefix
 in_front : PlaceLaw → (stream : List ℕ) (to : ℕ) (fs : List Frame) (f : Frame) → Stands stream 0 to fs → StandsAt to (drop to stream) f → StandInFront 0 stream (fs ++ f ∷ [])
 in_front law stream to fs f x h = record {
   more = drop (16 + length f.payload) (drop to stream);

@@ -1,4 +1,4 @@
--- Frames that are shown have their lines.
+-- Frames that are viewed have their lines.
 use Rattle.std.proofs.Common.{ℕ, List, [], ◌∷◌, ◌++◌, refl}
 use Rattle.mrpc_table.specs.Node.{Node}
 use Rattle.mrpc_table.specs.declared.table.Table.{Table}
@@ -18,12 +18,12 @@ pub content_has_line : (T : Table) (f : Frame) (content : Content) → IsContent
 content_has_line T f Hello h = (hello_line f, line_of_hello h refl)
 content_has_line T f (Call message tree) h = (call_line f (encoding T (message_in T f) tree), call_has_line T f tree h.1)
 
--- a frame that is shown has a line
+-- a frame that has a view has a line
 line_of : (T : Table) (f : Frame) (text : List ℕ) → IsViewOf T f text → (line : List ℕ) × IsLineOf T f line
 line_of T f text (view_of_hello kind is) = (hello_line f, line_of_hello kind refl)
 line_of T f text (view_of_call t shown m is_text is) = (call_line f (encoding T (message_in T f) t), call_has_line T f t m)
 
--- and so have frames
+-- and frames that have views have lines
 pub lines_of : (T : Table) (fs : List Frame) (text : List ℕ) → AreViewsOf T fs text → (lines : List ℕ) × AreLinesOf T fs lines
 lines_of T [] text h = ([], refl)
 lines_of T (f ∷ fs) text h =

@@ -5,7 +5,7 @@ use Rattle.text_commands.specs.Decoding.{IsCutAt, IsDecoded}
 use Rattle.text_commands.specs.DecodeInput.{Holds, IsTextFault}
 use Rattle.decode_laws.specs.Decodings.{IsDecodable, IsDecodeFault, fault_of_text, fault_of_stream}
 
--- what holds of decodings
+-- laws of decodings
 pub record OnceLaw : Type 0 where
   pub parts : (text stream other : List ℕ) (T U : Table) → Holds text T stream → Holds text U other → (T ≡ U) × (stream ≡ other)
   pub text_fault : (text word spelled : List ℕ) (line at : ℕ) → IsTextFault text line word → IsTextFault text at spelled

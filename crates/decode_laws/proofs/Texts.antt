@@ -1,4 +1,4 @@
--- The text in front of a stream, in the words of `decode`.
+-- The text before a stream, in the terms of `decode`.
 use Rattle.std.proofs.Common.{ℕ, List}
 use Rattle.mrpc_table.specs.declared.table.Table.{Table}
 use Rattle.frame_reading.specs.Input.{Holds, IsFaultOfTable, IsTextFault, no_first_line, no_second_line, in_table, no_end}

@@ -1,4 +1,4 @@
-//! What holds of an input that is shown, and of its decoding.
+//! Laws of an input that is viewed, and of its decoding.
 
 ghost use Rattle.std.specs.Prelude.{◌≡◌, ◌↔◌, ℕ, List, Option, drop};
 ghost use Rattle.mrpc_table.specs.declared.table.Table.{Table};
@@ -16,8 +16,9 @@ ghost use Rattle.decode_laws.specs.Decodings.{IsDecodable, IsDecodeFault};
 use frame_transport::frames_join;
 use text_commands::one_decoding;
 
-/// What is read of an input is what `decode` reads: the same table and stream or the same fault of the text, for each
-/// frame that has contents a line, and behind frames with lines a fault at which `decode` ends.
+/// What `frame_reading` returns for an input is what `decode` reads: the same table and stream, or the same
+/// fault of the text. Each frame with content has a line of `decode`, and a fault after frames with lines is
+/// one at which `decode` ends.
 pub fn what_is_read_is_that_of_decode()
     ensures parts { (text stream : List ℕ) (T : Table) → Holds text T stream ↔ DecodeHolds text T stream }
     ensures of_text { (text word : List ℕ) (line : ℕ) → IsTextFault text line word ↔ IsDecodeTextFault text line word }
@@ -30,8 +31,9 @@ pub fn what_is_read_is_that_of_decode()
     frames_join();
 }
 
-/// Where a view of frames is cut by a fault, this is the first fault for `decode`, and where all frames are shown,
-/// `decode` tells all of them. A text has one first fault at most for `decode`, and none where all of it is told.
+/// If a fault ends a view of frames, it is the first fault for `decode`; and if all frames are viewed,
+/// `decode` prints all of them. A text has at most one first fault for `decode`, and none if it prints all of
+/// it.
 pub fn views_end_as_decode_does()
     ensures cut { (text word : List ℕ) (place : ℕ) (out out' : Option (List ℕ)) → CutsView text out out' place word
         → IsDecodeFault text place word }

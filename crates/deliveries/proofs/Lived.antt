@@ -1,4 +1,4 @@
--- Arrivals live on.
+-- The trace of arrivals is extended.
 use Rattle.std.proofs.Common.{◌≡◌, ◌≢◌, ℕ, ◌+◌, ◌*◌, ◌-◌, ◌<◌, ◌≤◌, ◌^◌, List, [], ◌∷◌, ◌++◌, length, Option, Some}
 use Rattle.std.proofs.Common.{None, refl, sym, ap, subst, ◌∙◌, arith, append-nil, length-append, option_copied, All}
 use Rattle.std.proofs.Common.{◌⊎◌, inl, inr}
@@ -40,7 +40,7 @@ few-fates life a h =
     let long : length a.lines.items ≡ length life.fates = AllZip-long IsTold life.fates a.lines.items h.told in
     let few = h.few in omega (arith, long, few)
 
--- a piece fits behind the bytes that came
+-- a piece fits after the bytes that were received
 pub few-bytes : (life : Life) (a : Arrivals) (piece : List ℕ) → StreamIsShort → HaveLived life a
     → IsPartial a.inbound.fed.bytes → a.stream ≢ Cut → length piece ≤ 2 ^ 32
     → total a.inbound.fed + length piece < 2 ^ 63
@@ -51,7 +51,7 @@ few-bytes life a piece short h partial uncut most =
     let few : length life.fates ≤ 2147483648 = few-fates life a h in
     omega (arith, stream, counted, few, most)
 
--- the stores and the blocks are few
+-- the stores and the blocks are bounded
 pub few-stores : (life : Life) (a : Arrivals) → StoresAreFew → HaveLived life a → length a.writer.stores ≤ 2 ^ 62
 few-stores life a stores h =
     let all : length (flat_map stores_of life.fates) ≤ length life.fates * (a.inbound.heap.words - 1) =
@@ -71,7 +71,7 @@ few-blocks life a h =
     let blocks : a.inbound.heap.next ≤ length life.fates + 1 = h.lives.blocks in
     omega (arith, few, blocks)
 
--- nothing came, and all but the stream's state is as before
+-- nothing was received, and all but the stream's state is unchanged
 pub fed-nothing : (life : Life) (a b : Arrivals) → HaveLived life a → b.table.now ≡ a.table.now
     → b.inbound ≡ a.inbound → b.policy ≡ a.policy → b.lines ≡ a.lines → b.writer ≡ a.writer
     → b.fault ≡ a.fault → (b.stream ≢ Cut → a.stream ≢ Cut) → (b.stream ≡ Cut → a.stream ≡ Cut)
@@ -96,7 +96,7 @@ fed-nothing life a b h table inbound policy lines writer fault uncut cut =
       few = subst (λ x. length x.items ≤ MAX_ARRIVALS) (sym lines) h.few;
     }
 
--- a piece came with which the stream has a fault
+-- a piece was received with which the stream has a fault
 pub cut-off : (life : Life) (a b : Arrivals) (piece : List ℕ) (fault : FeedFault) → HaveLived life a → fault ≢ Memory
     → (fault ≡ Memory) ⊎ Lives b.table.now (fed life piece (Some fault)) b.inbound → b.table.now ≡ a.table.now
     → b.inbound.heap ≡ a.inbound.heap → b.policy ≡ a.policy → b.lines ≡ a.lines → b.writer ≡ a.writer
@@ -119,7 +119,7 @@ cut-off life a b piece fault h not (inr lives) table heap policy lines writer cu
   },
 )
 
--- what a turn leaves as it was
+-- what a turn doesn't change
 pub record StayedSo (a b : Arrivals) : Type 0 where
   pub table : b.table.now ≡ a.table.now
   pub policy : b.policy ≡ a.policy
@@ -236,13 +236,13 @@ ended-uncut x is cut = subst IsNoCut (sym is ∙ cut) tt
 pub failed-uncut : (x : Stream) → x ≡ Failed → x ≢ Cut
 failed-uncut x is cut = subst IsNoCut (sym is ∙ cut) tt
 
--- a link whose bytes are kept gave none more
+-- a link whose bytes are unchanged received none
 pub kept-appends : (old new : Option (List ℕ)) → Keeps old new → Appends old new []
 kept-appends None new kept = tt
 kept-appends (Some xs) None kept = absurd kept
 kept-appends (Some xs) (Some ys) kept = kept ∙ sym (append-nil xs)
 
--- a heap is the same behind later stores
+-- a heap is the same after later stores
 pub same-heap : (old new : Writing) → ((first : Writing) → GoesOn first old → GoesOn first new)
     → new.heap ≡ old.heap
 same-heap old new later = (later old (record { heap = refl; stores = ([], sym (append-nil old.stores)) })).heap
@@ -253,7 +253,7 @@ appends-nothing (Some xs) = sym (append-nil xs)
 
 -- ---- held blocks
 
--- a turn that placed nothing leaves them
+-- a turn that placed nothing doesn't change them
 pub held-none : (T : Table) (p : Option AccessPolicy) (old new : Receiving) (s t : List (ℕ × ℕ)) (arrival : Arrival)
     → Turns T p old new s t arrival → arrival ≡ NoFrame → new.heap.held ≡ old.heap.held
 held-none T p old new s t arrival turns is =
@@ -274,7 +274,7 @@ held-dropped T p old new s t arrival kind method number why turns is =
     let drops : Turns T p old new s t (Dropped kind method number why) = subst (Turns T p old new s t) is turns in
     ap (λ (l : Layout). l.held) drops.0.heap
 
--- and one that placed a message holds its block behind them
+-- and one that placed a message appends its block
 pub held-arrived : (T : Table) (p : Option AccessPolicy) (old new : Receiving) (s t : List (ℕ × ℕ)) (arrival : Arrival)
     (kind method number : ℕ) (block : Block) (tree : Node) → Turns T p old new s t arrival
     → arrival ≡ Arrived kind method number block tree → new.heap.held ≡ old.heap.held ++ block ∷ []

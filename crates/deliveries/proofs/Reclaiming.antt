@@ -1,4 +1,4 @@
--- Numbers of blocks that are judged, one by one.
+-- Block numbers are judged, one by one.
 use Rattle.std.proofs.Common.{◌≡◌, ◌≢◌, inl, inr, All, ℕ, List, [], ◌∷◌, ◌++◌, refl, sym, ap, subst, ◌∙◌, append_assoc}
 use Rattle.std.proofs.Common.{IsPermutation, Result, Ok, Err, OnOk, OnErr, is_err, true, false}
 use Rattle.std.proofs.lemmas.List.Sorted.{IsPermutation-append, IsPermutation-append_comm, IsPermutation-refl, IsPermutation-trans}
@@ -8,12 +8,12 @@ use Rattle.receive_heap.specs.declared.extents.Block.{Block}
 use Rattle.deliveries.specs.Telling.{AreJudged, IsCounting, IsReclaiming, LosesEach}
 use Rattle.deliveries.specs.declared.reclaims.Reclaims.{Reclaims}
 
--- what a loop over the numbers keeps
+-- the invariant of a loop over the numbers
 abbrev pub HasJudged : Reclaims → Reclaims → List Block → List Block → Type 0
 HasJudged old new held left = (numbers back : List ℕ) → IsReclaiming numbers back old → (more : List ℕ)
     × (gained : List ℕ) × IsReclaiming (numbers ++ more) (back ++ gained) new × LosesEach gained held left
 
--- and what it keeps of each
+-- and its invariant for each number
 abbrev pub HasJudgedEach : Reclaims → Reclaims → List Block → List Block → Type 0
 HasJudgedEach old new held left = (numbers : List ℕ) → IsCounting numbers old → (more : List ℕ) × (back : List ℕ)
     × (refused : List ℕ) × IsCounting (numbers ++ more) new × (new.not_held.items ≡ old.not_held.items ++ refused)
@@ -78,7 +78,7 @@ each-refused old mid new held left number judged counts grown none numbers h =
       one-refused j.0 j.1 j.2 number held left j.5 none,
     )
 
--- the answer of the ring was that nothing came
+-- the ring returned no number
 pub each-same : (old mid new : Reclaims) (held left : List Block) → HasJudgedEach old mid held left
     → ((numbers : List ℕ) → IsCounting numbers mid → IsCounting numbers new)
     → new.not_held.items ≡ mid.not_held.items → HasJudgedEach old new held left
@@ -144,7 +144,7 @@ judged-not old mid new held left number judged counts grown numbers back h =
         (IsPermutation-append xs xs (ys ++ x ∷ []) (x ∷ ys) (IsPermutation-refl xs)
         (IsPermutation-append_comm ys (x ∷ []))))
 
--- the answer of the ring was that nothing came
+-- the ring returned no number
 pub judged-same : (old mid new : Reclaims) (held left : List Block) → HasJudged old mid held left
     → ((numbers : List ℕ) → IsCounting numbers mid → IsCounting numbers new)
     → new.not_held.items ≡ mid.not_held.items → HasJudged old new held left
@@ -159,7 +159,7 @@ judged-same old mid new held left judged counts same numbers back h =
       j.3,
     )
 
--- what holds of an answer without a fault, and of a fault
+-- what holds of a success, and of an error
 pub ok-of : {A E P : Type 0} (r : Result A E) → is_err r ≡ false → OnOk r P → P
 ok-of (Ok x) is h = h
 ok-of (Err e) is h = absurd (true≢false is)

@@ -1,4 +1,4 @@
--- The definitions on small cases, as terms.
+-- Worked by hand: the definitions on small cases, as terms.
 use Rattle.std.proofs.Common.{◌≡◌, [], ◌∷◌, None, refl}
 use Rattle.receive_heap.specs.declared.extents.Block.{Block}
 use Rattle.deliveries.specs.Telling.{LosesEach, numbers_on}
@@ -12,7 +12,7 @@ two = record { number = 2; at = 3; words = 1 }
 abbrev pub three : Block
 three = record { number = 3; at = 4; words = 4 }
 
--- the second and then the first of three blocks go
+-- the second and then the first of three blocks are removed
 lost : LosesEach (2 ∷ 1 ∷ []) (one ∷ two ∷ three ∷ []) (three ∷ [])
 lost = (
   one ∷ three ∷ [],
@@ -20,10 +20,10 @@ lost = (
   (three ∷ [], record { before = []; block = one; after = three ∷ []; was = refl; has = refl; is = refl }, refl),
 )
 
--- nothing goes for no number
+-- without numbers nothing is removed
 kept : LosesEach [] (one ∷ two ∷ []) (one ∷ two ∷ [])
 kept = refl
 
--- what was sent stands at the end of the ring while it is open, and in what it left behind that
+-- what was sent is known from the ring's end while it is open, and afterwards from its final state
 none : numbers_on None None ≡ []
 none = refl

@@ -1,4 +1,4 @@
--- What an application was told of grows.
+-- The notices of an application grow.
 use Rattle.std.proofs.Common.{◌≡◌, ℕ, ◌+◌, ◌<◌, ◌≤◌, List, [], ◌∷◌, ◌++◌, length, map, Option, Some, None, refl, sym}
 use Rattle.std.proofs.Common.{ap, subst, ◌∙◌, arith, append_assoc, append-nil, length-append, option_to_list}
 use Rattle.std.proofs.Common.{option_copied, slice_index_or, drop, Bor, IsSome, ◌↔◌}
@@ -23,7 +23,7 @@ zip-snoc R [] (b ∷ ys) x y zip last = absurd zip
 zip-snoc R (a ∷ xs) [] x y zip last = absurd zip
 zip-snoc R (a ∷ xs) (b ∷ ys) x y zip last = (zip.0, zip-snoc R xs ys x y zip.1 last)
 
--- a message is put behind those that wait
+-- a message is appended to the pending ones
 pub added : (heap : HeapId) (placed : List Delivered) (n m : Notices) (message : Delivered) → IsTelling heap placed n
     → IsMessage message → length placed + 1 < 4294967294 → m.waiting.items ≡ n.waiting.items ++ message ∷ []
     → m.owed ≡ n.owed → notices_of m ≡ notices_of n → numbers_of m ≡ numbers_of n → m.given ≡ n.given
@@ -42,7 +42,7 @@ added heap placed n m message h is few waiting owed notices numbers given ring =
   of_heap = subst (λ o. IfSome o (λ (r : Sending). r.heap ≡ heap)) (sym ring) h.of_heap;
 }
 
--- the first message that waits was given as a notice, and the number of its block is owed
+-- the notice of the first pending message was sent, and its block number is owed
 pub gave : (heap : HeapId) (placed : List Delivered) (n m : Notices) (message : Delivered) (d : Descriptor)
     → IsTelling heap placed n → n.waiting.items ≡ message ∷ m.waiting.items → n.owed ≡ None
     → m.owed ≡ Some message.block → notices_of m ≡ notices_of n ++ d ∷ [] → TellsOf message d
@@ -63,7 +63,7 @@ gave heap placed n m message d h waiting none owed notices tells numbers given o
       of_heap = of_heap;
     }
 
--- fewer notices were sent than a ring takes
+-- fewer notices were sent than a ring accepts
 pub few-sent : (heap : HeapId) (placed : List Delivered) (n : Notices) (ring : Sending) → IsTelling heap placed n
     → n.notices ≡ Some ring → length ring.sent < 4294967294
 few-sent heap placed n ring h is =
@@ -79,14 +79,14 @@ all-after : {X : Type 0} (P : X → Type 0) (xs ys : List X) → All P (xs ++ ys
 all-after P [] ys h = h
 all-after P (x ∷ xs) ys h = all-after P xs ys (All-tail P x (xs ++ ys) h)
 
--- the first message that waits is one
+-- the first pending message is a request or a reply
 pub first-is : (heap : HeapId) (placed : List Delivered) (n : Notices) (message : Delivered) (rest : List Delivered)
     → IsTelling heap placed n → n.waiting.items ≡ message ∷ rest → IsMessage message
 first-is heap placed n message rest h waiting =
     All-head IsMessage message rest (all-after IsMessage h.past (message ∷ rest)
     (subst (All IsMessage) (h.all ∙ ap (λ xs. h.past ++ xs) waiting) h.messages))
 
--- the item in front
+-- the item at index 0
 pub front-is : {X : Type 0} (xs : List X) (r : Option (Bor X)) (x : X) (n : ℕ) → (IsSome r ↔ (0 < n)) → n ≤ length xs
     → IfSome r (λ b. b.now ≡ slice_index_or xs 0 b.now) → option_copied r ≡ Some x → xs ≡ x ∷ drop 1 xs
 front-is xs None x n variant long lookup is = absurd (none-some x is)

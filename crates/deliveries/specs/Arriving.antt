@@ -1,4 +1,4 @@
--- What arrived on a connection, as its receiver and its lines tell it (this project's own).
+-- What arrived on a connection, by its receiver and its lines (this project's own).
 use Rattle.std.specs.Prelude.{◌≡◌, ◌≢◌, ◌≤◌, ◌⊎◌, List, [], ◌∷◌, ◌++◌, All, length, Option, None, IsSome, ⊤}
 use Rattle.std.specs.List.{AllZip, flat_map}
 use Rattle.std.specs.Option.{option_copied}
@@ -21,7 +21,7 @@ use Rattle.deliveries.specs.declared.arrivals.Turned.TheVariants.{Nothing, Deliv
 use Rattle.deliveries.specs.declared.arrivals.Delivered.{Delivered as Message}
 use Rattle.deliveries.specs.declared.limits.TheConstants.{MAX_ARRIVALS}
 
--- a line tells the fate of a frame
+-- a line is the fate of a frame
 abbrev pub IsTold : Fated → ArrivalLine → Type 0
 IsTold (was_dropped f policy why) (Dropped kind method number cause) =
     (f.kind ≡ kind) × (f.method ≡ method) × (f.number ≡ number) × (cause ≡ why)
@@ -34,8 +34,9 @@ abbrev pub policy_of : Fated → Option AccessPolicy
 policy_of (was_dropped f policy why) = policy
 policy_of (was_placed f policy t block placed) = policy
 
--- Arrivals have lived so: each line is the fate of a frame, in order and once, under the connection's policy, the
--- stores to the heap are those that placed the messages, and the stream is cut exactly where it has a frame fault.
+-- The arrivals have this trace. Each line is the fate of a frame, in order and once, under the connection's
+-- policy. The stores to the heap are those that placed the messages. The stream is `Cut` exactly if it has a
+-- frame fault.
 pub record HaveLived (life : Life) (a : Arrivals) : Type 0 where
   pub valid : IsValid a.table.now
   pub lives : Lives a.table.now life a.inbound
@@ -49,17 +50,17 @@ pub record HaveLived (life : Life) (a : Arrivals) : Type 0 where
   pub first : a.fault ≡ life.fault
   pub few : length a.lines.items ≤ MAX_ARRIVALS
 
--- they have lived in some way
+-- the arrivals have some trace
 abbrev pub AreArriving : Arrivals → Type 0
 AreArriving a = (life : Life) × HaveLived life a
 
--- Nothing more gets a fate: the link failed, as many frames as may had theirs, or nothing more comes and no whole frame
--- waits.
+-- No further frame can be handled: the link failed, `MAX_ARRIVALS` frames were handled, or nothing more is
+-- received and no whole frame waits.
 abbrev pub HasAll : Arrivals → Type 0
 HasAll a = (a.stream ≡ Failed) ⊎ ((MAX_ARRIVALS ≤ length a.lines.items)
     ⊎ ((a.stream ≢ Open) × IsPartial a.inbound.fed.bytes))
 
--- what a connection's arrivals keep
+-- the constant parts of a connection's arrivals
 pub record AreSame (old new : Arrivals) : Type 0 where
   pub table : new.table.now ≡ old.table.now
   pub policy : new.policy ≡ old.policy
@@ -67,7 +68,8 @@ pub record AreSame (old new : Arrivals) : Type 0 where
   pub words : new.inbound.heap.words ≡ old.inbound.heap.words
   pub heap : new.writer.heap ≡ old.writer.heap
 
--- what a turn tells of the frames that had their fates in it: it placed one message, refused one frame, or did nothing
+-- the frames that had their fates in a turn, by its outcome: one message was placed, one frame was dropped, or
+-- nothing
 abbrev pub AreTurned : Turned → List Fated → Type 0
 AreTurned Nothing more = more ≡ []
 AreTurned Refused more =
@@ -76,7 +78,7 @@ AreTurned (Delivered d) more = (f : Frame) × (policy : Option AccessPolicy) × 
     × (placed : PlacedWords) × (more ≡ was_placed f policy t block placed ∷ []) × (f.kind ≡ d.kind)
     × (f.method ≡ d.method) × (f.number ≡ d.number) × (d.addr ≡ block.at) × (d.block ≡ block.number)
 
--- what a turn makes of the held blocks: the one of the message that it placed is held, behind the others
+-- the held blocks after a turn: the block of the message that it placed is appended to the others
 abbrev pub Holds : Turned → List Block → List Block → Type 0
 Holds Nothing old new = new ≡ old
 Holds Refused old new = new ≡ old

@@ -1,4 +1,4 @@
--- What an application is told of, and which blocks come back (this project's own).
+-- The notices of an application, and the blocks that it reclaims (this project's own).
 use Rattle.std.specs.Prelude.{◌≡◌, ◌≢◌, ◌⊎◌, ◌<◌, ◌≤◌, ℕ, ◌++◌, List, [], All, length, map, Option, Some, None, option_to_list, IfSome, IsPermutation, ◌∷◌}
 use Rattle.std.specs.List.{AllZip}
 use Rattle.shared_heap.specs.Fresh.{HeapId}
@@ -10,14 +10,14 @@ use Rattle.deliveries.specs.declared.arrivals.Delivered.{Delivered}
 use Rattle.deliveries.specs.declared.notices.Notices.{Notices}
 use Rattle.deliveries.specs.declared.reclaims.Reclaims.{Reclaims}
 
--- a notice tells of a message
+-- a notice is of a message
 pub record TellsOf (message : Delivered) (notice : Descriptor) : Type 0 where
   pub kind : notice.kind ≡ message.kind
   pub method : notice.method ≡ message.method
   pub number : notice.number ≡ message.number
   pub addr : notice.addr ≡ message.addr
 
--- what was sent on a ring: as its end tells while it is open, and then what that left
+-- all that was sent on a ring, while it is open and after it was closed
 abbrev pub sent_on : Option Sending → Option AllSent → List Descriptor
 sent_on (Some ring) left = ring.sent
 sent_on None (Some left) = left.items
@@ -28,7 +28,7 @@ numbers_on (Some ring) left = ring.sent
 numbers_on None (Some left) = left.items
 numbers_on None None = []
 
--- which ring it is
+-- the identity of the ring
 abbrev pub ring_of : Option Sending → Option AllSent → Option RingId
 ring_of (Some ring) left = Some ring.ring
 ring_of None (Some left) = Some left.ring
@@ -39,7 +39,7 @@ number_ring_of (Some ring) left = Some ring.ring
 number_ring_of None (Some left) = Some left.ring
 number_ring_of None None = None
 
--- the rings stay the same, open or closed
+-- the rings are the same, open or closed
 pub record AreSameRings (old new : Notices) : Type 0 where
   pub notices : ring_of new.notices new.noticed ≡ ring_of old.notices old.noticed
   pub numbers : number_ring_of new.blocks new.numbered ≡ number_ring_of old.blocks old.numbered
@@ -59,8 +59,9 @@ numbers_of n = numbers_on n.blocks n.numbered
 abbrev pub IsMessage : Delivered → Type 0
 IsMessage d = (1 ≤ d.kind) × (d.kind ≤ 2)
 
--- The messages that were placed, in order and each once: of the first ones notices were given, and the others wait. The
--- numbers of their blocks go behind the notices, and one may be owed. The notices are of the heap of the messages.
+-- The messages that were placed, in order and each once: notices were sent for a prefix of them, and the others
+-- are pending. The numbers of their blocks are sent after the notices, and one may be owed. The notices belong
+-- to the heap of the messages.
 pub record IsTelling (heap : HeapId) (placed : List Delivered) (n : Notices) : Type 0 where
   pub past : List Delivered
   pub all : placed ≡ past ++ n.waiting.items
@@ -71,23 +72,23 @@ pub record IsTelling (heap : HeapId) (placed : List Delivered) (n : Notices) : T
   pub few : length placed < 4294967294
   pub of_heap : IfSome n.notices (λ ring. ring.heap ≡ heap)
 
--- they tell of some messages
+-- they are the notices of some messages
 abbrev pub AreTelling : HeapId → Notices → Type 0
 AreTelling heap n = (placed : List Delivered) × IsTelling heap placed n
 
--- These numbers were judged, in order, and one more may wait until it can be.
+-- These numbers were judged, in order, and one more may be postponed.
 pub record IsCounting (numbers : List ℕ) (r : Reclaims) : Type 0 where
   pub taken : r.numbers.taken ≡ numbers ++ option_to_list r.kept
   pub count : r.judged ≡ length numbers
   pub closed : r.closed ≡ r.numbers.closed
 
--- The numbers that were judged are those that are kept as not held, and those whose blocks came back.
+-- The numbers that were judged are those recorded as not held, and those whose blocks were reclaimed.
 pub record IsReclaiming (numbers back : List ℕ) (r : Reclaims) : Type 0 where
   pub counting : IsCounting numbers r
   pub split : IsPermutation numbers (r.not_held.items ++ back)
 
--- Numbers are judged one by one against the held blocks: each takes its block from them and is one of `back`, or none
--- of them has it, and it is one of `refused`.
+-- Numbers are judged one by one against the held blocks. Each either removes its block and is one of `back`, or
+-- no held block has it and it is one of `refused`.
 abbrev pub AreJudged : (numbers back refused : List ℕ) → (old new : List Block) → Type 0
 AreJudged [] back refused old new = (back ≡ []) × (refused ≡ []) × (new ≡ old)
 AreJudged (number ∷ more) back refused old new =
@@ -96,7 +97,7 @@ AreJudged (number ∷ more) back refused old new =
     ⊎ ((others : List ℕ) × (refused ≡ number ∷ others) × All (λ (held : Block). held.number ≢ number) old
     × AreJudged more back others old new)
 
--- held blocks go one by one, by their numbers in this order
+-- held blocks are removed one by one, by their numbers in this order
 abbrev pub LosesEach : List ℕ → List Block → List Block → Type 0
 LosesEach [] old new = new ≡ old
 LosesEach (number ∷ more) old new = (between : List Block) × IsWithout number old between × LosesEach more between new

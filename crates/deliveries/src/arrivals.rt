@@ -1,4 +1,4 @@
-//! What arrives on a connection.
+//! The arrivals of a connection.
 
 ghost use Rattle.std.specs.Prelude.{◌≡◌, ◌≢◌, ◌<◌, ◌≤◌, ◌^◌, ◌⊎◌, ℕ, List, length, true, false, Option, None, OnOk, IfOk, OnErr, IsTrue};
 ghost use Rattle.std.specs.Io.KnownBytes.{Appends};
@@ -27,7 +27,7 @@ pub enum ArrivalLine {
         number: u32,
         tree: Tree,
     },
-    /// It was refused.
+    /// It was dropped.
     Dropped {
         kind: u8,
         method: u16,
@@ -36,22 +36,22 @@ pub enum ArrivalLine {
     },
 }
 
-/// A message that was placed, of which the application is to be told.
+/// A message that was placed in the heap, and whose notice is pending.
 #[derive(Clone, Copy)]
 pub struct Delivered {
     pub kind: u8,
     pub method: u16,
     pub number: u32,
-    /// Where the message begins in the heap.
+    /// The address of the message in the heap.
     pub addr: u64,
     /// The number of its block.
     pub block: u64,
 }
 
-/// Whether more of a stream may come, or why not.
+/// Whether more of a stream may arrive, or why not.
 #[derive(Clone, Copy, PartialEq, Eq)]
 pub enum Stream {
-    /// More may come.
+    /// More may arrive.
     Open,
     /// The other side has finished.
     Ended,
@@ -61,22 +61,22 @@ pub enum Stream {
     Failed,
 }
 
-/// What one thread holds to receive the frames of a connection.
+/// The state in which one thread receives the frames of a connection.
 pub struct Arrivals<'t> {
     pub inbound: Inbound,
     /// The heap of the messages.
     pub writer: Writer,
     pub table: &'t Table,
-    /// The policy that judges what is delivered, if there is one.
+    /// The policy that judges the calls of received frames, if there is one.
     pub policy: Option<&'t Access>,
     /// What became of the frames, in order.
     pub lines: Vec<ArrivalLine>,
     pub stream: Stream,
-    /// The frame fault of the stream, where it has one.
+    /// The frame fault of the stream, if it has one.
     pub fault: Option<FeedFault>,
 }
 
-// By hand, so that a drop is one call where it is needed, and not a drop of each part.
+// By hand, so that each drop is one call, and not a drop of every field.
 impl<'t> Drop for Arrivals<'t> {
     fn drop(self) {
         let Arrivals {
@@ -92,8 +92,8 @@ impl<'t> Drop for Arrivals<'t> {
 }
 
 impl<'t> Arrivals<'t> {
-    /// Whether the link counts as ended, so that nothing more is received: its stream ended, has a frame fault or
-    /// failed, or as many frames as may had their fates.
+    /// Whether nothing more is received: the stream ended, failed or is malformed, or `MAX_ARRIVALS` frames were
+    /// handled.
     pub fn is_over(&self) -> bool
         ensures over { result ≡ true → (self.now.stream ≢ Stream.Open) ⊎ (MAX_ARRIVALS ≤ length self.now.lines.items) }
         ensures open { result ≡ false
@@ -102,7 +102,8 @@ impl<'t> Arrivals<'t> {
         self.stream != Stream::Open || self.lines.len() as u64 >= MAX_ARRIVALS
     }
 
-    /// Whether each frame that may have its fate had it, and no more come.
+    /// True only if no further frame can be handled: the link failed, `MAX_ARRIVALS` frames were handled, or the
+    /// stream ended or is malformed and no whole frame waits.
     pub fn has_all(&self) -> bool
         ensures { result ≡ true → HasAll self.now }
     {
@@ -115,14 +116,14 @@ impl<'t> Arrivals<'t> {
         }
     }
 
-    /// Receives once, unless a whole frame waits or the link counts as ended. Tells whether something came. The only
-    /// error is `Memory`, which leaves the arrivals as they were.
+    /// Receives once, unless a whole frame waits or nothing more is received. Returns whether something arrived. The
+    /// only error is `Memory`, which leaves the arrivals unchanged.
     pub fn receive<L: Link>(&mut self, link: &mut L, buffer: &mut [u8]) -> Result<bool, Memory>
         requires lived { AreArriving self.old }
         requires room { 0 < length buffer.old }
         requires most { length buffer.old ≤ 2 ^ 32 }
 
-        // They live on, with what came behind their stream, and its first fault, if it has one.
+        // Their trace is extended by the received bytes, and by the first fault, if there is one.
         ensures lived { (life : TheLife) → HaveLived life self.old
             → OnOk result ((piece : List ℕ) × (fault : Option TheFault)
             × Appends (L.given link.old) (L.given link.new) piece × HaveLived (fed life piece fault) self.new) }
@@ -131,7 +132,8 @@ impl<'t> Arrivals<'t> {
         ensures writer { self.new.writer ≡ self.old.writer }
         ensures heap { self.new.inbound.heap ≡ self.old.inbound.heap }
 
-        // The link counts as failed where its count of faults rises, and as ended where it told so.
+        // The stream becomes `Failed` exactly when the link's count of failures rises, and `Ended` only if the link
+        // returned its end.
         ensures cause { HasCause ((self.old.stream ≢ Stream.Failed) × (self.new.stream ≡ Stream.Failed))
             (L.faults link.old) (L.faults link.new) }
         ensures ends { self.old.stream ≢ Stream.Ended → self.new.stream ≡ Stream.Ended → IsTrue (L.ended link.new) }
@@ -160,7 +162,7 @@ impl<'t> Arrivals<'t> {
         }
     }
 
-    // Feeds what came.
+    // Feeds the received bytes.
     fn feed(&mut self, piece: &[u8]) -> Result<bool, Memory>
         requires lived { AreArriving self.old }
         requires open { self.old.stream ≡ Stream.Open }
@@ -189,12 +191,12 @@ impl<'t> Arrivals<'t> {
         }
     }
 
-    /// Gives the first whole frame its fate, unless the link has failed. Tells the message, where it was placed. The
-    /// only error is `Memory`, after which no more is said of the arrivals.
+    /// Handles the first whole frame, unless the link has failed. Returns the message if it was placed. The only
+    /// error is `Memory`, after which nothing is guaranteed of the arrivals.
     pub fn turn(&mut self) -> Result<Turned, Memory>
         requires { AreArriving self.old }
 
-        // They live on, with the fate of the frame behind those before it.
+        // Their trace is extended by the fate of the frame, after the earlier ones.
         ensures lived { (life : TheLife) → HaveLived life self.old → IfOk result (λ turned. (more : List Fated)
             × AreTurned turned more × HaveLived (fated life more) self.new) }
         ensures kind { IfOk result (λ turned. IfDelivered turned (λ d. (1 ≤ d.kind) × (d.kind ≤ 2))) }
@@ -245,7 +247,7 @@ impl<'t> Arrivals<'t> {
     }
 }
 
-// What the application is told of a message in a block.
+// The message in a block, for its notice.
 fn message_in(kind: u8, method: u16, number: u32, block: Block) -> Delivered
     ensures { result ≡ record { kind = kind; method = method; number = number; addr = block.at; block = block.number } }
 {
@@ -258,12 +260,12 @@ fn message_in(kind: u8, method: u16, number: u32, block: Block) -> Delivered
     }
 }
 
-/// What a turn came to.
+/// The outcome of a turn.
 #[derive(Clone, Copy)]
 pub enum Turned {
-    /// No frame had its fate.
+    /// No frame was handled.
     Nothing,
-    /// A frame was refused.
+    /// A frame was dropped.
     Dropped,
     /// A message was placed.
     Delivered(Delivered),

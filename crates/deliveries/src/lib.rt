@@ -1,11 +1,13 @@
-//! What the running service delivers to the application of one connection: frames are received and become messages in a
-//! heap, the application is told of each by a notice, and gives its block back.
+//! Delivery to the application of one connection, in the running service. Received frames become messages in a
+//! heap, the application gets a notice of each message, and reclaims the message's block.
 //!
-//! An [`Arrivals`] receives from a link and gives each frame its fate; [`Notices`] tells the application of what was
-//! placed, while its two rings have room; [`Reclaims`] takes the numbers of blocks that come back. Each is held by one
-//! thread and shares nothing but the heap and the rings, so any loop may drive them. It stands on `receive_core`,
-//! `shared_heap` and `descriptor_ring`. The layers above use one contract: each line of an arrival is the fate of a
-//! frame that the link gave, in order and once, and what was placed is what the application is told of.
+//! An [`Arrivals`] receives from a link and handles the frames. A [`Notices`] sends notices of the placed
+//! messages while its two rings have room. A [`Reclaims`] takes the numbers of the blocks that the application
+//! reclaims. One thread owns each, and they share only the heap and the rings, so any loop may drive them.
+//!
+//! The crate uses `receive_core`, `shared_heap` and `descriptor_ring`. The layers above use one contract: each
+//! line is the fate of a frame that the link received, in order and once, and the notices are of the placed
+//! messages.
 #![tactic(auto)]
 
 mod arrivals;

@@ -1,4 +1,4 @@
 //! The limit of arrivals.
 
-/// How many frames of one connection get their fates at most. After them its link counts as ended.
+/// The most frames of one connection that are handled. After them nothing more is received.
 pub const MAX_ARRIVALS: u64 = 2_147_483_648;

@@ -1,4 +1,4 @@
-//! What an application is told of.
+//! The notices of an application.
 
 ghost use Rattle.std.specs.Prelude.{◌≡◌, ◌≤◌, ◌<◌, ◌+◌, ◌++◌, ◌∷◌, [], List, length, true, false, None, IfOk, OnOk, OnErr};
 ghost use Rattle.shared_heap.specs.Fresh.{HeapId};
@@ -13,26 +13,26 @@ use shared_heap::Writer;
 use std::collections::VecDeque;
 use std::sync::Wait;
 
-/// The rings on which an application is told of messages, and what it isn't told of yet.
+/// The rings of an application's notices, and the pending notices.
 #[derive(Drop)]
 pub struct Notices {
-    /// Messages that wait for their notices, in order.
+    /// Messages whose notices are pending, in order.
     pub waiting: VecDeque<Delivered>,
-    /// The ring of notices; none once it was closed.
+    /// The ring of notices; `None` after it was closed.
     pub notices: Option<Sender>,
-    /// The ring of the numbers of blocks; none once it was closed.
+    /// The ring of block numbers; `None` after it was closed.
     pub blocks: Option<NumberSender>,
-    /// A number whose notice was given, and which found no room yet.
+    /// A block number that had no room yet; its notice was sent.
     pub owed: Option<u64>,
-    /// How many numbers were given.
+    /// How many block numbers were sent.
     pub given: u64,
-    /// What is left of both rings.
+    /// The final state of both rings, after they were closed.
     pub noticed: Option<Sent>,
     pub numbered: Option<NumbersSent>,
 }
 
 impl Notices {
-    /// Puts a message behind those that wait.
+    /// Appends a message to the pending ones.
     pub fn add(&mut self, message: Delivered) -> Result<(), Memory>
         ensures telling { (heap : HeapId) (placed : List Message) → IsTelling heap placed self.old → IsMessage message
             → length placed + 1 < 4294967294 → OnOk result (IsTelling heap (placed ++ message ∷ []) self.new) }
@@ -44,7 +44,7 @@ impl Notices {
         Ok(())
     }
 
-    /// Gives notices, each with its number behind it, while both rings have room. Tells whether one was given.
+    /// Sends notices, each followed by its block number, while both rings have room. Returns whether one was sent.
     pub fn give<R: Wait>(&mut self, rt: &R, writer: &mut Writer) -> bool
         requires { AreTelling writer.old.heap self.old }
         ensures telling { (placed : List Message) → IsTelling writer.old.heap placed self.old
@@ -60,7 +60,7 @@ impl Notices {
         gave
     }
 
-    // Gives the number that is owed. False where the ring is full.
+    // Sends the number that is owed. Returns false if the ring is full.
     fn give_number<R: Wait>(&mut self, rt: &R) -> bool
         requires { (heap : HeapId) × AreTelling heap self.old }
         ensures telling { (heap : HeapId) (placed : List Message) → IsTelling heap placed self.old
@@ -84,7 +84,7 @@ impl Notices {
         true
     }
 
-    // Gives the next notice. False where none waits, or the ring is full.
+    // Sends the next notice. Returns false if none is pending or the ring is full.
     fn give_notice<R: Wait>(&mut self, rt: &R, writer: &mut Writer) -> bool
         requires telling { AreTelling writer.old.heap self.old }
         requires none_owed { self.old.owed ≡ None }
@@ -109,14 +109,14 @@ impl Notices {
         true
     }
 
-    /// Whether each message was given as a notice, with its number.
+    /// Whether the notice and the block number of each message were sent.
     pub fn is_given(&self) -> bool
         ensures { result ≡ true → (self.now.waiting.items ≡ []) × (self.now.owed ≡ None) }
     {
         self.waiting.is_empty() && self.owed.is_none()
     }
 
-    /// Closes both rings, as far as they have room, once each message was given. Tells whether one was closed.
+    /// Once every notice was sent, closes each ring that has room. Returns whether one was closed.
     pub fn close<R: Wait>(&mut self, rt: &R) -> bool
         ensures telling { (heap : HeapId) (placed : List Message) → IsTelling heap placed self.old
             → IsTelling heap placed self.new }
@@ -188,7 +188,7 @@ impl Notices {
     }
 }
 
-// The notice of a message, which knows the stores that placed it.
+// The notice of a message, which covers the stores that placed it.
 fn notice(writer: &mut Writer, message: Delivered) -> Descriptor
     requires { IsMessage message }
     ensures of_heap { IsOf writer.old.heap result }

@@ -1,4 +1,4 @@
-//! The numbers of blocks that an application gives back.
+//! The blocks that an application reclaims.
 
 ghost use Rattle.std.specs.Prelude.{◌≡◌, ◌≤◌, ◌<◌, ◌+◌, ◌^◌, ◌++◌, ◌∷◌, [], ℕ, List, true, false, OnOk, IfSome, IfNone};
 ghost use Rattle.mrpc_table.specs.declared.table.Table.{Table as TheTable};
@@ -10,34 +10,34 @@ use mrpc_table::Memory;
 use receive_core::Inbound;
 use std::sync::Wait;
 
-/// The ring on which numbers of blocks come back, and those that named no held block.
+/// The ring of the block numbers that an application reclaims, and the numbers that named no held block.
 #[derive(Drop)]
 pub struct Reclaims {
     pub numbers: NumberReceiver,
-    /// How many numbers the application's program gives back, whether it has such blocks or not.
+    /// How many blocks the application's program reclaims, whether it has such blocks or not.
     pub programmed: u64,
     /// How many numbers were judged.
     pub judged: u64,
-    /// A number that came before it could be given back, which waits.
+    /// A number that arrived too early and is postponed.
     pub kept: Option<u64>,
-    /// The numbers that named no block that was held when they were judged, in order.
+    /// The numbers that named no held block when they were judged, in order.
     pub not_held: Vec<u64>,
-    /// Whether the closing was taken.
+    /// Whether the end of the ring was taken.
     pub closed: bool,
 }
 
-/// What came of the numbers that waited.
+/// The result of a reclaim.
 #[derive(Clone, Copy, PartialEq, Eq)]
 pub enum Reclaimed {
-    /// None waited, or the next one has to wait.
+    /// No number was available, or the next one is postponed.
     Nothing,
-    /// Some were judged, or the closing was taken.
+    /// Some numbers were judged, or the end of the ring was taken.
     Some,
 }
 
 impl Reclaims {
-    /// Takes the numbers that wait, where so many blocks were given so far, and reclaims each. Of no application more
-    /// numbers are judged than its program gives back and blocks were given to it.
+    /// Takes the available numbers and reclaims each block; `given` is the number of blocks sent to the application
+    /// so far. Judges at most as many numbers as the program reclaims plus the blocks that were sent.
     pub fn reclaim<R: Wait>(
         &mut self,
         rt: &R,
@@ -47,12 +47,12 @@ impl Reclaims {
         requires few_programmed { self.old.programmed < 2 ^ 63 }
         requires few_given { given < 2 ^ 63 }
 
-        // More numbers were judged: those that came back took each its block from the held ones, in order.
+        // More numbers were judged: those that were reclaimed each removed their block from the held ones, in order.
         ensures reclaimed { (numbers back : List ℕ) → IsReclaiming numbers back self.old → OnOk result ((more : List ℕ)
             × (gained : List ℕ) × IsReclaiming (numbers ++ more) (back ++ gained) self.new
             × LosesEach gained inbound.old.heap.held inbound.new.heap.held) }
 
-        // The others named none of the blocks that were held when they were judged.
+        // The others named no block that was held when they were judged.
         ensures refused { (numbers : List ℕ) → IsCounting numbers self.old → OnOk result ((more : List ℕ)
             × (back : List ℕ) × (refused : List ℕ) × IsCounting (numbers ++ more) self.new
             × (self.new.not_held.items ≡ self.old.not_held.items ++ refused)
@@ -61,7 +61,7 @@ impl Reclaims {
         ensures programmed { self.new.programmed ≡ self.old.programmed }
         ensures ring { self.new.numbers.ring ≡ self.old.numbers.ring }
 
-        // The receiver lives on.
+        // The receiver's trace is unchanged.
         ensures life { (T : TheTable) (life : TheLife) → Lives T life inbound.old → Lives T life inbound.new }
         ensures conn { inbound.new.conn ≡ inbound.old.conn }
         ensures fed { inbound.new.fed ≡ inbound.old.fed }
@@ -82,7 +82,7 @@ impl Reclaims {
         Ok(reclaimed)
     }
 
-    // The next number to be judged.
+    // The next number to judge.
     fn next<R: Wait>(&mut self, rt: &R, most: u64) -> Option<u64>
         ensures some { (numbers : List ℕ) → IsCounting numbers self.old
             → IfSome result (λ number. IsCounting (numbers ++ number ∷ []) self.new) }

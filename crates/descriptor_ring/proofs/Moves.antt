@@ -1,4 +1,4 @@
--- Each move keeps the rule of a ring.
+-- Each access preserves the rule of a ring.
 use Rattle.std.proofs.Common.{◌≡◌, ◌≢◌, inl, inr, ⊎_elim, ℕ, zero, suc, ◌<◌, ◌≤◌, Bool, true, false, true≢false, List}
 use Rattle.std.proofs.Common.{[], ◌∷◌, ◌++◌, All, length, set, refl, sym, ap, ◌∙◌, subst, arith, append_assoc}
 use Rattle.std.proofs.Common.{append-nil, length-append}
@@ -47,7 +47,7 @@ module _ {T : Type 0} where
   front_trans : (xs ys zs : List T) → IsPrefix xs ys → IsPrefix ys zs → IsPrefix xs zs
   front_trans xs ys zs p q = (p.0 ++ q.0, sym (append_assoc xs p.0 q.0) ∙ ap (λ l. l ++ q.0) p.1 ∙ q.1)
 
-  -- two fronts of one list agree
+  -- two prefixes of one list agree
   agree : (xs ys all : List T) → IsPrefix xs all → IsPrefix ys all → Agree xs ys
   agree [] ys all p q = inl (ys, refl)
   agree (x ∷ xs) [] all p q = inr (x ∷ xs, refl)
@@ -57,7 +57,7 @@ module _ {T : Type 0} where
       ⊎_elim (λ (r : IsPrefix xs ys). inl (r.0, cc (heads, r.1))) (λ (r : IsPrefix ys xs). inr (r.0, cc (heads, r.1)))
       (agree xs ys zs (p.0, cc (p.1)) (q.0, cc (q.1)))
 
-  -- the longer of two fronts is a front
+  -- the longer of two prefixes is a prefix
   longer_front : (xs ys all : List T) → IsPrefix xs all → IsPrefix ys all → IsPrefix (longer xs ys) all
   longer_front [] ys all p q = q
   longer_front (x ∷ xs) [] all p q = p
@@ -66,14 +66,14 @@ module _ {T : Type 0} where
       let r : IsPrefix (longer xs ys) zs = longer_front xs ys zs (p.0, cc (p.1)) (q.0, cc (q.1)) in
       (r.0, cc (p.1, r.1))
 
-  -- none is longer than the whole
+  -- no prefix is longer than the whole
   longer_whole : (xs ys : List T) → IsPrefix ys xs → longer xs ys ≡ xs
   longer_whole [] [] p = refl
   longer_whole [] (y ∷ ys) p = absurd (cc (p.1))
   longer_whole (x ∷ xs) [] p = refl
   longer_whole (x ∷ xs) (y ∷ ys) p = ap (λ l. x ∷ l) (longer_whole xs ys (p.0, cc (p.1)))
 
-  -- what a queue holds begins with the first item that waits, or is the closing alone
+  -- the queue starts with the first item not taken yet, or holds the closing sentinel alone
   data Front (x : Slip T) (items : List (Slip T)) (waiting : List T) (closed ended : Bool) : Type 0 where
     item : (y : T) (ys : List T) → waiting ≡ y ∷ ys → x ≡ Item y → items ≡ slips ys closed → ended ≡ false → Front x items waiting closed ended
     closing : waiting ≡ [] → closed ≡ true → x ≡ Closing → items ≡ [] → Front x items waiting closed ended
@@ -88,7 +88,7 @@ module _ {T : Type 0} (fits : HeapId → T → Type 0) (most : ℕ) where
   abbrev Line : List (Slip T) → List (View T) → Type 0
   Line = IsLine fits most
 
-  -- a pass that may do nothing, and knows fronts of what was sent and taken
+  -- a pass without a role that knows prefixes of the sent and taken items
   idle : (s r : ℕ) (heap : HeapId) (sent : List T) (closed : Bool) (taken : List T) (ended : Bool) (pass : ℕ) (v : View T)
       → v.sends ≡ false → v.takes ≡ false → v.closed ≡ false → IsPrefix v.sent sent → IsPrefix v.taken taken
       → Knows fits most s r heap sent closed taken ended pass v
@@ -128,7 +128,7 @@ module _ {T : Type 0} (fits : HeapId → T → Type 0) (most : ℕ) where
       }
       one (suc pass) v e = absurd (some-ne-none v (sym e))
 
-  -- while the sender has not closed, the receiver has not ended
+  -- while the sender hasn't closed, the receiver hasn't ended
   open_yet : (closed ended : Bool) (waiting : List T) → (ended ≡ true → (closed ≡ true) × (waiting ≡ [])) → closed ≡ false → ended ≡ false
   open_yet closed false waiting last unclosed = refl
   open_yet closed true waiting last unclosed = absurd (off (sym unclosed ∙ (last refl).0))
@@ -137,13 +137,13 @@ module _ {T : Type 0} (fits : HeapId → T → Type 0) (most : ℕ) where
     mine : Knows fits most h.sender h.receiver h.heap h.sent h.closed h.taken h.ended pass v
     mine = h.passes pass v at
 
-    -- what the queue holds while the sender has not closed
+    -- the contents of the queue while the sender hasn't closed
     held : v.sends ≡ true → v.closed ≡ false → items ≡ slips h.waiting false
     held may unclosed =
         let closed : h.closed ≡ false = sym (mine.sends may).3 ∙ unclosed in
         h.holds ∙ ap (queued h.waiting h.closed) (open_yet h.closed h.ended h.waiting h.last closed) ∙ ap (slips h.waiting) closed
 
-    -- after the sender has put an item or the closing, and knows of it
+    -- after the sender has pushed an item or the closing sentinel, and knows of it
     after_put : v.sends ≡ true → h.closed ≡ false → h.ended ≡ false → (sent : List T) (closed : Bool) (w : View T) → IsPrefix h.sent sent
         → Knows fits most h.sender h.receiver h.heap sent closed h.taken false pass w
         → (j : ℕ) (u : View T) → get_elem? (set views pass w) j ≡ some u → Knows fits most h.sender h.receiver h.heap sent closed h.taken false j u
@@ -157,7 +157,7 @@ module _ {T : Type 0} (fits : HeapId → T → Type 0) (most : ℕ) where
           some_closed = λ p. absurd (off (sym unclosed ∙ (k.some_closed p).0));
         })
 
-    -- after the receiver has got an item or the closing, and knows of it
+    -- after the receiver has popped an item or the closing sentinel, and knows of it
     after_got : v.takes ≡ true → (taken : List T) (ended : Bool) (w : View T) → IsPrefix h.taken taken
         → Knows fits most h.sender h.receiver h.heap h.sent h.closed taken ended pass w
         → (j : ℕ) (u : View T) → get_elem? (set views pass w) j ≡ some u → Knows fits most h.sender h.receiver h.heap h.sent h.closed taken ended j u
@@ -249,7 +249,7 @@ module _ {T : Type 0} (fits : HeapId → T → Type 0) (most : ℕ) where
         ),
       )
 
-  -- a full ring holds the last of what was sent
+  -- a full ring holds the last of the sent items
   pub learns_full : (pass : ℕ) (v : View T) → v.sends ≡ true → v.closed ≡ false
       → Learns Line pass v (λ items. ((n : ℕ) → length items ≡ n → Held v.sent v.taken n) × (length items ≤ length v.sent))
   learns_full pass v may unclosed items views h at =
@@ -261,7 +261,7 @@ module _ {T : Type 0} (fits : HeapId → T → Type 0) (most : ℕ) where
         omega (arith, counted, ap length order, length-append h.taken h.waiting),
       )
 
-  -- what is known to have been sent, and was not taken, is in the ring
+  -- items that are known as sent and not taken are in the ring
   pub learns_empty : (pass : ℕ) (v : View T) → v.takes ≡ true → v.ended ≡ false
       → Learns Line pass v (λ items. length items ≡ 0 → IsPrefix v.sent v.taken × (v.closed ≡ false))
   learns_empty pass v may on items views h at none =
@@ -469,7 +469,7 @@ module _ {T : Type 0} (fits : HeapId → T → Type 0) (most : ℕ) where
             }) j w e away);
       }
 
-  -- any pass may tell what it knows
+  -- any pass may share what it knows
   pub tells_it : (pass : ℕ) (v : View T) → Forks Line pass v v (knowing v)
   tells_it pass v items views h at =
       let m = mine pass v items views h at in
@@ -494,7 +494,7 @@ module _ {T : Type 0} (fits : HeapId → T → Type 0) (most : ℕ) where
             (each_set F views pass v m (λ j u apart e. h.passes j u e));
       }
 
-  -- a pass may come to know more, where another is spent
+  -- a pass may learn more, while another one is spent
   grows : (pass : ℕ) (v : View T) (other : ℕ) (u joined : View T)
       → ((items : List (Slip T)) (views : List (View T)) (h : Line items views)
       → Knows fits most h.sender h.receiver h.heap h.sent h.closed h.taken h.ended pass v
@@ -524,7 +524,7 @@ module _ {T : Type 0} (fits : HeapId → T → Type 0) (most : ℕ) where
             (λ j w away e. each_set F views pass joined (more items views h m o) (λ k x _ e'. h.passes k x e') j w e);
       }
 
-  -- any pass may be told what another knows
+  -- any pass may observe what another one knows
   pub hears_sent : (pass : ℕ) (v : View T) (other : ℕ) (u : View T) → Merges Line pass v other u (told_sent v u) nobody
   hears_sent pass v other u = grows pass v other u (told_sent v u) (λ items views h m o.
       let whole : v.sent ≡ h.sent → longer v.sent u.sent ≡ h.sent = λ is.

@@ -1,4 +1,4 @@
--- A fact of every pass, after one view has changed or a pass has come.
+-- A fact of every pass, after one view has changed or a pass was added.
 use Rattle.std.proofs.Common.{◌≡◌, ◌≢◌, ℕ, zero, suc, List, [], ◌∷◌, ◌++◌, length, set, sym, subst, ⊎_elim, ◌⊎◌, inl, inr, refl, ap}
 use mathlib.Core.Option.{some, some-injective, some-ne-none}
 use lib.ListN.{get_elem?}
@@ -13,7 +13,7 @@ module _ {V : Type 0} where
   each_set F views pass w mine others j u e = ⊎_elim (λ (x : (j ≡ pass) × (w ≡ u)). subst (λ (y : ℕ × V). F y.0 y.1) (λ i. (sym x.0 i, x.1 i)) mine)
       (λ (x : (j ≢ pass) × (get_elem? views j ≡ some u)). others j u x.0 x.1) (at_set views pass j w u e)
 
-  -- a pass that comes is the last
+  -- an added pass is the last
   snoc_cases : (l : List V) (a b : V) (j : ℕ) → get_elem? (l ++ a ∷ []) j ≡ some b → (get_elem? l j ≡ some b) ⊎ ((a ≡ b) × (j ≡ length l))
   snoc_cases [] a b zero e = inr (some-injective a b e, refl)
   snoc_cases [] a b (suc j) e = absurd (some-ne-none b (sym e))
@@ -24,7 +24,7 @@ module _ {V : Type 0} where
   each_snoc_at F views w new others j u e = ⊎_elim (λ (x : get_elem? views j ≡ some u). others j u x)
       (λ (x : (w ≡ u) × (j ≡ length views)). subst (λ (y : ℕ × V). F y.0 y.1) (λ i. (sym x.1 i, x.0 i)) new) (snoc_cases views w u j e)
 
-  -- of two passes with different numbers, a write to one leaves the other
+  -- a write to one pass leaves each other one unchanged
   pub other_pass : (views : List V) (pass other : ℕ) (w u : V) → (other ≡ pass → ⊥) → get_elem? (set views pass w) other ≡ some u → get_elem? views other ≡ some u
   other_pass views pass other w u apart e = ⊎_elim (λ (x : (other ≡ pass) × (w ≡ u)). absurd (apart x.0))
       (λ (x : (other ≢ pass) × (get_elem? views other ≡ some u)). x.1) (at_set views pass other w u e)

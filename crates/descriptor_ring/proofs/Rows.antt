@@ -23,24 +23,24 @@ sent_behind = refl
 taken_behind : got {T = ℕ} (receiver no_heap (7 ∷ []) false) (Item 8) ≡ receiver no_heap (7 ∷ 8 ∷ []) false
 taken_behind = refl
 
--- the longer of two fronts, whichever comes first
+-- the longer of two prefixes, in either order
 longer_of_both : longer {T = ℕ} (7 ∷ []) (7 ∷ 8 ∷ []) ≡ 7 ∷ 8 ∷ []
 longer_of_both = refl
 
 longer_of_one : longer {T = ℕ} (7 ∷ 8 ∷ []) (7 ∷ []) ≡ 7 ∷ 8 ∷ []
 longer_of_one = refl
 
--- a receiver that took 7 and is told by a sender that sent 7 and 8
+-- a receiver that took 7 observes a sender that sent 7 and 8
 receiver_is_told : told_sent {T = ℕ} (receiver no_heap (7 ∷ []) false) (knowing (sender no_heap (7 ∷ 8 ∷ []) false))
     ≡ view_of no_heap false (7 ∷ 8 ∷ []) false true (7 ∷ []) false
 receiver_is_told = refl
 
--- and the sender, told by the receiver
+-- and the sender observes the receiver
 sender_is_told : told_taken {T = ℕ} (sender no_heap (7 ∷ 8 ∷ []) false) (knowing (receiver no_heap (7 ∷ []) false))
     ≡ view_of no_heap true (7 ∷ 8 ∷ []) false false (7 ∷ []) false
 sender_is_told = refl
 
--- of two lists one begins the other, or they are in no order
+-- one of two lists is a prefix of the other, or they don't agree
 begins : Agree {T = ℕ} (7 ∷ []) (7 ∷ 8 ∷ [])
 begins = inl (8 ∷ [], refl)
 
@@ -48,11 +48,11 @@ neither_begins : Agree {T = ℕ} (7 ∷ []) (8 ∷ 7 ∷ []) → ⊥
 neither_begins (inl p) = cc (p.1)
 neither_begins (inr p) = cc (p.1)
 
--- a full ring of one, after 7 and 8 were sent and the sender was told that 7 was taken
+-- a full ring of one, after 7 and 8 were sent and the sender has observed 7 as taken
 one_held : Held {T = ℕ} (7 ∷ 8 ∷ []) (7 ∷ []) 1
 one_held = record { taken = 7 ∷ []; waiting = 8 ∷ []; in_order = refl; told_of = ([], refl); counted = refl }
 
--- it holds no two then, and a ring to which nothing was sent none
+-- then it doesn't hold two, and a ring without sent items holds none
 not_both_held : Held {T = ℕ} (7 ∷ 8 ∷ []) (7 ∷ []) 2 → ⊥
 not_both_held h = too_long h.taken h.waiting h.in_order h.told_of h.counted
   where
@@ -72,7 +72,7 @@ two =
     ∷ view_of no_heap false (7 ∷ 8 ∷ []) false true (7 ∷ []) false
     ∷ []
 
--- both were sent and the closing, and the first was taken; each end was told of the other
+-- two items and the closing sentinel were sent, and the first was taken; each end has observed the other
 one_waits : IsLine small 2 (Item 8 ∷ Closing ∷ []) two
 one_waits = record {
   heap = no_heap;
@@ -110,7 +110,7 @@ one_waits = record {
         }
     each (suc (suc pass)) v e = absurd (some-ne-none v (sym e))
 
--- nobody is told of what was not sent
+-- no pass knows of an item that wasn't sent
 none_told : (line : IsLine small 2 [] (view_of no_heap true (7 ∷ []) false false [] false ∷ view_of no_heap false (9 ∷ []) false true (7 ∷ []) false ∷ [])) → ⊥
 none_told line =
     let s = (line.passes 0 (view_of no_heap true (7 ∷ []) false false [] false) refl).sends refl in

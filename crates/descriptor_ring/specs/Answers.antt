@@ -1,4 +1,4 @@
--- What a take answers.
+-- The results of a take.
 use Rattle.std.specs.Prelude.{ℕ, ⊤}
 use Rattle.descriptor_ring.specs.declared.descriptor.Descriptor.{Descriptor}
 use Rattle.descriptor_ring.specs.declared.descriptor.Taken.{Taken}
@@ -10,7 +10,7 @@ OnItem (Item d) P = P d
 OnItem Closed P = ⊤
 OnItem (Empty lesson) P = ⊤
 
--- P holds of what was learnt of an empty ring, if it was empty
+-- P holds of the number of items in an empty ring, if the ring was empty
 abbrev pub OnEmpty : Taken → (ℕ → Type 0) → Type 0
 OnEmpty (Item d) P = ⊤
 OnEmpty Closed P = ⊤

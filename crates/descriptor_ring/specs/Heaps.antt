@@ -1,4 +1,4 @@
--- The name of no heap: that of a pass which was told of none.
+-- The name of no heap, for a pass that knows of none.
 use Rattle.std.specs.Prelude.{[]}
 use Rattle.shared_heap.specs.Fresh.{HeapId}
 

@@ -1,5 +1,5 @@
--- The rule of a ring, over what its queue holds and what each pass knows: what was sent is what was taken and then what
--- waits.
+-- The rule of a ring, over the contents of its queue and the knowledge of each pass: what was sent is what was taken,
+-- followed by what isn't taken yet.
 use Rattle.std.specs.Prelude.{◌≡◌, ◌⊎◌, ℕ, ◌≤◌, Bool, true, false, List, [], ◌∷◌, ◌++◌, All, length}
 use mathlib.Core.Option.{some}
 use mathlib.Core.List.{IsPrefix}
@@ -11,13 +11,13 @@ use Rattle.descriptor_ring.specs.declared.line.View.{View}
 use Rattle.descriptor_ring.specs.Heaps.{no_heap}
 
 module _ {T : Type 0} where
-  -- the items in order, and behind them the closing where it was sent
+  -- the items in order, followed by the closing sentinel if it was sent
   abbrev pub slips : List T → Bool → List (Slip T)
   slips [] false = []
   slips [] true = Closing ∷ []
   slips (x ∷ xs) closed = Item x ∷ slips xs closed
 
-  -- what the queue holds, of the items that wait: nothing, once the closing was taken
+  -- the contents of the queue, by the items not taken yet; nothing once the closing sentinel was taken
   abbrev pub queued : List T → Bool → Bool → List (Slip T)
   queued waiting closed true = []
   queued waiting closed false = slips waiting closed
@@ -33,7 +33,7 @@ module _ {T : Type 0} where
     ended = ended;
   }
 
-  -- the first pass of a ring, whose heap was not told yet
+  -- the first pass of a ring, before its heap is set
   abbrev pub first : View T
   first = view_of no_heap true [] false true [] false
 
@@ -46,24 +46,24 @@ module _ {T : Type 0} where
   abbrev pub nobody : View T
   nobody = view_of no_heap false [] false false [] false
 
-  -- a pass that may do nothing, and knows what another does of what was sent and taken
+  -- a pass without a role, with the knowledge of another one of the sent and taken items
   abbrev pub knowing : View T → View T
   knowing v = view_of no_heap false v.sent false false v.taken false
 
-  -- of two lists of which one begins the other, the longer
+  -- of two lists, one a prefix of the other, the longer one
   abbrev pub longer : List T → List T → List T
   longer [] ys = ys
   longer (x ∷ xs) [] = x ∷ xs
   longer (x ∷ xs) (y ∷ ys) = x ∷ longer xs ys
 
-  -- a view that was told what another pass knows of what was sent, or of what was taken
+  -- a view after it observed what another pass knows of the sent items, or of the taken ones
   abbrev pub told_sent : View T → View T → View T
   told_sent v u = view_of v.heap v.sends (longer v.sent u.sent) v.closed v.takes v.taken v.ended
 
   abbrev pub told_taken : View T → View T → View T
   told_taken v u = view_of v.heap v.sends v.sent v.closed v.takes (longer v.taken u.taken) v.ended
 
-  -- the receiver's pass, with what the sender's knew
+  -- the receiver's pass, with the sender's knowledge
   abbrev pub both : View T → View T → View T
   both v u = view_of v.heap u.sends u.sent u.closed v.takes v.taken v.ended
 
@@ -76,18 +76,18 @@ module _ {T : Type 0} where
   got v (Item x) = view_of v.heap v.sends v.sent v.closed v.takes (v.taken ++ x ∷ []) v.ended
   got v Closing = view_of v.heap v.sends v.sent v.closed v.takes v.taken true
 
-  -- of two lists one begins the other
+  -- one of two lists is a prefix of the other
   abbrev pub Agree : List T → List T → Type 0
   Agree xs ys = IsPrefix xs ys ⊎ IsPrefix ys xs
 
-  -- what a receiver took, and what it knows was sent: it took all of that before the closing, and where it knows of the
-  -- closing it took nothing else
+  -- A receiver's taken items, and those that it knows were sent. It took all the latter before the closing sentinel.
+  -- If it knows of the sentinel, it took nothing else.
   pub record IsInOrder (v : View T) : Type 0 where
     pub agree : Agree v.sent v.taken
     pub all : v.ended ≡ true → IsPrefix v.sent v.taken
     pub no_more : v.closed ≡ true → IsPrefix v.taken v.sent
 
-  -- a push, after which what the pass knows was taken still begins what it sent
+  -- a push, after which what the pass knows was taken is still a prefix of what it sent
   abbrev pub Put : View T → Slip T → View T → Type 0
   Put v x w = (w ≡ put v x) × IsPrefix w.taken w.sent
 
@@ -97,12 +97,12 @@ module _ {T : Type 0} (fits : HeapId → T → Type 0) (most : ℕ) where
   Fits heap (Item x) = fits heap x
   Fits heap Closing = Unit {0}
 
-  -- a pop gives an item that fits the heap, and no more than the most items come
+  -- a pop gives an item that fits the heap, and at most `most` items are ever taken
   abbrev pub Got : View T → Slip T → View T → Type 0
   Got v x w = (w ≡ got v x) × Fits v.heap x × (length w.taken ≤ most) × IsInOrder w
 
-  -- one pass at most sends, and one takes; the sender knows all that was sent, the receiver all that was taken, and any
-  -- other a front of either; who knows of the closing knows all that was sent
+  -- At most one pass sends, and at most one takes. The sender knows all sent items, the receiver all taken ones, and
+  -- any other pass a prefix of each. A pass that knows of the closing sentinel knows all sent items.
   pub record Knows (sender receiver : ℕ) (heap : HeapId) (sent : List T) (closed : Bool) (taken : List T)
       (ended : Bool) (pass : ℕ) (v : View T) : Type 0 where
     pub sends : v.sends ≡ true → (pass ≡ sender) × (v.heap ≡ heap) × (v.sent ≡ sent) × (v.closed ≡ closed)

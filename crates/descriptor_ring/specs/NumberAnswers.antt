@@ -1,4 +1,4 @@
--- What a take of a ring of numbers answers.
+-- The results of a take from a ring of numbers.
 use Rattle.std.specs.Prelude.{ℕ, ⊤}
 use Rattle.descriptor_ring.specs.declared.numbers.NumberTaken.{NumberTaken}
 use Rattle.descriptor_ring.specs.declared.numbers.NumberTaken.TheVariants.{Item, Closed, Empty}
@@ -9,7 +9,7 @@ OnItem (Item n) P = P n
 OnItem Closed P = ⊤
 OnItem (Empty lesson) P = ⊤
 
--- P holds of what was learnt of an empty ring, if it was empty
+-- P holds of the number of items in an empty ring, if the ring was empty
 abbrev pub OnEmpty : NumberTaken → (ℕ → Type 0) → Type 0
 OnEmpty (Item n) P = ⊤
 OnEmpty Closed P = ⊤

@@ -1,15 +1,15 @@
--- The ends of rings, as contracts see them, and what each item of a ring of descriptors is.
+-- The ends of rings as contracts see them, and the items of a ring of descriptors.
 use Rattle.std.specs.Prelude.{◌≡◌, ℕ, ◌≤◌, ◌++◌, Bool, List, length}
 use mathlib.Core.List.{IsPrefix}
 use Rattle.atomic_table.specs.Seated.{TableId}
 use Rattle.shared_heap.specs.Fresh.{HeapId}
 use Rattle.descriptor_ring.specs.declared.descriptor.Descriptor.{Descriptor}
 
--- which ring it is
+-- the identity of a ring
 abbrev pub RingId : Type 0
 RingId = TableId
 
--- a descriptor of a ring that was opened for a heap: its note is of that heap, and knows as many stores as it says
+-- a descriptor of a ring for a heap: its note is of that heap, and knows as many stores as the descriptor states
 pub record IsOf (heap : HeapId) (d : Descriptor) : Type 0 where
   pub kind : (1 ≤ d.kind) × (d.kind ≤ 2)
   pub heap_of : d.note.heap ≡ heap
@@ -22,7 +22,7 @@ pub record Sending : Type 0 where
   pub capacity : ℕ
   -- the descriptors that were sent, in order
   pub sent : List Descriptor
-  -- those that it was told were taken
+  -- those that it has observed as taken
   pub told : List Descriptor
 
 -- the receiving end of a ring of descriptors
@@ -31,26 +31,26 @@ pub record Receiving : Type 0 where
   pub heap : HeapId
   -- the descriptors that were taken, in order
   pub taken : List Descriptor
-  -- whether the closing was taken
+  -- whether the closing sentinel was taken
   pub closed : Bool
-  -- the descriptors that it was told were sent
+  -- the descriptors that it has observed as sent
   pub told : List Descriptor
-  -- whether it was told of the closing, behind them
+  -- whether it has observed the closing sentinel after them
   pub told_closed : Bool
 
--- what a sender leaves when it closes
+-- the remains of a sender that has closed
 pub record AllSent : Type 0 where
   pub ring : RingId
   pub items : List Descriptor
 
--- how far a ring had come: the items that were sent and those that were taken, as far as the end knew that tells it
+-- the progress of a ring: the items that were sent and taken, as the end that reports it knew them
 pub record Telling (T : Type 0) : Type 0 where
   pub ring : RingId
   pub sent : List T
   pub taken : List T
 
--- what a ring held at a call of its sender: so many items, the last ones of those that were sent; those before them had
--- been taken, and with them all that the sender was told were taken
+-- The items that a ring held at a call of its sender: `count` of them, the last ones that were sent. Those before
+-- them had been taken; they include all that the sender has observed as taken.
 pub record Held {T : Type 0} (sent told : List T) (count : ℕ) : Type 0 where
   pub taken : List T
   pub waiting : List T
@@ -58,7 +58,7 @@ pub record Held {T : Type 0} (sent told : List T) (count : ℕ) : Type 0 where
   pub told_of : IsPrefix told taken
   pub counted : length waiting ≡ count
 
--- the same of a ring of numbers
+-- like `Sending`, for a ring of numbers
 pub record NumberSending : Type 0 where
   pub ring : RingId
   pub capacity : ℕ

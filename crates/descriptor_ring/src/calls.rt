@@ -1,4 +1,4 @@
-//! The moves of a ring's two ends.
+//! The operations of a ring's two ends.
 
 ghost use Rattle.std.specs.Prelude.{◌≡◌, ◌<◌, ◌≤◌, true, false, [], length, OnOk, IfErr, IfSome, IfNone};
 ghost use Rattle.std.specs.Bool.{OnFalse, OnTrue};
@@ -15,7 +15,7 @@ use crate::line::{
 };
 use std::sync::Wait;
 
-// The item comes back where the ring was full.
+// Returns the item if the ring was full.
 pub(crate) fn send<T: Goods, R: Wait>(
     rt: &R,
     line: &Line<T>,
@@ -42,7 +42,7 @@ pub(crate) fn send<T: Goods, R: Wait>(
     }
 }
 
-// Sends the closing. False where the ring was full.
+// Sends the closing sentinel. Returns false if the ring was full.
 pub(crate) fn close<T: Goods, R: Wait>(rt: &R, line: &Line<T>, pass: &mut LinePass<T>) -> bool
     requires line { IsPassOf line.now pass.old }
     requires sends { (known pass.old).sends ≡ true }
@@ -60,7 +60,7 @@ pub(crate) fn close<T: Goods, R: Wait>(rt: &R, line: &Line<T>, pass: &mut LinePa
     }
 }
 
-// Takes the next item or the closing. None where the ring was empty.
+// Takes the next item or the closing sentinel. `None` if the ring was empty.
 pub(crate) fn take<T: Goods, R: Wait>(
     rt: &R,
     line: &Line<T>,
@@ -82,7 +82,7 @@ pub(crate) fn take<T: Goods, R: Wait>(
     line.pop_as::<Gets, R>(rt, pass)
 }
 
-// A pass that knows what this one does.
+// A new pass with the knowledge of this one.
 pub(crate) fn tell<T: Goods>(line: &Line<T>, pass: &mut LinePass<T>) -> LinePass<T>
     requires line { IsPassOf line.now pass.old }
 
@@ -93,7 +93,7 @@ pub(crate) fn tell<T: Goods>(line: &Line<T>, pass: &mut LinePass<T>) -> LinePass
     line.another::<Tells>(pass)
 }
 
-// The receiver is told what another pass knows of what was sent.
+// The receiver observes what another pass knows of the sent items.
 pub(crate) fn hear_sent<T: Goods>(line: &Line<T>, pass: &mut LinePass<T>, other: LinePass<T>)
     requires line { IsPassOf line.now pass.old }
     requires other { IsPassOf line.now other }
@@ -107,7 +107,7 @@ pub(crate) fn hear_sent<T: Goods>(line: &Line<T>, pass: &mut LinePass<T>, other:
     line.learn_as::<Ordered>(pass);
 }
 
-// The sender is told what another pass knows of what was taken.
+// The sender observes what another pass knows of the taken items.
 pub(crate) fn hear_taken<T: Goods>(line: &Line<T>, pass: &mut LinePass<T>, other: LinePass<T>)
     requires line { IsPassOf line.now pass.old }
     requires other { IsPassOf line.now other }
@@ -121,7 +121,7 @@ pub(crate) fn hear_taken<T: Goods>(line: &Line<T>, pass: &mut LinePass<T>, other
     line.learn_as::<Behind>(pass);
 }
 
-// The receiver takes in the sender's pass, and knows all that was sent.
+// The receiver joins the sender's pass, and knows all sent items.
 pub(crate) fn hear_all<T: Goods>(line: &Line<T>, pass: &mut LinePass<T>, other: LinePass<T>)
     requires line { IsPassOf line.now pass.old }
     requires other { IsPassOf line.now other }
@@ -136,7 +136,7 @@ pub(crate) fn hear_all<T: Goods>(line: &Line<T>, pass: &mut LinePass<T>, other: 
     line.learn_as::<Ordered>(pass);
 }
 
-// What was taken is what was sent, once the receiver has the closing and the sender's pass.
+// What was taken is what was sent, once the receiver has the closing sentinel and the sender's pass.
 pub(crate) fn meet<T: Goods>(line: &Line<T>, pass: &mut LinePass<T>, other: LinePass<T>)
     requires line { IsPassOf line.now pass.old }
     requires other { IsPassOf line.now other }

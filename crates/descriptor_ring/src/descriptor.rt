@@ -1,23 +1,23 @@
-//! Descriptors: what goes through a ring.
+//! Descriptors, the items of a ring.
 
 use crate::lesson::Lesson;
 use crate::line::Goods;
 use shared_heap::Note;
 
-/// A call that an application submits, or a message that it is told of.
+/// A call that an application submits, or the notice of a message.
 #[derive(Drop)]
 pub struct Descriptor {
-    /// 1 or 2. It counts in notices alone.
+    /// 1 or 2. Only notices use it.
     pub kind: u8,
     /// The method's index in the table.
     pub method: u16,
-    /// 0 for a request, and for a reply the number of the request, at least 1.
+    /// 0 for a request; for a reply the number of the request, at least 1.
     pub number: u32,
-    /// Where the message begins in the heap.
+    /// The place of the message in the heap.
     pub addr: u64,
-    /// How many stores the note knows.
+    /// The number of stores that the note knows.
     pub stores: u64,
-    /// What was stored before the descriptor was sent.
+    /// The stores made before the descriptor was sent.
     pub note: Note,
 }
 
@@ -32,17 +32,17 @@ impl Goods for Descriptor {
 /// The ring was full.
 #[derive(Drop)]
 pub struct Full {
-    /// The descriptor that was to be sent.
+    /// The descriptor that wasn't sent.
     pub descriptor: Descriptor,
     pub lesson: Lesson,
 }
 
-/// What a receiver took.
+/// The result of a take.
 #[derive(Drop)]
 pub enum Taken {
     /// The next descriptor.
     Item(Descriptor),
-    /// All descriptors were taken, and none comes.
+    /// All descriptors were taken, and no more will be sent.
     Closed,
     /// The ring was empty.
     Empty(Lesson),

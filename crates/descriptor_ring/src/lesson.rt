@@ -1,11 +1,11 @@
-//! What a full or an empty ring teaches.
+//! The number of items in a full or an empty ring.
 
 ghost use Rattle.std.specs.Prelude.{◌≡◌};
 
 use std::marker::Model;
 
-/// What a call learnt of a full or an empty ring. Contracts see it as the number of items that the ring held at the
-/// call's own step.
+/// The number of items that a full or an empty ring held. Contracts see it as that number, at the call's atomic
+/// access.
 #[derive(Clone, Copy)]
 pub struct Lesson {
     held: u64,
@@ -28,7 +28,7 @@ impl Lesson {
         Lesson { held }
     }
 
-    /// How many items the ring held at the call's own step.
+    /// The number of items that the ring held at the call's atomic access.
     pub fn held(&self) -> u64
         ensures { result ≡ self.now }
     {

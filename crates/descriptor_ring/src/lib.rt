@@ -1,13 +1,13 @@
-//! Rings between two threads: of call [`Descriptor`]s, each with a note of the heap where its message lies, and of
-//! numbers. A ring is a queue of the crate `crossbeam_queue` under a rule of this crate's own; it stands on that crate
-//! and on `shared_heap`. A send, a take and a close may spin behind a thread that has stalled inside a step, so they
-//! take a handle; they take no memory.
+//! Rings between two threads: of call [`Descriptor`]s, each with a note of the heap that contains its message, and of
+//! numbers. A ring is a queue of the crate `crossbeam_queue` under a rule of this crate's own. The crate depends on
+//! `crossbeam_queue` and on `shared_heap`. A send, a take and a close may spin while another thread is stalled inside
+//! an access, so they take a handle. They allocate nothing.
 //!
-//! What the layer above may use: descriptors come out in the order in which they were sent, and each has a note of the
-//! ring's heap that knows as many stores as the descriptor says. After the closing, what was taken is what was sent.
-//! An end can tell the other how far the ring has come. A ring that refused an item held as many of those that were
-//! sent as it has room for, behind all that the sender was told were taken; a take finds nothing only where all was
-//! taken that the receiver was told was sent.
+//! What the layer above may use: descriptors are taken in the order in which they were sent. Each has a note of the
+//! ring's heap that knows as many stores as the descriptor states. After the closing sentinel, what was taken is what
+//! was sent. An end can share the ring's progress with the other one. If a ring rejected an item, it held as many
+//! sent items as its capacity, and those that the sender has observed as taken come before them. If a take finds
+//! nothing, the receiver took all items that it has observed as sent.
 #![tactic(auto)]
 
 mod calls;

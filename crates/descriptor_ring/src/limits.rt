@@ -1,4 +1,4 @@
 //! The limit of rings.
 
-/// How many items a ring holds at most.
+/// The maximum number of items of a ring.
 pub const MAX_CAPACITY: u64 = 1024;

@@ -1,5 +1,5 @@
-//! What goes through a ring, what each pass of it knows, and what its steps tell. No value of `View` or `HeapName` is
-//! made.
+//! The items of a ring, the knowledge of each pass, and what accesses reveal. No value of `View` or `HeapName` is
+//! ever made.
 
 use crossbeam_queue::protocol::{Join, Lesson, Outcome, Protocol, Split};
 use crossbeam_queue::{Pass, RuledArrayQueue};
@@ -10,14 +10,14 @@ pub(crate) type Line<T> = RuledArrayQueue<Slip<T>, View<T>, InOrder>;
 
 pub(crate) type LinePass<T> = Pass<Slip<T>, View<T>>;
 
-// An item of a ring, or its closing.
+// An item of a ring, or the closing sentinel.
 #[derive(Drop)]
 pub(crate) enum Slip<T> {
     Item(T),
     Closing,
 }
 
-// Which heap the notes of a ring are of.
+// The heap of the notes of a ring.
 pub(crate) struct HeapName {
     number: u64,
 }
@@ -31,8 +31,8 @@ impl Model for HeapName {
     ghost view = { λ _. no_heap };
 }
 
-// What a pass may do, of which heap the ring is, and the items that it knows were sent and taken, and whether the
-// closing was. The sender's pass knows all that was sent, the receiver's all that was taken, any other a front of both.
+// The role of a pass, the heap of the ring, and the items that the pass knows were sent and taken, with the closing
+// sentinel. The sender's pass knows all sent items, the receiver's all taken ones, any other pass a prefix of both.
 pub(crate) struct View<T> {
     pub heap: HeapName,
     pub sends: bool,
@@ -43,7 +43,7 @@ pub(crate) struct View<T> {
     pub ended: bool,
 }
 
-// What may go through a ring of a heap, and how many at most.
+// The type of a ring's items, with the condition on them for a heap, and the maximum number of them.
 pub(crate) trait Goods: Drop {
     ghost use Rattle.shared_heap.specs.Fresh.{HeapId};
     ghost use Rattle.std.specs.Prelude.{ℕ};
@@ -63,7 +63,7 @@ impl<T: Goods> Protocol<Slip<T>, View<T>> for InOrder {
     ghost first = { first };
 }
 
-// A push of an item or of the closing.
+// A push of an item or of the closing sentinel.
 pub(crate) struct Puts;
 
 impl<T: Goods> Outcome<Slip<T>, View<T>> for Puts {
@@ -72,7 +72,7 @@ impl<T: Goods> Outcome<Slip<T>, View<T>> for Puts {
     ghost then = { Put };
 }
 
-// The ring holds the last of what was sent, behind all that the pass knows was taken.
+// The ring holds the last of the sent items, after all that the pass knows were taken.
 impl<T: Goods> Lesson<Slip<T>, View<T>> for Puts {
     ghost use Rattle.std.specs.Prelude.{◌≡◌, ◌≤◌, ℕ, length};
     ghost use Rattle.descriptor_ring.specs.Rings.{Held};
@@ -80,7 +80,7 @@ impl<T: Goods> Lesson<Slip<T>, View<T>> for Puts {
     ghost fact = { λ v items. ((n : ℕ) → length items ≡ n → Held v.sent v.taken n) × (length items ≤ length v.sent) };
 }
 
-// A pop of an item or of the closing.
+// A pop of an item or of the closing sentinel.
 pub(crate) struct Gets;
 
 impl<T: Goods> Outcome<Slip<T>, View<T>> for Gets {
@@ -89,7 +89,8 @@ impl<T: Goods> Outcome<Slip<T>, View<T>> for Gets {
     ghost then = { Got T.fits T.most };
 }
 
-// Of an empty ring all was taken that the pass knows was sent, and the closing was not sent as far as it knows.
+// If the ring is empty, all items that the pass knows were sent are taken, and it doesn't know the closing sentinel
+// to be sent.
 impl<T: Goods> Lesson<Slip<T>, View<T>> for Gets {
     ghost use Rattle.std.specs.Prelude.{◌≡◌, false, length};
     ghost use mathlib.Core.List.{IsPrefix};
@@ -97,7 +98,7 @@ impl<T: Goods> Lesson<Slip<T>, View<T>> for Gets {
     ghost fact = { λ v items. length items ≡ 0 → IsPrefix v.sent v.taken × (v.closed ≡ false) };
 }
 
-// Once the closing was taken, and the ends are joined, all that was sent was taken.
+// If the closing sentinel was taken and the ends are joined, all that was sent was taken.
 pub(crate) struct Total;
 
 impl<T: Goods> Lesson<Slip<T>, View<T>> for Total {
@@ -115,7 +116,7 @@ impl<T: Goods> Lesson<Slip<T>, View<T>> for Ordered {
     ghost fact = { λ v items. IsInOrder v };
 }
 
-// What the pass knows was taken begins what it sent.
+// What the pass knows was taken is a prefix of what it sent.
 pub(crate) struct Behind;
 
 impl<T: Goods> Lesson<Slip<T>, View<T>> for Behind {
@@ -124,7 +125,7 @@ impl<T: Goods> Lesson<Slip<T>, View<T>> for Behind {
     ghost fact = { λ v items. IsPrefix v.taken v.sent };
 }
 
-// Which heap a ring is opened for. The call that opens it picks the heap.
+// The heap for which a ring is opened. The call that opens it picks the heap.
 pub(crate) trait Named {
     ghost use Rattle.shared_heap.specs.Fresh.{HeapId};
 
@@ -151,7 +152,7 @@ impl<T, N: Named> Split<View<T>> for Ends<N> {
     ghost right = { λ v. receiver N.heap [] false };
 }
 
-// A new pass that may do nothing, and knows what this one does.
+// A new pass without a role, with the knowledge of this one.
 pub(crate) struct Tells;
 
 impl<T> Split<View<T>> for Tells {
@@ -162,7 +163,7 @@ impl<T> Split<View<T>> for Tells {
     ghost right = { knowing };
 }
 
-// A pass is told what another knows of what was sent.
+// A pass observes what another one knows of the sent items.
 pub(crate) struct HearsSent;
 
 impl<T> Join<View<T>> for HearsSent {
@@ -173,7 +174,7 @@ impl<T> Join<View<T>> for HearsSent {
     ghost spent = { nobody };
 }
 
-// A pass is told what another knows of what was taken.
+// A pass observes what another one knows of the taken items.
 pub(crate) struct HearsTaken;
 
 impl<T> Join<View<T>> for HearsTaken {
@@ -184,7 +185,7 @@ impl<T> Join<View<T>> for HearsTaken {
     ghost spent = { nobody };
 }
 
-// The receiver's pass takes in the sender's.
+// The receiver's pass joins the sender's.
 pub(crate) struct Meets;
 
 impl<T> Join<View<T>> for Meets {

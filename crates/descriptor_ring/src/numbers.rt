@@ -19,17 +19,17 @@ use std::sync::{Arc, Wait};
 /// The ring was full.
 #[derive(Drop)]
 pub struct NumberFull {
-    /// The number that was to be sent.
+    /// The number that wasn't sent.
     pub item: u64,
     pub lesson: Lesson,
 }
 
-/// What a receiver took.
+/// The result of a take.
 #[derive(Drop)]
 pub enum NumberTaken {
     /// The next number.
     Item(u64),
-    /// All numbers were taken, and none comes.
+    /// All numbers were taken, and no more will be sent.
     Closed,
     /// The ring was empty.
     Empty(Lesson),
@@ -43,14 +43,14 @@ impl Goods for u64 {
     ghost most = { 2 ^ 61 };
 }
 
-/// The sending end of a ring of numbers. Contracts see it as a `NumberSending`: which ring it is, how many numbers the
-/// ring holds, the numbers that were sent, and those that it was told were taken.
+/// The sending end of a ring of numbers. Contracts see it as a `NumberSending`: the ring, its capacity, the numbers
+/// that were sent, and those that it has observed as taken.
 pub struct NumberSender {
     line: Arc<Line<u64>, Global>,
     pass: LinePass<u64>,
 }
 
-// By hand, so that a drop is one call where it is needed, and not a drop of each part.
+// Written by hand, so that a drop is one call instead of one for each field.
 impl Drop for NumberSender {
     fn drop(self) {
         let NumberSender {
@@ -78,15 +78,15 @@ impl Model for NumberSender {
     ghost invariant = { λ s. IsPassOf (arc_value s.line) s.pass × IsSender (known s.pass) };
 }
 
-/// The receiving end of a ring of numbers. Contracts see it as a `NumberReceiving`: which ring it is, the numbers that
-/// were taken, whether the closing was, and what it was told was sent.
+/// The receiving end of a ring of numbers. Contracts see it as a `NumberReceiving`: the ring, the numbers that were
+/// taken, whether the closing sentinel was taken, and what it has observed as sent.
 pub struct NumberReceiver {
     line: Arc<Line<u64>, Global>,
     pass: LinePass<u64>,
     closed: bool,
 }
 
-// By hand, so that a drop is one call where it is needed, and not a drop of each part.
+// Written by hand, so that a drop is one call instead of one for each field.
 impl Drop for NumberReceiver {
     fn drop(self) {
         let NumberReceiver {
@@ -117,8 +117,8 @@ impl Model for NumberReceiver {
     ghost invariant = { λ r. IsPassOf (arc_value r.line) r.pass × IsReceiver (2 ^ 61) r.closed (known r.pass) };
 }
 
-/// What a sender of numbers leaves when it has closed. Contracts see it as an `AllNumbersSent`: which ring it is of,
-/// and all numbers that were sent.
+/// The remains of a sender of numbers that has closed. Contracts see it as an `AllNumbersSent`: the ring, and all
+/// numbers that were sent.
 #[derive(Drop)]
 pub struct NumbersSent {
     pass: LinePass<u64>,
@@ -137,7 +137,7 @@ impl Model for NumbersSent {
     ghost invariant = { λ s. (s.pass.me.1 ≡ []) × HasClosed (known s.pass) };
 }
 
-/// Opens a ring that holds up to `cap` numbers.
+/// Opens a ring with a capacity of `cap` numbers.
 pub fn open_numbers(alloc: Global, cap: u64) -> Result<(NumberSender, NumberReceiver), AllocError>
     requires at_least { 1 ≤ cap }
     requires at_most { cap ≤ MAX_CAPACITY }
@@ -165,8 +165,8 @@ pub fn open_numbers(alloc: Global, cap: u64) -> Result<(NumberSender, NumberRece
 }
 
 impl NumberSender {
-    /// Sends a number. It comes back where the ring was full at the call's own step, and then the ring held the last
-    /// `capacity` numbers that were sent, behind those that the sender was told were taken.
+    /// Sends a number. Returns it if the ring was full at the call's atomic access. Then the ring held the last
+    /// `capacity` numbers that were sent, and those that the sender has observed as taken come before them.
     pub fn send<R: Wait>(&mut self, rt: &R, item: u64) -> Result<(), NumberFull>
         requires { length self.old.sent < 2 ^ 61 }
 
@@ -190,7 +190,7 @@ impl NumberSender {
         }
     }
 
-    /// How far the ring has come, as far as this end knows. It waits for nobody and takes no memory.
+    /// The progress of the ring, as this end knows it. Never blocks or allocates.
     pub fn progress(&mut self) -> Progress<u64>
         ensures sent { result.sent ≡ self.old.sent }
         ensures taken { result.taken ≡ self.old.told }
@@ -202,7 +202,7 @@ impl NumberSender {
         }
     }
 
-    /// Learns what was taken, as far as the end knew that made `progress`. It waits for nobody and takes no memory.
+    /// Learns what the end that made `progress` knew of the items taken. Never blocks or allocates.
     pub fn hear(&mut self, progress: Progress<u64>)
         requires { progress.ring ≡ self.old.ring }
 
@@ -217,7 +217,8 @@ impl NumberSender {
         calls::hear_taken(&self.line, &mut self.pass, pass);
     }
 
-    /// Sends the closing behind all numbers. The sender comes back where the ring was full at the call's own step.
+    /// Sends the closing sentinel after all numbers. Returns the sender if the ring was full at the call's atomic
+    /// access.
     pub fn close<R: Wait>(self, rt: &R) -> Result<NumbersSent, (NumberSender, Lesson)>
         ensures sent { IfOk result (λ sent. sent.items ≡ self.sent) }
         ensures ring { IfOk result (λ sent. sent.ring ≡ self.ring) }
@@ -242,14 +243,16 @@ impl NumberReceiver {
         ensures item { OnItem result (λ n. self.new.taken ≡ self.old.taken ++ n ∷ []) }
         ensures few { length self.new.taken ≤ 2 ^ 61 }
         ensures kept { OnNone result (self.new.taken ≡ self.old.taken) }
-        // It answers Closed exactly from the closing on.
+        // It returns `Closed` exactly after the closing sentinel.
         ensures closed { (result ≡ NumberTaken.Closed) ↔ IsTrue self.new.closed }
         ensures stays_closed { IsTrue self.old.closed → IsTrue self.new.closed }
         ensures empty { OnEmpty result (λ lesson. lesson ≡ 0) }
-        // It finds nothing only where the ring was empty at the call's own step: it took all that it was told was sent.
+        // If it finds nothing, the ring was empty at the call's atomic access: the receiver took all that it had
+        // observed as sent.
         ensures all { OnNone result (IsPrefix self.old.told self.old.taken) }
         ensures unclosed { OnEmpty result (λ lesson. self.old.told_closed ≡ false) }
-        // What is taken and what it was told was sent are in one order, and behind what it was told it takes nothing.
+        // What was taken and what it has observed as sent are in one order. If it has observed the closing sentinel,
+        // it takes nothing after that.
         ensures in_order { Agree self.new.told self.new.taken }
         ensures no_more { IsTrue self.old.told_closed → IsPrefix self.new.taken self.new.told }
 
@@ -269,7 +272,7 @@ impl NumberReceiver {
         }
     }
 
-    /// How far the ring has come, as far as this end knows. It waits for nobody and takes no memory.
+    /// The progress of the ring, as this end knows it. Never blocks or allocates.
     pub fn progress(&mut self) -> Progress<u64>
         ensures sent { result.sent ≡ self.old.told }
         ensures taken { result.taken ≡ self.old.taken }
@@ -281,7 +284,7 @@ impl NumberReceiver {
         }
     }
 
-    /// Learns what was sent, as far as the end knew that made `progress`. It waits for nobody and takes no memory.
+    /// Learns what the end that made `progress` knew of the items sent. Never blocks or allocates.
     pub fn hear(&mut self, progress: Progress<u64>)
         requires { progress.ring ≡ self.old.ring }
 
@@ -297,7 +300,7 @@ impl NumberReceiver {
         calls::hear_sent(&self.line, &mut self.pass, pass);
     }
 
-    /// Learns all that was sent, of a sender that has closed, while some of it may still wait.
+    /// Learns all that was sent, from a sender that has closed. Some of it may not be taken yet.
     pub fn hear_all(&mut self, sent: NumbersSent)
         requires { sent.ring ≡ self.old.ring }
 
@@ -312,7 +315,7 @@ impl NumberReceiver {
         calls::hear_all(&self.line, &mut self.pass, pass);
     }
 
-    /// Compares what was taken with what the sender sent: it is the same.
+    /// Joins a sender that has closed: what was taken is what was sent.
     pub fn meet(&mut self, sent: NumbersSent)
         requires one_ring { sent.ring ≡ self.old.ring }
         requires closed { IsTrue self.old.closed }

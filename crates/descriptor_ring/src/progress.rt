@@ -1,10 +1,10 @@
-//! How far a ring had come, as its other end can be told.
+//! The progress of a ring, for its other end.
 
 use crate::line::LinePass;
 use std::marker::Model;
 
-/// How far a ring had come when one of its ends made this: the items that were sent and taken, as far as that end knew.
-/// It may go to any thread, and the other end can be told of it. It has no bytes. Contracts see it as a `Telling`.
+/// The progress of a ring when one of its ends made this: the items that were sent and taken, as that end knew them.
+/// It may go to any thread, and the other end can observe it. It occupies no bytes. Contracts see it as a `Telling`.
 #[derive(Drop)]
 pub struct Progress<T> {
     pub(crate) pass: LinePass<T>,

@@ -19,14 +19,14 @@ use std::alloc::{AllocError, Global};
 use std::marker::{Brand, Model};
 use std::sync::{Arc, Wait};
 
-/// The sending end of a ring of descriptors. Contracts see it as a `Sending`: which ring it is, of which heap, how
-/// many items the ring holds, the descriptors that were sent, and those that it was told were taken.
+/// The sending end of a ring of descriptors. Contracts see it as a `Sending`: the ring, its heap, its capacity, the
+/// descriptors that were sent, and those that it has observed as taken.
 pub struct Sender {
     line: Arc<Line<Descriptor>, Global>,
     pass: LinePass<Descriptor>,
 }
 
-// By hand, so that a drop is one call where it is needed, and not a drop of each part.
+// Written by hand, so that a drop is one call instead of one for each field.
 impl Drop for Sender {
     fn drop(self) {
         let Sender {
@@ -55,15 +55,15 @@ impl Model for Sender {
     ghost invariant = { λ s. IsPassOf (arc_value s.line) s.pass × IsSender (known s.pass) };
 }
 
-/// The receiving end of a ring of descriptors. Contracts see it as a `Receiving`: which ring it is, of which heap,
-/// the descriptors that were taken, whether the closing was, and what it was told was sent.
+/// The receiving end of a ring of descriptors. Contracts see it as a `Receiving`: the ring, its heap, the descriptors
+/// that were taken, whether the closing sentinel was taken, and what it has observed as sent.
 pub struct Receiver {
     line: Arc<Line<Descriptor>, Global>,
     pass: LinePass<Descriptor>,
     closed: bool,
 }
 
-// By hand, so that a drop is one call where it is needed, and not a drop of each part.
+// Written by hand, so that a drop is one call instead of one for each field.
 impl Drop for Receiver {
     fn drop(self) {
         let Receiver {
@@ -94,8 +94,8 @@ impl Model for Receiver {
     ghost invariant = { λ r. IsPassOf (arc_value r.line) r.pass × IsReceiver 4294967294 r.closed (known r.pass) };
 }
 
-/// What a sender leaves when it has closed. Contracts see it as an `AllSent`: which ring it is of, and all
-/// descriptors that were sent.
+/// The remains of a sender that has closed. Contracts see it as an `AllSent`: the ring, and all descriptors that were
+/// sent.
 #[derive(Drop)]
 pub struct Sent {
     pass: LinePass<Descriptor>,
@@ -114,7 +114,7 @@ impl Model for Sent {
     ghost invariant = { λ s. (s.pass.me.1 ≡ []) × HasClosed (known s.pass) };
 }
 
-/// Opens a ring that holds up to `cap` descriptors, for notes of the reader's heap.
+/// Opens a ring with a capacity of `cap` descriptors, for notes of the reader's heap.
 pub fn open(alloc: Global, cap: u64, reader: &Reader) -> Result<(Sender, Receiver), AllocError>
     requires at_least { 1 ≤ cap }
     requires at_most { cap ≤ MAX_CAPACITY }
@@ -143,8 +143,8 @@ pub fn open(alloc: Global, cap: u64, reader: &Reader) -> Result<(Sender, Receive
 }
 
 impl Sender {
-    /// Sends a descriptor. It comes back where the ring was full at the call's own step, and then the ring held the
-    /// last `capacity` descriptors that were sent, behind those that the sender was told were taken.
+    /// Sends a descriptor. Returns it if the ring was full at the call's atomic access. Then the ring held the last
+    /// `capacity` descriptors that were sent, and those that the sender has observed as taken come before them.
     pub fn send<R: Wait>(&mut self, rt: &R, descriptor: Descriptor) -> Result<(), Full>
         requires of_heap { IsOf self.old.heap descriptor }
         requires few { length self.old.sent < 4294967294 }
@@ -170,7 +170,7 @@ impl Sender {
         }
     }
 
-    /// How far the ring has come, as far as this end knows. It waits for nobody and takes no memory.
+    /// The progress of the ring, as this end knows it. Never blocks or allocates.
     pub fn progress(&mut self) -> Progress<Descriptor>
         ensures sent { result.sent ≡ self.old.sent }
         ensures taken { result.taken ≡ self.old.told }
@@ -182,7 +182,7 @@ impl Sender {
         }
     }
 
-    /// Learns what was taken, as far as the end knew that made `progress`. It waits for nobody and takes no memory.
+    /// Learns what the end that made `progress` knew of the items taken. Never blocks or allocates.
     pub fn hear(&mut self, progress: Progress<Descriptor>)
         requires { progress.ring ≡ self.old.ring }
 
@@ -198,7 +198,8 @@ impl Sender {
         calls::hear_taken(&self.line, &mut self.pass, pass);
     }
 
-    /// Sends the closing behind all descriptors. The sender comes back where the ring was full at the call's own step.
+    /// Sends the closing sentinel after all descriptors. Returns the sender if the ring was full at the call's atomic
+    /// access.
     pub fn close<R: Wait>(self, rt: &R) -> Result<Sent, (Sender, Lesson)>
         ensures sent { IfOk result (λ sent. sent.items ≡ self.sent) }
         ensures ring { IfOk result (λ sent. sent.ring ≡ self.ring) }
@@ -224,14 +225,16 @@ impl Receiver {
         ensures of_heap { OnItem result (λ d. IsOf self.old.heap d) }
         ensures few { length self.new.taken ≤ 4294967294 }
         ensures kept { OnNone result (self.new.taken ≡ self.old.taken) }
-        // It answers Closed exactly from the closing on.
+        // It returns `Closed` exactly after the closing sentinel.
         ensures closed { (result ≡ Taken.Closed) ↔ IsTrue self.new.closed }
         ensures stays_closed { IsTrue self.old.closed → IsTrue self.new.closed }
         ensures empty { OnEmpty result (λ lesson. lesson ≡ 0) }
-        // It finds nothing only where the ring was empty at the call's own step: it took all that it was told was sent.
+        // If it finds nothing, the ring was empty at the call's atomic access: the receiver took all that it had
+        // observed as sent.
         ensures all { OnNone result (IsPrefix self.old.told self.old.taken) }
         ensures unclosed { OnEmpty result (λ lesson. self.old.told_closed ≡ false) }
-        // What is taken and what it was told was sent are in one order, and behind what it was told it takes nothing.
+        // What was taken and what it has observed as sent are in one order. If it has observed the closing sentinel,
+        // it takes nothing after that.
         ensures in_order { Agree self.new.told self.new.taken }
         ensures no_more { IsTrue self.old.told_closed → IsPrefix self.new.taken self.new.told }
 
@@ -252,7 +255,7 @@ impl Receiver {
         }
     }
 
-    /// How far the ring has come, as far as this end knows. It waits for nobody and takes no memory.
+    /// The progress of the ring, as this end knows it. Never blocks or allocates.
     pub fn progress(&mut self) -> Progress<Descriptor>
         ensures sent { result.sent ≡ self.old.told }
         ensures taken { result.taken ≡ self.old.taken }
@@ -264,7 +267,7 @@ impl Receiver {
         }
     }
 
-    /// Learns what was sent, as far as the end knew that made `progress`. It waits for nobody and takes no memory.
+    /// Learns what the end that made `progress` knew of the items sent. Never blocks or allocates.
     pub fn hear(&mut self, progress: Progress<Descriptor>)
         requires { progress.ring ≡ self.old.ring }
 
@@ -281,7 +284,7 @@ impl Receiver {
         calls::hear_sent(&self.line, &mut self.pass, pass);
     }
 
-    /// Learns all that was sent, of a sender that has closed, while some of it may still wait.
+    /// Learns all that was sent, from a sender that has closed. Some of it may not be taken yet.
     pub fn hear_all(&mut self, sent: Sent)
         requires { sent.ring ≡ self.old.ring }
 
@@ -297,7 +300,7 @@ impl Receiver {
         calls::hear_all(&self.line, &mut self.pass, pass);
     }
 
-    /// Compares what was taken with what the sender sent: it is the same.
+    /// Joins a sender that has closed: what was taken is what was sent.
     pub fn meet(&mut self, sent: Sent)
         requires one_ring { sent.ring ≡ self.old.ring }
         requires closed { IsTrue self.old.closed }

@@ -1,4 +1,4 @@
--- Each connection of a drill is bound, where its links tell of each other what links in memory do.
+-- Each connection of a drill is bound, if the ends of its links relate as links in memory do.
 use Rattle.std.proofs.Common.{◌≡◌, ◌≢◌, ◌⊎◌, ℕ, ◌^◌, ◌<◌, ◌==◌, List, [], ◌∷◌, ◌++◌, Option, Some, None}
 use Rattle.std.proofs.Common.{refl, sym, ap, ◌∙◌, subst, inl, inr, lit<}
 use Rattle.std.specs.Prelude.{All}
@@ -36,7 +36,7 @@ use Rattle.drill_laws.proofs.Unbound.{Laws, never-unbound}
 
 -- ---- its applications
 
--- an application has no table of its own, and its connection a number that fits a frame
+-- an application has no table of its own, and the number of its connection fits a frame
 abbrev IsPlain : Application → Type 0
 IsPlain app = (app.own ≡ None) × (app.conn < 2 ^ 32)
 
@@ -65,10 +65,10 @@ came-whole (Some xs) None given stream known none came is = absurd came
 came-whole (Some xs) (Some ys) given stream known none came is =
     sym (same_Some ys given is) ∙ came ∙ ap (λ (l : List ℕ). l ++ stream) none
 
--- ---- what a link was handed, and what the other end makes of it
+-- ---- what a link was handed, and what the other end reads from it
 
 module _ {C L : Type 0} (of_clock : ClockMembers C) (of_link : LinkMembers L) (calls : ℕ) (clock : C) where
-  -- a link was handed a hello of the drill, and whatever followed
+  -- a link was handed a hello of the drill, and any frames after it
   record Greets (link : L) : Type 0 where
     pub conn : ℕ
     pub small : conn < 2 ^ 32
@@ -170,7 +170,7 @@ module _ {C L : Type 0} (of_clock : ClockMembers C) (of_link : LinkMembers L) (c
       (one-bound laws n e s.link served.1.0 works_too (its-hello m s served.0 works) met.0.0)
       (all-bound laws ends conns served.1.1 (All-tail (NeverFailed of_link) e conns others) met.1))
 
-  -- ---- what is told of them
+  -- ---- their report
 
   told-bound : (conn : ℕ) (outcome : Outcome) (t : Shown) → IsBoundOne outcome → ShowsOutcome (drill calls) conn outcome t
       → IsToldBound t

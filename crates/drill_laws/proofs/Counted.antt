@@ -1,4 +1,4 @@
--- What the lines of a connection count.
+-- What the lines of a connection count as.
 use Rattle.std.proofs.Common.{◌≡◌, ℕ, ◌+◌, false, cond, List, [], ◌∷◌, ◌++◌}
 use Rattle.std.proofs.Common.{length, map, reverse, refl, sym, ap, ◌∙◌, arith, length-append, append-nil}
 use Rattle.std.specs.Prelude.{All}
@@ -30,7 +30,7 @@ count-joined a b w = sum_by-append (λ (h : Count). cond (is_what w h.what) 1 0)
 
 -- ---- the lines of a history
 
--- as what they count, with the calls that were accepted
+-- what they count as, given the accepted calls
 abbrev pub lines_of : List Taken → Behind → List Count
 lines_of calls past = flat_map (counted calls) (reverse past)
 
@@ -69,7 +69,7 @@ no-standing-lines calls (x ∷ past) =
     let rest = no-standing-lines calls past in
     omega (arith, more, none, rest)
 
--- the lines that tell a fate, and the calls that stand, are as many as the calls that were accepted
+-- the lines of fates, and the pending calls, are as many as the accepted calls
 fate-lines : (u : Under) (calls : List Taken) (past : Behind) → TakesOne → SendsOne → RefusesOne → IsPrefix u past
     → length (taken past) ≡ count_all (lines_of calls past) what.Sent + count_all (lines_of calls past) what.Refused + length (standing past)
 fate-lines u calls [] takes sends refuses prefix = refl
@@ -98,7 +98,7 @@ fate-lines u calls (x ∷ past) takes sends refuses prefix =
     let rest = fate-lines u calls past takes sends refuses prefix.0 in
     omega (arith, sent, refused, rest)
 
--- ---- the lines of the calls that stand
+-- ---- the lines of the pending calls
 
 row-line : (calls : List Taken) (call : ℕ × ℕ) (row : List (ℕ × ℕ)) (w : What)
     → count_all (map (standing_counted calls) (call ∷ row)) w
@@ -167,7 +167,7 @@ module _ (c : Connection) (is : IsConnection c) where
 
 -- ---- all lines of a run
 
--- of a connection that was bound all is told that holds of connections
+-- the invariant of connections holds for a bound connection
 abbrev pub IsOfConnection : Shown → Type 0
 IsOfConnection (Unbound conn why) = Unit {0}
 IsOfConnection (Served served) = IsConnection served.calls.now

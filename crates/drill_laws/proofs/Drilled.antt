@@ -90,7 +90,7 @@ all-accepted c submissions accepts working =
     omega (arith, given, asks, one, other, both)
 
 module _ {C L : Type 0} (of_clock : ClockMembers C) (of_link : LinkMembers L) (calls : ℕ) (clock : C) where
-  -- a client's connection took the calls of its program
+  -- a client's connection accepted the calls of its program
   client-took : (number : ℕ) (app : Application) (start now : L) (b : BoundConn) → app ≡ client calls number
       → WasServedBound of_clock of_link (drill calls) clock app start now b → of_link.faults now ≡ 0
       → length (taken (behind b.submissions.conn)) ≡ calls
@@ -129,7 +129,7 @@ module _ {C L : Type 0} (of_clock : ClockMembers C) (of_link : LinkMembers L) (c
       let same : was.app ≡ client calls n = same_Some was.app (client calls n) (sym was.its_app ∙ has) in
       took-in n s.conn was.app was.start s.link s.outcome t same was.became never shows is bound
 
-  -- so many calls for each client
+  -- this many calls for each client
   for_each : List ℕ → ℕ
   for_each [] = 0
   for_each (n ∷ ns) = calls + for_each ns
@@ -155,7 +155,7 @@ module _ {C L : Type 0} (of_clock : ClockMembers C) (of_link : LinkMembers L) (c
       let second = count-joined (counted_in u) (flat_map counted_in told) what.Took in
       omega (arith, here, later, first, second)
 
-  -- ---- connections that are in order already
+  -- ---- connections that are ordered already
 
   Numbered : ℕ → List (ServedConn L) → Type 0
   Numbered n [] = Unit {0}

@@ -1,4 +1,4 @@
--- Each call that was accepted was sent, was refused, or stands.
+-- Each accepted call was sent, was refused, or is pending.
 use Rattle.std.proofs.Common.{◌≡◌, ℕ, ◌+◌, ◌<◌, ◌≤◌, ◌==◌, Bool, true, false, cond, not, ◌⊎◌, inl, inr, List, [], ◌∷◌, ◌++◌}
 use Rattle.std.proofs.Common.{length, map, refl, sym, ap, ◌∙◌, subst, arith, length-append}
 use Rattle.std.specs.Prelude.{Contains, filter}
@@ -17,12 +17,12 @@ use Rattle.call_history.specs.declared.happening.TookCopy.TheVariants.{Copy, Mal
 
 -- ---- calls whose numbers rise
 
--- numbers rise along the calls, from above one number up to another
+-- numbers rise along the calls, above one number and up to another
 abbrev pub Rising : ℕ → ℕ → List Taken → Type 0
 Rising low top [] = Unit {0}
 Rising low top (call ∷ calls) = (low < call.seq) × (call.seq ≤ top) × Rising call.seq top calls
 
--- the calls but that of a number
+-- the calls except the one with a number
 abbrev pub others_of : ℕ → List Taken → List Taken
 others_of seq calls = filter (λ call. not (seq == call.seq)) calls
 
@@ -60,7 +60,7 @@ contains-cases n ns seq has = elim (Contains-append_cases (n ∷ []) ns seq has)
   | inr rest ↦ inr rest
 ]
 
--- none has a number that isn't above the least
+-- none has a number that isn't above the lower bound
 none-gone : (low top seq : ℕ) (calls : List Taken) → seq ≤ low → Rising low top calls → others_of seq calls ≡ calls
 none-gone low top seq [] le rises = refl
 none-gone low top seq (call ∷ calls) le rises =
@@ -68,7 +68,7 @@ none-gone low top seq (call ∷ calls) le rises =
     let rest : others_of seq calls ≡ calls = none-gone call.seq top seq calls (omega (arith, le, rises.0)) rises.2 in
     ap (λ b. cond (not b) (call ∷ others_of seq calls) (others_of seq calls)) apart ∙ ap (λ cs. call ∷ cs) rest
 
--- without a call of theirs there is one less
+-- without the call with a number there is one less
 one-gone : (low top seq : ℕ) (calls : List Taken) → Rising low top calls → Contains (numbers_of calls) seq
     → length (others_of seq calls) + 1 ≡ length calls
 one-gone low top seq [] rises has = absurd (contains-none seq has)
@@ -117,12 +117,12 @@ is-first-there : (calls : List Taken) (seq : ℕ) → IsFirst calls seq → Cont
 is-first-there [] seq is = absurd is
 is-first-there (call ∷ calls) seq is = contains-first call.seq (numbers_of calls) seq is
 
--- the number that a refusal of a malformed call names
+-- the number of a refused malformed call
 refused-at-once : (copy : TookCopy) (n seq : ℕ) → IsRefusedAtOnce copy n (Refused seq cause.Malformed) → seq ≡ n
 refused-at-once (Copy tree) n seq is = absurd is
 refused-at-once (Malformed reason place value) n seq is = cc
 
--- how the calls that stand change, as the laws of histories say
+-- how the pending calls change, by the laws of histories
 abbrev pub TakesOne : Type 0
 TakesOne = (u : Under) (past : Behind) (call : Taken) → IsPrefix u past → call.seq ≡ length (taken past) + 1
     → standing (Took call ∷ past) ≡ standing past ++ call ∷ []
@@ -134,7 +134,7 @@ abbrev pub RefusesOne : Type 0
 RefusesOne = (past : Behind) (seq : ℕ) (why : Cause)
     → standing (Refused seq why ∷ past) ≡ others_of seq (standing past)
 
--- a malformed call stands until it is refused
+-- a malformed call is pending until it is refused
 malformed-stood : (u : Under) (past : Behind) (seq : ℕ) → TakesOne → IsPrefix u past
     → RefusesMalformed past (Refused seq cause.Malformed) → Contains (numbers_of (standing past)) seq
 malformed-stood u (Took call ∷ past) seq takes prefix is =
@@ -148,7 +148,7 @@ malformed-stood u (Took call ∷ past) seq takes prefix is =
     (Contains-push (numbers_of (standing past)) call.seq))
 malformed-stood u past seq takes prefix is = absurd is
 
--- a refusal is that of a call that stands
+-- a refusal is that of a pending call
 refused-stood : (u : Under) (past : Behind) (seq : ℕ) (why : Cause) → TakesOne → IsPrefix u past
     → May u past (Refused seq why) → Contains (numbers_of (standing past)) seq
 refused-stood u past seq cause.Malformed takes prefix may = malformed-stood u past seq takes prefix may.malformed
@@ -163,7 +163,7 @@ sent-stood u past seq bytes may =
     let next = may.in_order in
     subst (λ n. Contains (numbers_of (standing past)) n) next.number (first-there (standing past) next.others next.call next.first)
 
--- ---- one call more, or one less
+-- ---- one more call, or one less
 
 pub one-taken : (u : Under) (past : Behind) (call : Taken) → TakesOne → IsPrefix u (Took call ∷ past)
     → length (standing (Took call ∷ past)) ≡ length (standing past) + 1

@@ -1,4 +1,4 @@
--- Where no policy ever holds a call, none stands once no call can go on.
+-- If no policy ever holds a call, none is pending once no call can advance.
 use Rattle.std.proofs.Common.{◌≡◌, ℕ, zero, suc, ◌+◌, Bool, true, false, cond, not, List, [], ◌∷◌, ◌++◌, Option, Some, None}
 use Rattle.std.proofs.Common.{length, map, take, drop, refl, sym, ap, ◌∙◌, subst, arith}
 use Rattle.std.specs.Prelude.{All, IsSomeAnd, slice_get}
@@ -26,7 +26,7 @@ use Rattle.service_loop.specs.declared.due_step.DueStep.{DueStep}
 use Rattle.service_loop.specs.declared.submissions.Submissions.{Submissions}
 use Rattle.drill_laws.specs.Holding.{NeverHolds, StepNeverHolds}
 
--- ---- the chain has such policies alone
+-- ---- the chain has only such policies
 
 abbrev EntryNeverHolds : Entry → Type 0
 EntryNeverHolds e = NeverHolds e.policy
@@ -60,7 +60,7 @@ chain-never (Op step ∷ past) all =
     changed-never step (chain past) parts.1 (chain-never past parts.0)
 chain-never (x ∷ past) all = chain-never past all
 
--- the steps that came are those that were to come
+-- the operations applied are scheduled ones
 came-so : (all : Option ℕ) (came : List (Step × ℕ)) (steps : List DueStep) → AllZip (IsCome all) came steps
     → All StepNeverHolds steps → All CameSo came
 came-so all [] steps have never = All-nil CameSo

@@ -1,10 +1,10 @@
--- A table that prints each number of a type in one way isn't refused by itself.
+-- A table that prints each number of a type in one way agrees with itself.
 use Rattle.std.proofs.Common.{◌≡◌, ℕ, List, sym, ◌∙◌, arith}
 use Rattle.mrpc_table.specs.declared.table.Table.{Table}
 use Rattle.schema_binding.specs.Agreement.{FieldText, Offers, Prints, Refuses, no_service, other_field, other_methods, other_text}
 use Rattle.schema_binding.specs.declared.fault.AgreeFault.{AgreeFault}
 
--- a number of a type is printed in one way
+-- a number of a type has one text
 abbrev pub PrintsOnce : Table → Type 0
 PrintsOnce T = (type : List ℕ) (number : ℕ) (one other : FieldText) → Prints T type number one → Prints T type number other
     → one ≡ other

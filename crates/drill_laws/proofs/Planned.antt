@@ -1,4 +1,4 @@
--- The steps on a connection name policies of the plan alone.
+-- The operations for a connection name only policies of the plan.
 use Rattle.std.proofs.Common.{◌≡◌, ℕ, Bool, true, false, cond, List, [], ◌∷◌, Option, Some, None}
 use Rattle.std.proofs.Common.{map, option_map, refl, subst}
 use Rattle.std.specs.Prelude.{All, slice_get}
@@ -35,7 +35,7 @@ found-holds P test [] x all at = absurd (none-some x at)
 found-holds P test (y ∷ xs) x all at = found-one P (test y) y (find test xs) x (All-head P y xs all)
     (λ more. found-holds P test xs x (All-tail P y xs all) more) at
 
--- ---- a policy at a place
+-- ---- a policy at an index
 
 abbrev NamedNever : NamedPolicy → Type 0
 NamedNever p = NeverHolds p.policy
@@ -61,7 +61,7 @@ by-so policies None place p all own is = named-so policies place p (slice_get po
 by-so policies (Some schema) place p all own is =
     own-so schema.policies place p (own_policy_in schema.policies place) own refl is
 
--- ---- a step of a line
+-- ---- the operation of a line
 
 abbrev OpNeverHolds : Op → Type 0
 OpNeverHolds step = IfPolicy step NeverHolds

@@ -1,4 +1,4 @@
--- The schema of a drill, and the hellos that say it.
+-- The schema of a drill, and the hellos that carry it.
 use Rattle.std.proofs.Common.{◌≡◌, ℕ, zero, suc, ◌^◌, ◌<◌, ◌≤◌, Contains, List, [], ◌∷◌, length, codes, refl, sym, ap, ◌∙◌, subst, inl, inr, arith, lit≤, lit<}
 use Rattle.std.specs.Fmt.{digits}
 use Rattle.std.proofs.lemmas.List.Elements.{All-from_recursion}
@@ -14,7 +14,7 @@ use Rattle.schema_binding.specs.Hello.{IsHello, hello_payload}
 use Rattle.drill_plan.specs.Drill.{field, message, method, schema}
 use Rattle.drill_laws.proofs.Itself.{PrintsOnce}
 
--- the service to which all bind
+-- the service to which all applications bind
 abbrev pub service : List ℕ
 service = codes "S"
 

@@ -1,4 +1,4 @@
--- A stream that begins as a frame does, up to its end or beyond it.
+-- A stream that shares a prefix with a frame, up to the frame's end or beyond it.
 use Rattle.std.proofs.Common.{◌≡◌, ℕ, List, [], ◌∷◌, ◌++◌, Option, Some, sym, ap, ◌∙◌, append_assoc}
 use Rattle.std.proofs.lemmas.List.Elements.{All-head}
 use Rattle.frame_transport.specs.Frames.{FaultStays, IsFrame, bytes_of, joined}
@@ -6,18 +6,18 @@ use Rattle.frame_transport.specs.declared.fault.FeedFault.{FeedFault}
 use Rattle.frame_transport.specs.declared.format.Frame.{Frame}
 use Rattle.receive_core.specs.Life.{Reads}
 
--- the bytes of a frame in front of others determine it
+-- the bytes of a frame before others determine it
 abbrev pub OneFrame : Type 0
 OneFrame = (f g : Frame) (more others : List ℕ) → IsFrame f → IsFrame g → bytes_of f ++ more ≡ bytes_of g ++ others
     → f.place ≡ g.place → (f ≡ g) × (more ≡ others)
 
 module _ (f : Frame) (frame : IsFrame f) (front : f.place ≡ 0) (more : List ℕ) where
-  -- where the frame is there, there is one
+  -- if the whole frame has arrived, a frame is read
   pub not-none : (stream : List ℕ) (fault : Option FeedFault) → stream ≡ bytes_of f ++ more → Reads 0 stream [] fault → ⊥
   not-none stream fault whole reads = reads.splits.partial f more frame (sym reads.splits.whole ∙ whole)
 
   module _ (stream left : List ℕ) (begins : stream ++ left ≡ bytes_of f ++ more) where
-    -- a fault in front of the frame would be one of the whole stream
+    -- a fault before the end of the frame would be one of the whole stream
     pub no-fault : FaultStays → (fault : FeedFault) → Reads 0 stream [] (Some fault) → ⊥
     no-fault stays fault reads =
         let on = stays 0 stream left [] reads.rest fault reads.splits reads.first in

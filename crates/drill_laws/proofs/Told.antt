@@ -1,4 +1,4 @@
--- What is told of the connections of a run, where no policy ever holds a call.
+-- The report of the connections of a run, if no policy ever holds a call.
 use Rattle.std.proofs.Common.{◌≡◌, ℕ, List, [], ◌∷◌, Option, Some, None}
 use Rattle.std.proofs.Common.{length, refl, sym, ap, ◌∙◌, subst, arith}
 use Rattle.std.specs.Prelude.{All}
@@ -53,7 +53,7 @@ pub by-number-all : {L : Type 0} (P : ServedConn L → Type 0) (conns : List (Se
 by-number-all P conns all = kept-all P (conn_in conns) (range_with_len 1 MAX_CONNECTIONS)
     (λ n s at. found-holds P _ conns s all at)
 
--- ---- what is told is told of connections
+-- ---- the report is that of connections
 
 of-connection : (plan : Plan) (conn : ℕ) (outcome : Outcome) (t : Shown) → ShowsOutcome plan conn outcome t
     → IsOfConnection t
@@ -67,7 +67,7 @@ pub of-connections : {L : Type 0} (plan : Plan) (conns : List (ServedConn L)) (t
 of-connections plan conns told shows =
     zip-all (Shows plan) IsOfConnection conns told (λ s t. of-connection plan s.conn s.outcome t) shows
 
--- ---- a connection on which no call is left
+-- ---- a connection without a pending call
 
 abbrev pub LeavesNone : Outcome → Type 0
 LeavesNone (Unbound why) = Unit {0}
@@ -95,7 +95,7 @@ module _ {C L : Type 0} (of_clock : ClockMembers C) (of_link : LinkMembers L) (p
       zip-all (WasServed of_clock of_link plan clock) (λ (s : ServedConn L). LeavesNone s.outcome) (all_ends plan.links)
       conns served-leaves served
 
--- ---- what its lines count
+-- ---- what its lines count as
 
 no-standing : (plan : Plan) (conn : ℕ) (outcome : Outcome) (t : Shown) → ShowsOutcome plan conn outcome t
     → LeavesNone outcome → IsOfConnection t → count_all (counted_in t) what.Standing ≡ 0

@@ -1,4 +1,4 @@
--- A stream that begins as a drill's hello does leaves no connection of a drill unbound.
+-- A stream that shares a prefix with a drill's hello leaves no connection of a drill unbound.
 use Rattle.std.proofs.Common.{◌≡◌, ℕ, ◌^◌, ◌<◌, List, ◌∷◌, ◌++◌, Option, refl, ap, subst}
 use Rattle.mrpc_table.specs.declared.table.Table.{Table}
 use Rattle.frame_transport.specs.Frames.{FaultStays}
@@ -16,7 +16,7 @@ use Rattle.drill_laws.proofs.Itself.{never-refused}
 use Rattle.drill_laws.proofs.Schema.{hello_frame, hello-is, offers, payload, payload-is, prints-once, service}
 use Rattle.drill_laws.proofs.Streams.{OneFrame, no-fault, not-none, same-frame}
 
--- the laws on which it stands
+-- the laws that this depends on
 pub record Laws : Type 0 where
   pub stays : FaultStays
   pub one_frame : OneFrame

@@ -7,16 +7,16 @@ use Rattle.run_plan.specs.declared.application.OwnSchema.{OwnSchema}
 use Rattle.run_plan.specs.declared.plan.Plan.{Plan}
 use Rattle.service_loop.specs.declared.due_step.DueStep.{DueStep}
 
--- whatever comes, the policy holds no call: it is no rate by whose mode calls are held
+-- the policy never holds a call: it isn't a rate policy whose mode is to hold calls
 abbrev pub NeverHolds : Policy → Type 0
 NeverHolds (Rate rate) = rate.hold ≡ false
 NeverHolds _ = Unit {0}
 
--- a step of an operator names no policy that may hold a call
+-- a scheduled operation names no policy that may hold a call
 abbrev pub StepNeverHolds : DueStep → Type 0
 StepNeverHolds due = IfPolicy due.step NeverHolds
 
--- the policies of an application, as they were read under a table of its own, if it has one
+-- the policies of an application, as read under the table of its own schema, if it has one
 abbrev pub OwnNeverHold : Option OwnSchema → Type 0
 OwnNeverHold own = IfSome own (λ schema. All (λ p. NeverHolds p.policy) schema.policies)
 

@@ -1,11 +1,11 @@
--- What links in memory tell of each other (this project's own).
+-- How the ends of links in memory relate (this project's own).
 use Rattle.std.specs.Prelude.{◌≡◌, ◌≢◌, ℕ, List, Some, None, IsTrue}
 use Rattle.std.specs.List.{concat}
 use mathlib.Core.List.{IsPrefix}
 use Rattle.mrpc_base.specs.declared.link.Link.{Ghosts as LinkMembers}
 
--- what one end gave is known, as it was all along; it is a beginning of what the other was handed, and is all of it after
--- the end
+-- what one end gave is known, as it was all along; it is a prefix of what was handed to the other, and all of it
+-- after the end
 pub record IsHandedOn {L : Type 0} (of_link : LinkMembers L) (from to : L) : Type 0 where
   pub given : List ℕ
   pub known : of_link.given to ≡ Some given

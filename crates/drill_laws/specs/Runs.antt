@@ -1,4 +1,4 @@
--- What is told of the connections of a run (this project's own).
+-- The report of the connections of a run (this project's own).
 use Rattle.std.specs.Prelude.{List}
 use Rattle.std.specs.List.{AllZip}
 use Rattle.mrpc_base.specs.declared.clock.Clock.{Ghosts as ClockMembers}
@@ -11,12 +11,12 @@ use Rattle.service.specs.Served.{WasServed}
 use Rattle.service.specs.declared.served.ServedConn.{ServedConn}
 use Rattle.scenario_run.specs.Running.{Shows, by_number}
 
--- a connection that was bound is told of
+-- the connection is reported as bound
 abbrev pub IsToldBound : Shown → Type 0
 IsToldBound (Unbound conn why) = ⊥
 IsToldBound (Served served) = Unit {0}
 
--- Each connection of a plan was served, or left unbound, and is told by what became of it, by ascending number.
+-- Each connection of a plan was served, or left unbound, and is reported by its outcome, by ascending number.
 pub record TellsRun {C L : Type 0} (of_clock : ClockMembers C) (of_link : LinkMembers L) (plan : Plan) (clock : C)
     (conns : List (ServedConn L)) (told : List Shown) : Type 0 where
   pub served : AllZip (WasServed of_clock of_link plan clock) (all_ends plan.links) conns

@@ -1,4 +1,4 @@
-//! What the counts of a run tell, and those of a drill. These functions do nothing; their clauses hold.
+//! Laws of the counts of a run, and of those of a drill. These functions do nothing; their contracts are the laws.
 
 ghost use Rattle.std.specs.Prelude.{◌≡◌, ◌+◌, ◌*◌, ◌≤◌, ℕ, List, [], All};
 ghost use Rattle.std.specs.List.{AllZip};
@@ -26,8 +26,8 @@ use mrpc_base::{Clock, Link};
 use schema_binding::one_hello;
 use std::sync::Wait;
 
-/// Each call that was accepted is counted once more, as sent, as refused, or as standing: of a connection as of all that
-/// are told of a run.
+/// Each accepted call is counted exactly once more, as sent, refused or pending: on one connection, and over all
+/// connections of a report.
 pub fn each_call_is_counted_once<L: Link>()
     ensures connection { (c : Connection) → IsConnection c → AddUp (all_counts (counted_on c)) }
     ensures run { (plan : Plan) (conns : List (ServedConn L)) (told : List Shown)
@@ -36,8 +36,8 @@ pub fn each_call_is_counted_once<L: Link>()
     standing_goes_on();
 }
 
-/// Where no policy ever holds a call, none stands once no call can go on: on a connection, where no step of an operator
-/// names a policy that may hold one, and at the end of a run, where its plan has none.
+/// If no policy ever holds a call, none is pending once no call can advance: on a connection, if no scheduled
+/// operation names a policy that may hold one, and at the end of a run, if its plan has no such policy.
 pub fn none_stands_unheld<C: Clock, L: Link>()
     ensures connection { (s : Submissions) → IsConnection s.conn → IsServed s → All StepNeverHolds s.steps.now
         → s.conn.chain.row ≡ [] }
@@ -45,9 +45,9 @@ pub fn none_stands_unheld<C: Clock, L: Link>()
         → TellsRun C.Clock L.Link plan clock conns told → (counts_told told).standing ≡ 0 }
 {}
 
-/// What a drill tells adds up: no call stands, and as many were taken as were sent and refused. Where no link failed
-/// and each connection was bound, at least those were taken that its four clients submit. That each was bound is a
-/// premise here, and holds where the two ends of each link have met ([`drills_are_bound`]).
+/// The counts of a drill add up: no call is pending, and as many were accepted as were sent and refused. If no link
+/// failed and each connection was bound, at least the calls that its four clients submit were accepted. That each was
+/// bound is a premise here; it holds if the two ends of each link have met ([`drills_are_bound`]).
 pub fn drills_add_up<C: Clock, L: Link>()
     ensures none_stands { (calls : ℕ) (clock : C) (conns : List (ServedConn L)) (told : List Shown)
         → TellsRun C.Clock L.Link (drill calls) clock conns told → (counts_told told).standing ≡ 0 }
@@ -62,8 +62,8 @@ pub fn drills_add_up<C: Clock, L: Link>()
     none_stands_unheld::<C, L>();
 }
 
-/// Where no link failed, and the two ends of each have met, as those of links in memory do ([`links_in_memory_meet`]),
-/// each connection of a drill was bound. So at least those calls were taken that its four clients submit.
+/// If no link failed, and the two ends of each have met, as those of links in memory do ([`links_in_memory_meet`]),
+/// each connection of a drill was bound. So at least the calls that its four clients submit were accepted.
 pub fn drills_are_bound<C: Clock, L: Link>()
     ensures bound { (calls : ℕ) (clock : C) (conns : List (ServedConn L)) (told : List Shown)
         → TellsRun C.Clock L.Link (drill calls) clock conns told → All (NeverFailed L.Link) conns
@@ -78,8 +78,8 @@ pub fn drills_are_bound<C: Clock, L: Link>()
     drills_add_up::<C, L>();
 }
 
-/// What `mem_fabric::meet` tells of the two ends of a link in memory is that they have met. It is so of what the two were
-/// before they met, too, since they only learn then what was handed over.
+/// The contract of `mem_fabric::meet` implies that the two ends of a link in memory have met. So it is for their
+/// earlier states too, since meeting only adds what an end knows of frames sent.
 pub fn links_in_memory_meet<'r, R: Wait + 'r>()
     ensures met { (a b : PairEnd) → IsHandedOn a b → IsHandedOn b a → HaveMet ⟦<PairLink<'r, R> as Link>⟧ a b }
     ensures before { (a b : PairEnd) → IsHandedOn (told_of_all b a) (told_of_all a b)

@@ -1,13 +1,14 @@
-//! Laws of what a run counts, and of drills. These functions do nothing; their clauses hold.
+//! Laws of the counts of a run, and of drills. These functions do nothing; their contracts are the laws.
 //!
-//! Each call that was accepted is counted once more, as sent, refused or standing ([`each_call_is_counted_once`]). Where
-//! no policy ever holds a call, none stands at the end ([`none_stands_unheld`]). So what a drill tells adds up
-//! ([`drills_add_up`]). Each of its connections was bound where no link failed and the two ends of each have met
-//! ([`drills_are_bound`]), as those of a link in memory have ([`links_in_memory_meet`]). The crate reads nothing: it
-//! stands on what `scenario_run` tells of connections, `run_text` counts of them, `service` says of each and
-//! `mem_fabric` of the ends of a link, on the plan of `drill_plan`, on what holds of a connection in `conn_core`, and on
-//! the laws of histories in `call_history`, of frames in `frame_transport` and of hellos in `schema_binding`. The layer
-//! above says these numbers of the line of a drill.
+//! Each accepted call is counted exactly once more, as sent, refused or pending ([`each_call_is_counted_once`]). If
+//! no policy ever holds a call, none is pending at the end ([`none_stands_unheld`]). So the counts of a drill add up
+//! ([`drills_add_up`]). Each of its connections was bound if no link failed and the two ends of each have met
+//! ([`drills_are_bound`]), as those of a link in memory have ([`links_in_memory_meet`]).
+//!
+//! The crate reads nothing. It depends on the contracts of `scenario_run` for reports, `run_text` for counts,
+//! `service` for connections and `mem_fabric` for the ends of a link. It also depends on the plan of `drill_plan`, on
+//! the invariant of a connection in `conn_core`, and on the laws of histories in `call_history`, of frames in
+//! `frame_transport` and of hellos in `schema_binding`. The layer above states these numbers of the line of a drill.
 #![tactic(auto)]
 
 mod laws;

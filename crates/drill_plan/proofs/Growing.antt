@@ -1,4 +1,4 @@
--- Lists that grow by what the next number makes.
+-- Lists that grow by what each next number adds.
 use Rattle.std.proofs.Common.{◌≡◌, ℕ, zero, suc, ◌+◌, List, [], ◌∷◌, ◌++◌, sym, ap, ◌∙◌, append_assoc, append-nil, arith}
 use Rattle.std.specs.List.{flat_map, range_with_len}
 use Rattle.std.proofs.lemmas.Grind.{flat_map-append}
@@ -9,7 +9,7 @@ range-more a (suc n) =
     let same : a + 1 + n ≡ a + suc n = omega arith in
     ap (λ rest. a ∷ rest) (range-more (a + 1) n ∙ ap (λ x. range_with_len (a + 1) n ++ x ∷ []) same)
 
--- what the first numbers make, and behind it what the next one makes
+-- what the first n numbers make, followed by what the next one makes
 pub made-more : {X : Type 0} (f : ℕ → List X) (a n : ℕ)
     → flat_map f (range_with_len a (n + 1)) ≡ flat_map f (range_with_len a n) ++ f (a + n)
 made-more f a n =
@@ -18,7 +18,7 @@ made-more f a n =
     ∙ flat_map-append f (range_with_len a n) ((a + n) ∷ [])
     ∙ ap (λ last. flat_map f (range_with_len a n) ++ last) (append-nil (f (a + n)))
 
--- the same of two items that are pushed one after another
+-- like `made-more`, for two items that are pushed one after another
 pub two-more : {X : Type 0} (f : ℕ → List X) (a n : ℕ) (xs ys zs : List X) (x y : X) → f (a + n) ≡ x ∷ y ∷ []
     → xs ≡ flat_map f (range_with_len a n) → ys ≡ xs ++ x ∷ [] → zs ≡ ys ++ y ∷ []
     → zs ≡ flat_map f (range_with_len a (n + 1))

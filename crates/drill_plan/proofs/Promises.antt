@@ -1,4 +1,4 @@
--- The drill is a plan: it keeps what a plan promises.
+-- The drill is a valid plan.
 use Rattle.std.proofs.Common.{◌≡◌, ◌⊎◌, ℕ, zero, suc, ◌+◌, ◌≤◌, ◌<◌, All, Contains, List, [], ◌∷◌, length, codes, refl, inl, arith, lit≤, lit<}
 use Rattle.std.specs.List.{range_with_len}
 use Rattle.std.specs.Fmt.{digits}

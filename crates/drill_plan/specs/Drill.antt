@@ -39,13 +39,13 @@ method = record { service = codes "S"; name = codes "Get"; input = 0; output = 0
 abbrev pub schema : Table
 schema = record { messages = message ∷ []; enums = []; methods = method ∷ [] }
 
--- ---- the policy: a request whose number is above 49 is denied
+-- ---- the policy: denies a request whose number is above 49
 
--- the code's own: the first of the two lines by which the policy is written
+-- the code's own: the first of the two lines that declare the policy
 abbrev pub big_line : List ℕ
 big_line = codes "rule big deny method 0 where 1 gt 49"
 
--- the code's own: and the second
+-- the code's own: the second line
 abbrev pub default_line : List ℕ
 default_line = codes "default allow"
 
@@ -75,15 +75,15 @@ only_acl = record { tenants = []; policies = named_acl ∷ [] }
 
 -- ---- programs
 
--- the number that a client's call has, where each client submits so many calls
+-- the value in a client's call, if each client submits this many calls
 abbrev pub value : (calls client call : ℕ) → ℕ
 value calls client call = (7 * call * call + 13 * client + 5 * calls) % 100
 
--- where its message stands: the calls use six places in turn
+-- the place of its message in the heap: the calls cycle through six places
 abbrev pub address : (call : ℕ) → ℕ
 address call = 2 + 2 * ((call - 1) % 6)
 
--- a call's number is stored right before the call is submitted
+-- a call's value is stored immediately before the call is submitted
 abbrev pub call_lines : (calls client call : ℕ) → List ProgramLine
 call_lines calls client call = Store (address call) (value calls client call) ∷ Submit 0 (address call) ∷ []
 
@@ -92,11 +92,11 @@ program calls client = flat_map (call_lines calls client) (range_with_len 1 call
 
 -- ---- applications and links
 
--- the clients, by their numbers
+-- the numbers of the clients
 abbrev pub clients : List ℕ
 clients = 1 ∷ 2 ∷ 3 ∷ 4 ∷ []
 
--- a client has an odd connection, and its echo the next one
+-- client `number` has an odd connection, and its echo the next one
 abbrev pub client : (calls number : ℕ) → Application
 client calls number = record {
   conn = 2 * number - 1;
@@ -135,7 +135,7 @@ link_of number = record { a = 2 * number - 1; b = 2 * number }
 abbrev pub links : List Pair
 links = map link_of clients
 
--- ---- the whole plan, in which each client submits so many calls
+-- ---- the whole plan, in which each client submits this many calls
 
 abbrev pub drill : (calls : ℕ) → Plan
 drill calls = record {

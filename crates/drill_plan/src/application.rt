@@ -10,16 +10,16 @@ use mrpc_table::{Memory, Sequence};
 use run_plan::{Application, Role};
 use std::alloc::Global;
 
-// How many clients there are, each with an echo.
+// The number of clients, each with an echo.
 pub(crate) const CLIENTS: u32 = 4;
 
-// The words of an application's heap.
+// The size of an application's heap, in words.
 const HEAP: u64 = 64;
 
-// The words of the heap of what it is delivered.
+// The size of an application's receive heap, in words.
 const RECEIVE: u64 = 1024;
 
-// How many items its rings hold.
+// The capacity of an application's rings, in items.
 const RING: u64 = 4;
 
 // The applications, each client before its echo.
@@ -35,7 +35,7 @@ pub(crate) fn applications(alloc: Global, calls: u64) -> Result<Sequence<Applica
     Ok(apps)
 }
 
-// The client of a number, from 1.
+// The client with a number, from 1.
 fn client(alloc: Global, number: u32, calls: u64) -> Result<Application, Memory>
     requires least { 1 ≤ number }
     requires most { number ≤ CLIENTS }
@@ -56,7 +56,7 @@ fn client(alloc: Global, number: u32, calls: u64) -> Result<Application, Memory>
     })
 }
 
-// The echo to which the client of a number talks.
+// The echo at the other end of the link of the client with this number.
 fn echo(alloc: Global, number: u32) -> Application
     requires { number ≤ CLIENTS }
     ensures { result ≡ echo number }
@@ -74,7 +74,7 @@ fn echo(alloc: Global, number: u32) -> Application
     }
 }
 
-// The program of the client of a number.
+// The program of the client with a number.
 fn program(alloc: Global, number: u32, calls: u64) -> Result<Program, Memory>
     requires number { number ≤ CLIENTS }
     requires few { calls ≤ MAX_CALLS }
@@ -92,7 +92,7 @@ fn program(alloc: Global, number: u32, calls: u64) -> Result<Program, Memory>
     Ok(lines)
 }
 
-// Where the message of a call stands.
+// The place of a call's message in the heap.
 fn address(call: u64) -> u64
     requires { 1 ≤ call }
     ensures value { result ≡ address call }
@@ -101,7 +101,7 @@ fn address(call: u64) -> u64
     2 + 2 * ((call - 1) % 6)
 }
 
-// The number that a call has.
+// The value that a call's message carries.
 fn value(calls: u64, number: u32, call: u64) -> u64
     requires calls { calls ≤ MAX_CALLS }
     requires number { number ≤ CLIENTS }

@@ -1,8 +1,8 @@
-//! The scenario of `drill N`: four clients, each with an echo at the other end, and each behind one access policy.
+//! The scenario of `drill N`: four clients, each linked to an echo, and each with one access policy on its chain.
 //!
-//! `specs/Drill.antt` has the plan whole. [`drill_plan`] makes it for a number of calls. It stands on `run_plan` for
-//! plans and on `policy_access` for the rules, which it reads as a scenario's reader does. The layer above uses one
-//! contract: what is made is that plan, and it keeps what a plan promises.
+//! `specs/Drill.antt` states the whole plan. [`drill_plan`] makes it for a number of calls. The crate depends on
+//! `run_plan` for plans and on `policy_access` for the rules, which it reads as the scenario reader does. The layer
+//! above uses one contract: the result is that plan, and it is valid.
 #![tactic(auto)]
 
 mod application;

@@ -11,16 +11,16 @@ use mrpc_table::{Memory, Sequence};
 use run_plan::{Pair, Plan};
 use std::alloc::Global;
 
-/// How many calls each client submits at most.
+/// The maximum number of calls that each client submits.
 pub const MAX_CALLS: u64 = 2048;
 
-// How many loads a copy makes at most.
+// The maximum number of loads of one copy.
 const LOADS: u64 = 1024;
 
-// How many threads serve the connections.
+// The number of threads that serve the connections.
 const WORKERS: u64 = 2;
 
-/// The plan of the drill, in which each client submits so many calls, at most 2048. The only error is `Memory`.
+/// The plan of the drill in which each client submits `calls` calls, at most 2048. The only error is `Memory`.
 pub fn drill_plan(alloc: Global, calls: u64) -> Result<Plan, Memory>
     requires { calls ≤ MAX_CALLS }
     ensures plan { IfOk result (λ plan. plan ≡ drill calls) }
@@ -29,7 +29,7 @@ pub fn drill_plan(alloc: Global, calls: u64) -> Result<Plan, Memory>
     plan(alloc, calls)
 }
 
-// The plan, put together.
+// Assembles the plan.
 fn plan(alloc: Global, calls: u64) -> Result<Plan, Memory>
     requires { calls ≤ MAX_CALLS }
     ensures { IfOk result (λ plan. plan ≡ drill calls) }

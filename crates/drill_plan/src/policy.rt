@@ -10,13 +10,13 @@ use policy_access::{Access, read_access};
 use policy_blocks::{Declarations, Item, NamedPolicy};
 use std::alloc::Global;
 
-// The rule that denies what is large.
+// The rule that denies requests with values above 49.
 const BIG: &[u8] = b"rule big deny method 0 where 1 gt 49";
 
-// All else is allowed.
+// Allows everything else.
 const DEFAULT: &[u8] = b"default allow";
 
-// What the plan declares: no tenant, and this policy alone.
+// The declarations of the plan: no tenant, and this policy alone.
 pub(crate) fn declared(alloc: Global, table: &Table) -> Result<Declarations, Memory>
     requires { table.now ≡ schema }
     ensures { IfOk result (λ d. d ≡ only_acl) }
@@ -28,7 +28,7 @@ pub(crate) fn declared(alloc: Global, table: &Table) -> Result<Declarations, Mem
     Declarations::new(alloc).with(alloc, Item::Policy(policy))
 }
 
-// The policy of the lines, which have no fault.
+// The policy of the two lines, which have no fault.
 fn acl(alloc: Global, table: &Table) -> Result<Access, Memory>
     requires { table.now ≡ schema }
     ensures { IfOk result (λ policy. policy ≡ acl) }

@@ -1,4 +1,4 @@
-//! The schema of the drill: a message with one number, and a service with one method on it.
+//! The schema of the drill: a message with one number field, and a service with one method on it.
 
 ghost use Rattle.std.specs.Prelude.{◌≡◌, [], ◌∷◌, codes, IfOk};
 ghost use Rattle.drill_plan.specs.Drill.{field, message, method, schema};
@@ -29,7 +29,7 @@ pub(crate) fn one<T: Drop>(alloc: Global, item: T) -> Result<Sequence<T>, Memory
     Ok(items)
 }
 
-// A name that is known before the run.
+// A name that is known at compile time.
 pub(crate) fn name(alloc: Global, word: &[u8]) -> Result<Name, Memory>
     ensures { IfOk result (λ name. name ≡ word.now) }
 {

@@ -1,4 +1,4 @@
--- An entry has one answer.
+-- An entry has exactly one answer.
 use Rattle.std.proofs.Common.{◌≡◌, ◌≢◌, ℕ, ◌-◌, ◌/◌, ◌<◌, ◌≤◌, ◌==◌, nat_lt, min, Bool, true, false, cond, ◌⊎◌, inl}
 use Rattle.std.proofs.Common.{inr, List, length, Some, None, refl, ap, subst, arith}
 use Rattle.std.specs.Prelude.{unwrap_or}
@@ -96,7 +96,7 @@ some_answer Count level moment form (drawn t) = (pass, was_counted refl (λ none
 some_answer Count level moment form counted = (pass, was_counted refl (λ none. cc) refl)
 some_answer (Redact clears) level moment form past = by-clears clears level moment form past
 
--- ---- there is one
+-- ---- at most one
 
 pub one_answer : (policy : Policy) (level moment : ℕ) (form : Call) (past : Past) (a b : Answer)
     → Answers policy level moment form past a → Answers policy level moment form past b → ticket_in a ≡ ticket_in b → a ≡ b
@@ -114,12 +114,12 @@ one_answer policy level moment form past a b (counts is none first) second same 
 one_answer policy level moment form past a b (is_clear clears is left first) second same = grind (arith, common_steps)
 one_answer policy level moment form past a b (redacts clears is other first) second same = grind (arith, common_steps)
 
--- ---- denials, and what allows at all times
+-- ---- denials, and what allows at any time
 
 deciding-by : (k n : ℕ) → unwrap_or (cond (nat_lt k n) (Some k) None) n ≤ n
 deciding-by k n = grind (arith, nat_tests, common_steps)
 
--- the place of the deciding rule
+-- the index of the deciding rule
 pub deciding-within : (p : AccessPolicy) (form : Call) → (verdict p form).rule ≤ length p.rules
 deciding-within p form = deciding-by (position_or_len (λ (r : Rule). matches r form) p.rules) (length p.rules)
 

@@ -1,4 +1,4 @@
--- What a step makes of a chain, and why it is refused.
+-- The effect of an operation on a chain, and the reason why it is rejected.
 use Rattle.std.proofs.Common.{◌≡◌, ◌≢◌, ℕ, ◌+◌, ◌<◌, ◌≤◌, ◌==◌, zero, suc, Bool, true, false, not, if◌then◌else◌, ◌⊎◌}
 use Rattle.std.proofs.Common.{inl, inr, List, [], ◌∷◌, ◌++◌, length, map, filter, take, drop, All, Contains}
 use Rattle.std.proofs.Common.{slice_index_or, refl, ap, sym, ◌∙◌, subst, arith, take-append-drop, length-append}
@@ -19,7 +19,7 @@ use Rattle.engine_core.specs.declared.policy.Policy.{Policy}
 use Rattle.engine_core.specs.declared.op.Op.{Op}
 use Rattle.engine_core.specs.declared.op.Op.TheVariants.{Attach, Detach, Upgrade}
 
--- ---- one refusal
+-- ---- at most one reason
 
 same-against : (entries : List Entry) (op : Op) (r s : Refusal) → IsAgainst entries op r → IsAgainst entries op s → order_of r ≡ order_of s → r ≡ s
 same-against entries op r s (detaches_none name is none first) second same = grind (arith, common_steps)
@@ -86,7 +86,7 @@ named name (x ∷ xs) = elim (same-text x name) [
   ]
 ]
 
--- ---- one chain
+-- ---- at most one chain
 
 same-front : {X : Type 0} (xs ys us vs : List X) → xs ++ ys ≡ us ++ vs → length xs ≡ length us → (xs ≡ us) × (ys ≡ vs)
 same-front [] ys [] vs same len = (refl, same)
@@ -99,12 +99,12 @@ same-front (x ∷ xs) ys (u ∷ us) vs same len =
     let front : xs ≡ us = rest.0 in
     (cc, rest.1)
 
--- an entry of a name
+-- an entry with a name
 pub has-entry : (front back : List Entry) (e : Entry) → Contains (names_of (front ++ e ∷ back)) e.name
 has-entry [] back e = (0, omega arith, refl)
 has-entry (x ∷ front) back e = Contains-cons x.name (names_of (front ++ e ∷ back)) e.name (has-entry front back e)
 
--- names are distinct, so an entry stands at one place alone
+-- names are distinct, so an entry is at one position alone
 not_twice : (x : Entry) (front back : List Entry) (e : Entry) → (Contains (names_of (front ++ e ∷ back)) x.name → ⊥) → x.name ≡ e.name → ⊥
 not_twice x front back e apart same = apart (rw same (has-entry front back e))
 
@@ -123,7 +123,7 @@ same-place (x ∷ front) back (u ∷ us) vs e f apart same named =
     let front' : front ≡ us = rest.0 in
     (cc, rest.1, rest.2)
 
--- the entry of a name
+-- the entry with the name
 split-at : (es : List Entry) (k : ℕ) (name : List ℕ) → k < length (names_of es) → slice_index_or (names_of es) k name ≡ name
     → (front : List Entry) × (e : Entry) × (back : List Entry) × (es ≡ front ++ e ∷ back) × (e.name ≡ name)
 split-at [] k name within is = absurd (omega arith)
@@ -163,9 +163,9 @@ one_chain before after other op chain (upgrades name label policy e front back i
     let entries : e ≡ e' = same.1 in
     cc
 
--- ---- a step changes a chain or is refused
+-- ---- an operation changes a chain or is rejected
 
--- what stands against an attachment comes no earlier than the first of the three reasons
+-- no reason against an attachment comes before the first of the three
 against-attach : (entries : List Entry) (at : ℕ) (name label : List ℕ) (policy : Policy) (other : Refusal) → IsAgainst entries (Attach at name label policy) other
     → ((order_of other ≡ 2) × Contains (names_of entries) name) ⊎ (((order_of other ≡ 3) × (length entries < at)) ⊎ ((order_of other ≡ 4) × (8 ≤ length entries)))
 against-attach entries at name label policy other (detaches_none n is none r) = absurd cc
@@ -259,7 +259,7 @@ either-detach before name = elim (named name (names_of before.entries)) [
       },
     )
 
--- the place of an entry that a chain has
+-- the position of an entry of a chain
 cut-at : (es : List Entry) (k : ℕ) (e : Entry) → k < length es → slice_index_or es k e ≡ e → (front : List Entry) × (back : List Entry) × (es ≡ front ++ e ∷ back)
 cut-at [] k e within is = absurd (omega arith)
 cut-at (x ∷ es) zero e within is = ([], es, ap (λ (y : Entry). y ∷ es) is)
@@ -267,7 +267,7 @@ cut-at (x ∷ es) (suc k) e within is =
     let rest = cut-at es k e (omega arith) is in
     (x ∷ rest.0, rest.1, ap (λ (xs : List Entry). x ∷ xs) rest.2)
 
--- the one entry of a name
+-- the only entry with a name
 one_entry : (es front back : List Entry) (e f : Entry) → AreDistinct (names_of es) → es ≡ front ++ e ∷ back → Contains es f → f.name ≡ e.name → f ≡ e
 one_entry es front back e f apart whole has named =
     let cut = cut-at es has.0 f has.1 has.2 in
@@ -339,7 +339,7 @@ either before (Attach at name label policy) chain = either-attach before at name
 either before (Detach name) chain = either-detach before name
 either before (Upgrade name label policy) chain = either-upgrade before name label policy chain
 
--- ---- a chain stays one
+-- ---- an operation preserves the invariant
 
 distinct-insert : {X : Type 0} (front back : List X) (x : X) → AreDistinct (front ++ back) → (Contains (front ++ back) x → ⊥) → AreDistinct (front ++ x ∷ back)
 distinct-insert [] back x apart new = (new, apart)
@@ -359,7 +359,7 @@ distinct-remove (y ∷ front) back x apart = (
   distinct-remove front back x apart.1,
 )
 
--- the same of what a map makes of a list
+-- like `distinct-insert`, for a mapped list
 distinct-map-insert : {X Y : Type 0} (f : X → Y) (front back : List X) (x : X) → AreDistinct (map f (front ++ back))
     → (Contains (map f (front ++ back)) (f x) → ⊥) → AreDistinct (map f (front ++ x ∷ back))
 distinct-map-insert f front back x apart new =
@@ -377,7 +377,7 @@ Contains-insert : {X : Type 0} (front back : List X) (x y : X) → Contains (fro
 Contains-insert front back x y has = elim (Contains-append_cases front back y has)
     [ inl there ↦ Contains-append_left front (x ∷ back) y there | inr behind ↦ Contains-append_right front (x ∷ back) y (Contains-cons x back y behind) ]
 
--- numbers of which each of a list is no more
+-- numbers that bound each element of a list
 numbers-insert : (front back : List ℕ) (n m k : ℕ) → n ≤ k → m ≤ k → All (λ a. a ≤ n) (front ++ back) → All (λ a. a ≤ k) (front ++ m ∷ back)
 numbers-insert front back n m k more last few =
     All-weaker (Contains (front ++ m ∷ back)) (λ a. a ≤ k)
@@ -448,7 +448,7 @@ stays-made before after op chain free (upgrades name label policy e front back i
 pub stays_chain : (before after : Chain) (op : Op) → IsChain before → Changes before op after → IsChain after
 stays_chain before after op chain changes = stays-made before after op chain changes.free changes.makes
 
--- ---- what a step makes, as a function
+-- ---- the effect of an operation, as a function
 
 named-is : (name : List ℕ) (e : Entry) → e.name ≡ name → is_named name e ≡ true
 named-is name e same = (bytes_eq-Decides e.name name).1 same

@@ -1,11 +1,11 @@
--- What a moment makes of engines.
+-- The effect of a timestamp on engines.
 use Rattle.std.proofs.Common.{◌≡◌, ℕ, ◌+◌, ◌-◌, ◌<◌, max, List, [], ◌∷◌, ◌++◌, length, take, drop, set, get_or, map, ap, sym, ◌∙◌, arith, get_or-drop}
 use Rattle.std.proofs.lemmas.List.{drop-drop, drop-set-lt, map_more, take_more_set}
 use Rattle.engine_core.specs.Chains.{Entry}
 use Rattle.engine_core.specs.Engines.{EngineParts, clocked}
 use Rattle.engine_core.specs.Policies.{level_at}
 
--- ---- one engine more
+-- ---- one more engine
 
 same-item : {X : Type 0} (xs ys : List X) (i : ℕ) (d : X) → drop i xs ≡ drop i ys → get_or xs i d ≡ get_or ys i d
 same-item {X = X} xs ys i d e =

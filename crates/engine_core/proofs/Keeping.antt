@@ -1,4 +1,4 @@
--- The marks that are left of a call where those of some engines are kept.
+-- The remaining marks of a call when those of some engines are kept.
 use Rattle.std.proofs.Common.{◌≡◌, ◌≢◌, ℕ, zero, suc, ◌+◌, ◌≤◌, ◌<◌, ◌==◌, Bool, true, false, not, ◌||◌, List, [], ◌∷◌, ◌++◌, filter, length}
 use Rattle.std.proofs.Common.{All, None, Some, slice_get, refl, arith, length-append}
 use Rattle.std.proofs.lemmas.Grind.{common_steps}
@@ -20,7 +20,7 @@ has_engine es b = list_any (λ e. e.entry.attach == b) es
 abbrev has_mark : List Mark → ℕ → Bool
 has_mark ms b = list_any (λ m. m.attach == b) ms
 
--- there is no mark but of these engines
+-- all marks are of these engines
 abbrev pub HasMarks : List EngineParts → List Mark → Type 0
 HasMarks es ms = (b : ℕ) → All (λ e. e.entry.attach ≢ b) es → note_of ms b ≡ None
 
@@ -74,7 +74,7 @@ behind-first : (e : EngineParts) (es : List EngineParts) (b : ℕ) (ms : List Ma
 behind-first e es b ms true at has known = grind (arith, nat_tests, common_steps, none-other e.entry.attach ms)
 behind-first e es b ms false at has known = grind (arith, nat_tests, common_steps)
 
--- a mark behind those of the others
+-- a mark after those of the others
 abbrev joined : ℕ → Note → List Mark → List Mark
 joined a n ms = other_marks a ms ++ record { attach = a; note = n } ∷ []
 
@@ -150,7 +150,7 @@ has-at [] p e is = absurd cc
 has-at (x ∷ xs) zero e is = let there : x ≡ e = cc in rw there (grind (arith, nat_tests, common_steps))
 has-at (x ∷ xs) (suc p) e is = let rest = has-at xs p e is in grind (arith, nat_tests, common_steps)
 
--- such a call has, besides the mark of one of the engines, fewer marks than there are engines
+-- such a call has fewer marks than there are engines, not counting its mark of one of them
 pub length-others : (es : List EngineParts) (a : ℕ) (ms : List Mark) → IsOneEach ms → HasMarks es ms → has_engine es a ≡ true
     → length (other_marks a ms) < length es
 length-others es a ms one alone known =

@@ -17,7 +17,7 @@ nothing-silent (Redact clears) = tt
 no_mark : {X : Type 0} → false ≡ true → X
 no_mark impossible = absurd cc
 
--- where there is no mark of its attachment
+-- if there is no mark of its attachment
 pub unmarked-true : (e : Entry) (s : StandingCall) → note_of s.marks e.attach ≡ None → IsTrueFor e s
 unmarked-true e s none = record {
   silent = rw none (nothing-silent e.policy);
@@ -36,7 +36,7 @@ silent-under old (Quota t per cap) past kind silent = tt
 silent-under old Count past kind silent = tt
 silent-under old (Redact clears) past kind silent = tt
 
--- behind an upgrade, since no mark has the new version
+-- after an upgrade, since no mark has the new version
 pub upgraded-true : (e : Entry) (policy : Policy) (s : StandingCall) → is_same_kind e.policy policy ≡ true → IsTrueFor e s → IsTrueFor (upgraded e policy) s
 upgraded-true e policy s kind h = record {
   silent = silent-under e.policy policy (past_of s.marks e.attach) kind h.silent;

@@ -1,4 +1,4 @@
--- What marks tell after one was set, and after some were taken away.
+-- The meaning of marks after one was set, and after some were removed.
 use Rattle.std.proofs.Common.{◌≡◌, ◌≢◌, ℕ, zero, suc, ◌<◌, ◌≤◌, ◌==◌, Bool, true, false, not, cond, if◌then◌else◌, List, []}
 use Rattle.std.proofs.Common.{◌∷◌, ◌++◌, filter, find, get_or, length, set, slice_get, Option, Some, None, option_map, refl, ap, subst, arith}
 use Rattle.std.specs.Prelude.{position}
@@ -46,7 +46,7 @@ pub none-other : (a : ℕ) (ms : List Mark) → list_any (λ n. n.attach == a) (
 none-other a [] = refl
 none-other a (m ∷ ms) = grind (arith, nat_tests, common_steps, none-other a ms)
 
--- where no mark is of an attachment, none is behind a mark of another
+-- if no mark is of an attachment, none is after setting another's mark
 any-marked : (a b : ℕ) (n : Note) (ms : List Mark) → (a == b) ≡ false → list_any (λ m. m.attach == b) ms ≡ false
     → list_any (λ m. m.attach == b) (marked a n ms) ≡ false
 any-marked a b n [] other none = grind (arith, nat_tests, common_steps)
@@ -68,7 +68,7 @@ pub IsOneEach-marked : (a : ℕ) (n : Note) (ms : List Mark) → IsOneEach ms �
 IsOneEach-marked a n [] one = (refl, tt)
 IsOneEach-marked a n (m ∷ ms) one = IsOneEach-first a n m ms (m.attach == a) refl one (IsOneEach-marked a n ms one.1)
 
--- ---- the mark of an attachment by its place
+-- ---- the mark of an attachment by its index
 
 at-none : (p : Mark → Bool) (ms : List Mark) (i : ℕ) (m : Mark) → slice_get ms i ≡ Some m → list_any p ms ≡ false → p m ≡ false
 at-none p [] i m at none = absurd cc
@@ -77,7 +77,7 @@ at-none p (k ∷ ms) zero m at none =
     subst (λ (m : Mark). p m ≡ false) first (grind (arith, common_steps))
 at-none p (k ∷ ms) (suc i) m at none = at-none p ms i m at (grind (arith, common_steps))
 
--- the mark at a place is the only one of its attachment
+-- the mark at an index is the only one of its attachment
 pub note-at : (a i : ℕ) (ms : List Mark) (m : Mark) → IsOneEach ms → slice_get ms i ≡ Some m → m.attach ≡ a → note_of ms a ≡ Some m.note
 note-at a i [] m one at is = absurd cc
 note-at a zero (k ∷ ms) m one at is =
@@ -88,7 +88,7 @@ note-at a (suc i) (k ∷ ms) m one at is =
     let mine : (m.attach == k.attach) ≡ false = at-none (λ n. n.attach == k.attach) ms i m there one.0 in
     grind (arith, nat_tests, common_steps, note-at a i ms m one.1 there is)
 
--- a mark that is put in the place of the first one of an attachment
+-- a mark that replaces the first one of an attachment
 put-first : (a i : ℕ) (n : Note) (d : Mark) (ms : List Mark) → i < length ms → ((get_or ms i d).attach == a) ≡ true
     → ((k : ℕ) → k < i → ((get_or ms k d).attach == a) ≡ false) → set ms i (record { attach = a; note = n }) ≡ marked a n ms
 put-first a i n d [] within at before = absurd (omega arith)
@@ -99,7 +99,7 @@ put-first a (suc i) n d (m ∷ ms) within at before =
     let other : (m.attach == a) ≡ false = before 0 (omega arith) in
     rw other (ap (λ ks. m ∷ ks) (put-first a i n d ms (omega (arith, within)) at (λ k lt. before (suc k) (omega (arith, lt)))))
 
--- a mark that is put behind those of others
+-- a mark that is appended to those of others
 put-behind : (a : ℕ) (n : Note) (d : Mark) (ms : List Mark) → ((k : ℕ) → k < length ms → ((get_or ms k d).attach == a) ≡ false)
     → ms ++ record { attach = a; note = n } ∷ [] ≡ marked a n ms
 put-behind a n d [] none = refl
@@ -107,7 +107,7 @@ put-behind a n d (m ∷ ms) none =
     let other : (m.attach == a) ≡ false = none 0 (omega arith) in
     rw other (ap (λ ks. m ∷ ks) (put-behind a n d ms (λ k lt. none (suc k) (omega (arith, lt)))))
 
--- none of the marks is of an attachment that has no place
+-- if an attachment has no index, no mark is of it
 no-place : (a : ℕ) (ms : List Mark) → position (λ m. m.attach == a) ms ≡ None → (d : Mark) (k : ℕ) → k < length ms
     → ((get_or ms k d).attach == a) ≡ false
 no-place a ms none d k lt =
@@ -120,14 +120,14 @@ all-others a d (m ∷ ms) none =
     let other : (m.attach == a) ≡ false = none 0 (omega arith) in
     grind (arith, nat_tests, common_steps, all-others a d ms (λ k lt. none (suc k) (omega (arith, lt))))
 
--- the mark of an attachment: where it stands
+-- the mark of an attachment, by its index
 pub marked-at : (a i : ℕ) (n : Note) (ms : List Mark) → position (λ m. m.attach == a) ms ≡ Some i → set ms i (record { attach = a; note = n }) ≡ marked a n ms
 marked-at a i n ms at =
     let new : Mark = record { attach = a; note = n } in
     let there = position-Some (λ (m : Mark). m.attach == a) ms i new at in
     put-first a i n new ms there.0 there.1 there.2
 
--- and where none does
+-- and if it has none
 pub marked-behind : (a : ℕ) (n : Note) (ms : List Mark) → position (λ m. m.attach == a) ms ≡ None → ms ++ record { attach = a; note = n } ∷ [] ≡ marked a n ms
 marked-behind a n ms none =
     let new : Mark = record { attach = a; note = n } in
@@ -136,7 +136,7 @@ marked-behind a n ms none =
 pub few-others : (a : ℕ) (ms : List Mark) (d : Mark) → position (λ m. m.attach == a) ms ≡ None → length ms ≤ length (other_marks a ms)
 few-others a ms d none = all-others a d ms (λ k lt. no-place a ms none d k lt)
 
--- ---- marks that are taken away
+-- ---- marks that are removed
 
 find-none : {X : Type 0} (t : X → Bool) (xs : List X) → list_any t xs ≡ false → find t xs ≡ None
 find-none t [] none = refl
@@ -146,7 +146,7 @@ none-kept : (b : ℕ) (ms : List Mark) → find (λ m. m.attach == b) ms ≡ Non
 none-kept b [] none = refl
 none-kept b (m ∷ ms) none = grind (arith, common_steps, none-kept b ms)
 
--- the first of the marks is taken away, or stays
+-- the first of the marks is removed, or kept
 past-first : (b : ℕ) (m : Mark) (ms : List Mark) (n : Note) → m.note ≡ n → (mine : Bool) → (m.attach == b) ≡ mine → (mine ≡ true → find (λ m. m.attach == b) ms ≡ None)
     → past_of (filter (λ m. not (is_allowing m.note)) ms) b ≡ past_of ms b
     → past_of (filter (λ m. not (is_allowing m.note)) (m ∷ ms)) b ≡ past_of (m ∷ ms) b
@@ -185,7 +185,7 @@ length-filter_filter : {X : Type 0} (p q : X → Bool) (xs : List X) → length 
 length-filter_filter p q [] = omega arith
 length-filter_filter p q (x ∷ xs) = grind (arith, common_steps, length-filter_filter p q xs)
 
--- the marks of the others, with one that is set
+-- the marks of the others, after one is set
 pub other_marks-marked : (a : ℕ) (n : Note) (ms : List Mark) → length (other_marks a (marked a n ms)) ≤ length (other_marks a ms)
 other_marks-marked a n [] = grind (arith, nat_tests, common_steps)
 other_marks-marked a n (m ∷ ms) = grind (arith, nat_tests, common_steps, other_marks-marked a n ms)

@@ -1,4 +1,4 @@
--- A turn comes out in one way.
+-- A turn has one outcome.
 use Rattle.std.proofs.Common.{◌≡◌, ℕ, None, refl, ap, sym, ◌∙◌, subst}
 use Rattle.mrpc_table.specs.declared.call.Call.{Call}
 use Rattle.engine_core.specs.Answers.{Past, Answer, pass, deny, hold, refuse, over, note, redact, ticket_in, Answers, level_left, past_after}
@@ -11,7 +11,7 @@ use Rattle.engine_core.specs.declared.outcome.Outcome.{Outcome}
 use Rattle.engine_core.specs.declared.outcome.Outcome.TheVariants.{Passed, Held, Refused, Redacted}
 use Rattle.engine_core.proofs.AnswerLaws.{allows_at_any_time, one_answer}
 
--- the level and what was noted, behind an answer
+-- the level and the note after an answer
 abbrev level_by : Answer → ℕ → ℕ
 level_by (note n) level = level_left n level
 level_by _ level = level

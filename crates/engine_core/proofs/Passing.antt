@@ -1,4 +1,4 @@
--- A call that passes where nothing is to be noted of it.
+-- A call that passes with nothing to note.
 use Rattle.std.proofs.Common.{◌≡◌, ◌<◌, ℕ, zero, suc, Bool, true, false, List, [], ◌∷◌, Some, length, refl, ap, set, slice_get, slice_index_or, subst}
 use Rattle.std.proofs.lemmas.Option.{slice_get_read}
 use Rattle.std.specs.Bool.{OnTrue}
@@ -23,13 +23,13 @@ same-set [] i x at = absurd cc
 same-set (y ∷ ys) zero x at = cc
 same-set (y ∷ ys) (suc i) x at = ap (λ zs. y ∷ zs) (same-set ys i x at)
 
--- the call that is read at a place is the one that callers see there
+-- the call that the code reads at an index is the one that callers see there
 pub seen-at : (items calls : List StandingCall) (j : ℕ) (s : StandingCall) → items ≡ calls → j < length calls → s ≡ slice_index_or items j s
     → slice_get calls j ≡ Some s
 seen-at items calls j s same within read = subst (λ (calls : List StandingCall). slice_get calls j ≡ Some s) same
     (slice_get_read items (length items) j s refl (rw same within) read)
 
--- the engine stays, and the call may have a further mark
+-- the engine is unchanged, and the call may have one more mark
 pub works-unnoted : (es : List EngineParts) (calls calls' : List StandingCall) (p j moment : ℕ) (e : EngineParts) (s s' : StandingCall)
     → slice_get es p ≡ Some e → slice_get calls j ≡ Some s → HasOnlyMarksOf es s → calls' ≡ set calls j s'
     → Steps e.entry.policy e.entry.attach e.entry.version e.level moment s s' e.level (Passed Nothing)

@@ -24,7 +24,7 @@ use Rattle.engine_core.specs.declared.op.Op.TheVariants.{Attach, Detach, Upgrade
 abbrev request : Call
 request = record { conn = 1; seq = 1; method = 0; number = 0; tree = field 1 (one (number 150)) no_fields }
 
--- a call each second, two at once
+-- one call per second, two at once
 abbrev holding : RatePolicy
 holding = record { amount = 1; per = 1000; burst = 2; hold = true }
 
@@ -34,7 +34,7 @@ denying = record { amount = 1; per = 1000; burst = 2; hold = false }
 first_charge : Answers (Rate holding) 2000 0 request nothing (note (Charged 1000))
 first_charge = answers.charges holding refl refl (omega arith) refl
 
--- a charged call passes, also with an empty bucket
+-- a charged call passes, even with an empty bucket
 charged_once : Allows (Rate holding) 0 0 request charged
 charged_once = answers.was_charged holding refl (λ none. cc) refl
 
@@ -44,12 +44,12 @@ empty_bucket = answers.holds holding refl refl (omega arith) refl refl
 empty_bucket_that_denies : ComesOut (Rate denying) 999 0 request nothing (Refused Nothing (Short 999 1000))
 empty_bucket_that_denies = turns.is_refused (Short 999 1000) (answers.refuses denying refl refl (omega arith) refl refl) refl
 
--- a quota of the cap 0 draws a ticket, and refuses the call
+-- a quota with the cap 0 draws a ticket, and refuses the call
 cap_of_none : ComesOut (Quota 0 1000 0) 0 0 request nothing (Refused (Drawn 0 0) (Over 0 0))
 cap_of_none = turns.is_noted_and_refused (Drawn 0 0) (Over 0 0) (answers.draws 0 1000 0 0 refl (λ t none. cc) refl)
     (answers.is_over 0 1000 0 0 refl refl (omega arith) refl) refl
 
--- the cap is that of the moment of the turn, not that of the draw
+-- the cap is that at the time of the turn, not that of the draw
 ticket_under_another_cap : Answers (Quota 0 1000 1) 0 0 request (drawn 1) (over 1 1)
 ticket_under_another_cap = answers.is_over 0 1000 1 1 refl refl (omega arith) refl
 
@@ -78,7 +78,7 @@ clear_first = record { method = 0; sort = Request; path = record { way = []; num
 first_redaction : ComesOut (Redact (clear_first ∷ [])) 0 0 request nothing Redacted
 first_redaction = turns.is_redacted (answers.redacts (clear_first ∷ []) refl (λ same. cc) refl) refl
 
--- what is left is left, and a reply is none of the calls
+-- nothing more is cleared from a cleared tree, nor from a reply
 nothing_left_to_clear : Allows (Redact (clear_first ∷ [])) 0 0 (record request { tree = no_fields }) nothing
 nothing_left_to_clear = answers.is_clear (clear_first ∷ []) refl refl refl
 
@@ -113,7 +113,7 @@ upgraded_first : Makes two_entries (Upgrade (codes "acl") (codes "p2") closing)
     (record { entries = record { name = codes "acl"; attach = 1; version = 2; policy = closing } ∷ new_entry (codes "rl") 2 (Rate holding) ∷ []; attached = 2 })
 upgraded_first = chains.upgrades (codes "acl") (codes "p2") closing (new_entry (codes "acl") 1 opening) [] (new_entry (codes "rl") 2 (Rate holding) ∷ []) refl refl refl refl
 
--- an attachment behind a detached one has a new number
+-- an attachment after a detachment has a new number
 detached_and_attached : Makes (record { entries = []; attached = 1 }) (Attach 0 (codes "acl") (codes "p1") opening)
     (record { entries = new_entry (codes "acl") 2 opening ∷ []; attached = 2 })
 detached_and_attached = chains.attaches 0 (codes "acl") (codes "p1") opening [] [] refl refl refl refl

@@ -1,4 +1,4 @@
--- What a step of a bucket, and the comparing of a ticket, make of a turn.
+-- The effect of charging a bucket, and of comparing a ticket, on a turn.
 use Rattle.std.proofs.Common.{◌≡◌, ◌≢◌, ℕ, ◌/◌, ◌<◌, ◌≤◌, min, inl, inr, refl}
 use Rattle.std.proofs.lemmas.Bool.{cases_lt}
 use Rattle.policy_rate.specs.declared.bucket.Step.{Step}
@@ -13,13 +13,13 @@ use Rattle.engine_core.specs.declared.outcome.Why.TheVariants.{Over}
 use Rattle.engine_core.specs.declared.outcome.Outcome.{Outcome}
 use Rattle.engine_core.specs.declared.outcome.Outcome.TheVariants.{Passed, Refused}
 
--- a step that passes found the cost
+-- a charge that passes found the cost
 pub pays : (cost level : ℕ) (s : Step) (left : ℕ) → (level < cost → s ≡ Short level cost) → s ≡ Pass left → cost ≤ level
 pays cost level s left short is = elim (cases_lt level cost) [ inl less ↦ absurd (unequal (short less)) | inr enough ↦ enough ] where
   unequal : s ≡ Short level cost → ⊥
   unequal other = cc
 
--- a step that comes short found less
+-- a charge that comes short found less
 pub falls_short : (cost level : ℕ) (s : Step) (left l c : ℕ) → (cost ≤ level → s ≡ Pass left) → s ≡ Short l c → level < cost
 falls_short cost level s left l c pass is = elim (cases_lt level cost) [ inl less ↦ less | inr enough ↦ absurd (unequal (pass enough)) ] where
   unequal : s ≡ Pass left → ⊥

@@ -1,4 +1,4 @@
--- What follows from what an engine does.
+-- The consequences of an engine's turn.
 use Rattle.std.proofs.Common.{◌≡◌, ◌≢◌, ℕ, ◌<◌, ◌≤◌, ◌-◌, ◌/◌, min, ◌==◌, Bool, true, false, if◌then◌else◌, List, ◌∷◌}
 use Rattle.std.proofs.Common.{length, None, Some, refl, ap, sym, ◌∙◌, subst, arith}
 use Rattle.std.specs.Cmp.{nat_eq_equiv}
@@ -35,7 +35,7 @@ use Rattle.engine_core.specs.declared.outcome.Why.TheVariants.{Denied, Short, Ov
 use Rattle.engine_core.proofs.AnswerLaws.{deciding-within}
 use Rattle.engine_core.proofs.MarkLemmas.{note_of-marked, note_of-marked-other, other_marks-marked}
 
--- what is left of the bucket
+-- the level of the bucket afterwards
 pub level-step : (policy : Policy) (attach version level moment : ℕ) (old new : StandingCall) (left : ℕ) (outcome : Outcome)
     → Steps policy attach version level moment old new left outcome
     → left ≡ level_left (noted_in outcome) level
@@ -75,7 +75,7 @@ form-step policy attach version level moment old new left outcome (counts is pas
 form-step policy attach version level moment old new left outcome (is_clear clears is same_tree out same l) = rw (out, same) refl
 form-step policy attach version level moment old new left outcome (redacts clears is other_tree out form less fits taken l) = rw (out, is) form
 
--- the turn is one of the entry, where a mark of its policy says that it allows the call
+-- the turn is one of the entry, if the policy allows a call with a mark that it did
 pub comes-step : (policy : Policy) (attach version level moment : ℕ) (old new : StandingCall) (left : ℕ) (outcome : Outcome)
     → Steps policy attach version level moment old new left outcome
     → (is_allowed old.marks attach version ≡ true → IsAllowing policy old.call)
@@ -152,7 +152,7 @@ smaller-step policy attach version level moment old new left outcome (counts is 
 smaller-step policy attach version level moment old new left outcome (is_clear clears is same_tree out same l) redacted = absurd cc
 smaller-step policy attach version level moment old new left outcome (redacts clears is other_tree out form less fits taken l) redacted = less
 
--- the call stays one of a table
+-- the call still fits its table
 pub fits-step : (policy : Policy) (attach version level moment : ℕ) (old new : StandingCall) (left : ℕ) (outcome : Outcome)
     → Steps policy attach version level moment old new left outcome
     → (T : Table) → IsCallOf T old.call → IsCallOf T new.call
@@ -172,7 +172,7 @@ fits-step policy attach version level moment old new left outcome (counts is pas
 fits-step policy attach version level moment old new left outcome (is_clear clears is same_tree out same l) T h = rw same h
 fits-step policy attach version level moment old new left outcome (redacts clears is other_tree out form less fits taken l) T h = fits T h
 
--- the note of the turn joins what was noted
+-- the note of the turn is added to earlier ones
 pub noted-step : (policy : Policy) (attach version level moment : ℕ) (old new : StandingCall) (left : ℕ) (outcome : Outcome)
     → Steps policy attach version level moment old new left outcome
     → IsSilent policy (past_of old.marks attach) → past_of new.marks attach ≡ past_after (noted_in outcome) (past_of old.marks attach)
@@ -197,7 +197,7 @@ noted-step policy attach version level moment old new left outcome (counts is pa
 noted-step policy attach version level moment old new left outcome (is_clear clears is same_tree out same l) silent = rw (out, same) refl
 noted-step policy attach version level moment old new left outcome (redacts clears is other_tree out form less fits taken l) silent = rw out (taken.pasts attach)
 
--- what was noted for others stays
+-- what was noted for others is unchanged
 pub others-step : (policy : Policy) (attach version level moment : ℕ) (old new : StandingCall) (left : ℕ) (outcome : Outcome)
     → Steps policy attach version level moment old new left outcome
     → (a : ℕ) → a ≢ attach → past_of new.marks a ≡ past_of old.marks a
@@ -223,7 +223,7 @@ others-step policy attach version level moment old new left outcome (counts is p
 others-step policy attach version level moment old new left outcome (is_clear clears is same_tree out same l) a other = rw same refl
 others-step policy attach version level moment old new left outcome (redacts clears is other_tree out form less fits taken l) a other = taken.pasts a
 
--- an access engine leaves a mark
+-- an access engine sets a mark
 pub allowing-step : (policy : Policy) (attach version level moment : ℕ) (old new : StandingCall) (left : ℕ) (outcome : Outcome)
     → Steps policy attach version level moment old new left outcome
     → IsAccess policy → outcome ≡ Passed Nothing → is_allowed new.marks attach version ≡ true
@@ -244,7 +244,7 @@ allowing-step policy attach version level moment old new left outcome (counts is
 allowing-step policy attach version level moment old new left outcome (is_clear clears is same_tree out same l) access passed = absurd (rw is at access)
 allowing-step policy attach version level moment old new left outcome (redacts clears is other_tree out form less fits taken l) access passed = absurd (rw is at access)
 
--- the marks of other access engines stay but for a redaction
+-- the marks of other access engines are kept, except by a redaction
 pub others_allowing-step : (policy : Policy) (attach version level moment : ℕ) (old new : StandingCall) (left : ℕ) (outcome : Outcome)
     → Steps policy attach version level moment old new left outcome
     → (a v : ℕ) → a ≢ attach → is_allowed new.marks a v ≡ (if is_redacted_by outcome then false else is_allowed old.marks a v)
@@ -271,7 +271,7 @@ others_allowing-step policy attach version level moment old new left outcome (co
 others_allowing-step policy attach version level moment old new left outcome (is_clear clears is same_tree out same l) a v other = rw (out, same) refl
 others_allowing-step policy attach version level moment old new left outcome (redacts clears is other_tree out form less fits taken l) a v other = rw out (taken.none a v)
 
--- there are no more marks of others
+-- the number of marks of others doesn't grow
 pub room-step : (policy : Policy) (attach version level moment : ℕ) (old new : StandingCall) (left : ℕ) (outcome : Outcome)
     → Steps policy attach version level moment old new left outcome
     → length (other_marks attach new.marks) ≤ length (other_marks attach old.marks)
@@ -291,7 +291,7 @@ room-step policy attach version level moment old new left outcome (counts is pas
 room-step policy attach version level moment old new left outcome (is_clear clears is same_tree out same l) = rw same (omega arith)
 room-step policy attach version level moment old new left outcome (redacts clears is other_tree out form less fits taken l) = taken.no_more attach
 
--- ---- the marks stay true
+-- ---- the marks remain true
 
 no_allowed : {b : Bool} {X : Type 0} → b ≡ false → b ≡ true → X
 no_allowed none some = absurd cc
@@ -315,7 +315,7 @@ own-allowed e s silent allowing = record {
   allowing = λ is. allowing;
 }
 
--- a mark says nothing of other entries
+-- a mark has no meaning for other entries
 other-true : (e : Entry) (a : ℕ) (n : Note) (s : StandingCall) → e.attach ≢ a → IsTrueFor e s → IsTrueFor e (with_mark a n s)
 other-true e a n s other h = record {
   silent = rw (note_of-marked-other a e.attach n s.marks other) h.silent;
@@ -335,7 +335,7 @@ marked-true entry e n old new is one own h = rw is (marked-true-by entry e n old
 same-true : (e : Entry) (old new : StandingCall) → new ≡ old → IsTrueFor e old → IsTrueFor e new
 same-true e old new same h = rw same h
 
--- a redaction leaves no mark that could be untrue
+-- a redaction keeps no mark that could be untrue
 redacted-true : (e : Entry) (old new : StandingCall) → IsUnallowed old.marks new.marks → IsTrueFor e old → IsTrueFor e new
 redacted-true e old new taken h = record {
   silent = rw (taken.pasts e.attach) h.silent;
@@ -343,7 +343,7 @@ redacted-true e old new taken h = record {
   allowing = λ is. no_allowed (taken.none e.attach e.version) is;
 }
 
--- the marks of a call stay true for every entry
+-- the marks of a call remain true for every entry
 pub stays_true-step : (entry : Entry) (level moment : ℕ) (old new : StandingCall) (left : ℕ) (outcome : Outcome)
     → Steps entry.policy entry.attach entry.version level moment old new left outcome
     → (e : Entry) → (e.attach ≡ entry.attach → e ≡ entry) → IsTrueFor e old → IsTrueFor e new
@@ -371,10 +371,10 @@ stays_true-step entry level moment old new left outcome (counts is past out same
 stays_true-step entry level moment old new left outcome (is_clear clears is same_tree out same l) e one h = same-true e old new same h
 stays_true-step entry level moment old new left outcome (redacts clears is other_tree out form less fits taken l) e one h = redacted-true e old new taken h
 
--- ---- what becomes of the marks
+-- ---- how the marks change
 
--- they stay, or the engine's own is set, by a note or since its access policy allows the call, or a redaction takes
--- away those of access engines
+-- Either they are unchanged; or the engine's own is set, by a note or since its access policy allows the call; or a
+-- redaction removes those of access engines.
 data Became (policy : Policy) (attach version : ℕ) (old new : StandingCall) (outcome : Outcome) : Type 0 where
   stays : new ≡ old → Became policy attach version old new outcome
   noted : (n : Note) → new ≡ with_mark attach n old → ((v : ℕ) → is_allowed_by v (Some n) ≡ false)
@@ -564,7 +564,7 @@ marks-step entry level moment old new left outcome step =
       stays_true = stays_true-step entry _ _ _ _ _ _ step;
     }
 
--- what knows the tenant of a policy before a turn knows it after
+-- if the tenant of a policy is known before a turn, it is known after it
 pub known-after : {Before After : ℕ → Type 0} (p : Policy) → ((t : ℕ) → Before t → After t) → KnowsTenantOf Before p → KnowsTenantOf After p
 known-after (Access p) more known = tt
 known-after (Rate r) more known = tt

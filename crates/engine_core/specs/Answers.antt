@@ -1,4 +1,4 @@
--- What an entry of a chain answers to a standing call (this project's own).
+-- The answer of a chain's entry to a pending call (this project's own).
 use Rattle.std.specs.Prelude.{◌≡◌, ◌≢◌, ℕ, ◌-◌, ◌/◌, ◌<◌, ◌≤◌, min, true, false, List, Option, Some, None}
 use Rattle.policy_access.specs.Verdict.{AccessPolicy, verdict}
 use Rattle.mrpc_table.specs.declared.call.Call.{Call}
@@ -20,29 +20,29 @@ pub data Past : Type 0 where
 
 -- an answer
 pub data Answer : Type 0 where
-  -- the call may go on
+  -- the call may continue
   pass : Answer
-  -- it is denied by the rule at a place
+  -- it is denied by the rule at an index
   deny : ℕ → Answer
   -- the level is below the cost: the call is held, or refused
   hold : ℕ → ℕ → Answer
   refuse : ℕ → ℕ → Answer
   -- its ticket isn't below the cap
   over : ℕ → ℕ → Answer
-  -- something is to be noted of it first
+  -- something must be noted of it first
   note : Noted → Answer
-  -- fields are to be cleared from it first
+  -- fields must be cleared from it first
   redact : Answer
 
--- the answer of an entry with this policy and, where it has a bucket, this level, at this moment, to a call
--- in this form of which this was noted since the attachment
+-- The answer of an entry to a call: by its policy, the level of its bucket (if it has one), the timestamp, the call
+-- in its present form, and what was noted of the call since the attachment.
 pub data Answers (policy : Policy) (level moment : ℕ) (form : Call) (past : Past) (answer : Answer) : Type 0 where
-  -- access: the first rule that matches, or else the default, allows the call, or denies it
+  -- access: the first rule that matches, otherwise the default, allows or denies the call
   allows : (p : AccessPolicy) → policy ≡ Access p → (verdict p form).allow ≡ true → answer ≡ pass
       → Answers policy level moment form past answer
   denies : (p : AccessPolicy) → policy ≡ Access p → (verdict p form).allow ≡ false → answer ≡ deny (verdict p form).rule
       → Answers policy level moment form past answer
-  -- rate: a call is charged once; where the level is below the cost, the mode decides
+  -- rate: a call is charged once; if the level is below the cost, the mode decides
   was_charged : (r : RatePolicy) → policy ≡ Rate r → past ≢ nothing → answer ≡ pass
       → Answers policy level moment form past answer
   charges : (r : RatePolicy) → policy ≡ Rate r → past ≡ nothing → r.per ≤ level
@@ -67,22 +67,22 @@ pub data Answers (policy : Policy) (level moment : ℕ) (form : Call) (past : Pa
   -- count: a call is counted once
   was_counted : policy ≡ Count → past ≢ nothing → answer ≡ pass → Answers policy level moment form past answer
   counts : policy ≡ Count → past ≡ nothing → answer ≡ note Counted → Answers policy level moment form past answer
-  -- redact: what the clears leave is to be the call's tree, whatever was noted
+  -- redact: the call's tree must be the tree after the clears, whatever was noted
   is_clear : (clears : List Clear) → policy ≡ Redact clears → cleared clears form ≡ form.tree → answer ≡ pass
       → Answers policy level moment form past answer
   redacts : (clears : List Clear) → policy ≡ Redact clears → cleared clears form ≢ form.tree → answer ≡ redact
       → Answers policy level moment form past answer
 
--- the ticket of a draw that is called for
+-- the ticket of a draw that an answer asks for
 abbrev pub ticket_in : Answer → Option ℕ
 ticket_in (note (Drawn window ticket)) = Some ticket
 ticket_in _ = None
 
--- an entry allows a call where it may go on with nothing left to note
+-- an entry allows a call if the call may continue and nothing must be noted
 abbrev pub Allows : Policy → ℕ → ℕ → Call → Past → Type 0
 Allows policy level moment form past = Answers policy level moment form past pass
 
--- what was noted after a note, and the level after it
+-- what was noted, and the level, after a further note
 abbrev pub past_after : Noted → Past → Past
 past_after Nothing past = past
 past_after (Charged level) past = charged

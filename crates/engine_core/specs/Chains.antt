@@ -1,4 +1,4 @@
--- The chain of a connection's policies, and the change that an operator's step makes (this project's own).
+-- The chain of a connection's policies, and the change that an operation makes (this project's own).
 use Rattle.std.specs.Prelude.{◌≡◌, ℕ, ◌+◌, ◌<◌, ◌≤◌, Bool, false, not, if◌then◌else◌, List, ◌∷◌, ◌++◌, length, map, filter, take, drop, All, Contains}
 use Rattle.std.specs.Str.{bytes_eq}
 use Rattle.mrpc_table.specs.Valid.{AreDistinct}
@@ -7,20 +7,20 @@ use Rattle.engine_core.specs.declared.policy.Policy.{Policy}
 use Rattle.engine_core.specs.declared.op.Op.{Op}
 use Rattle.engine_core.specs.declared.op.Op.TheVariants.{Attach, Detach, Upgrade}
 
--- a policy on a chain: its name there, the number of its attachment, how often it was upgraded and once
--- more, and the policy itself
+-- a policy on a chain: its name there, the number of its attachment, its version (1 plus the number of upgrades), and
+-- the policy itself
 pub record Entry : Type 0 where
   pub name : List ℕ
   pub attach : ℕ
   pub version : ℕ
   pub policy : Policy
 
--- a chain: its entries in the order in which they judge, and how many attachments there were
+-- a chain: its entries in the order in which they judge, and the number of attachments so far
 pub record Chain : Type 0 where
   pub entries : List Entry
   pub attached : ℕ
 
--- an entry as it is attached, and one after an upgrade
+-- an entry when it is attached, and after an upgrade
 abbrev pub new_entry : List ℕ → ℕ → Policy → Entry
 new_entry name attach policy = record { name = name; attach = attach; version = 1; policy = policy }
 
@@ -33,14 +33,14 @@ names_of entries = map (λ e. e.name) entries
 abbrev pub attachments_of : List Entry → List ℕ
 attachments_of entries = map (λ e. e.attach) entries
 
--- what follows from the steps on a new chain: at most 8 entries, whose names and attachments are distinct
+-- the invariant of chains under operations: at most 8 entries, with distinct names and attachments
 pub record IsChain (c : Chain) : Type 0 where
   pub few : length c.entries ≤ 8
   pub names : AreDistinct (names_of c.entries)
   pub attachments : AreDistinct (attachments_of c.entries)
   pub numbered : All (λ attach. attach ≤ c.attached) (attachments_of c.entries)
 
--- ---- what stands against a step
+-- ---- the reasons to reject an operation
 
 pub data Refusal : Type 0 where
   no_such : List ℕ → Refusal
@@ -49,7 +49,7 @@ pub data Refusal : Type 0 where
   full : ℕ → Refusal
   other_kind : List ℕ → Refusal
 
--- of two that stand against one step, the first in this order counts
+-- if there are two reasons to reject an operation, the first in this order counts
 abbrev pub order_of : Refusal → ℕ
 order_of (no_such name) = 1
 order_of (taken name) = 2
@@ -68,7 +68,7 @@ pub data IsAgainst (entries : List Entry) (op : Op) (refusal : Refusal) : Type 0
   is_taken : (at : ℕ) (name label : List ℕ) (policy : Policy) → op ≡ Attach at name label policy
       → Contains (names_of entries) name → refusal ≡ taken name
       → IsAgainst entries op refusal
-  -- the place is past the end
+  -- the position is past the end
   is_past : (at : ℕ) (name label : List ℕ) (policy : Policy) → op ≡ Attach at name label policy → length entries < at
       → refusal ≡ no_place at
       → IsAgainst entries op refusal
@@ -76,20 +76,20 @@ pub data IsAgainst (entries : List Entry) (op : Op) (refusal : Refusal) : Type 0
   is_full : (at : ℕ) (name label : List ℕ) (policy : Policy) → op ≡ Attach at name label policy → 8 ≤ length entries
       → refusal ≡ full (length entries)
       → IsAgainst entries op refusal
-  -- the entry of the name has a policy of another kind
+  -- the entry with the name has a policy of another kind
   is_other : (name label : List ℕ) (policy : Policy) (e : Entry) → op ≡ Upgrade name label policy → Contains entries e
       → e.name ≡ name
       → is_same_kind e.policy policy ≡ false → refusal ≡ other_kind name → IsAgainst entries op refusal
 
--- a chain refuses a step, for the first reason that stands against it
+-- a chain rejects an operation, for the first reason
 pub record Refuses (c : Chain) (op : Op) (refusal : Refusal) : Type 0 where
   pub against : IsAgainst c.entries op refusal
   pub first : (other : Refusal) → order_of other < order_of refusal → IsAgainst c.entries op other → ⊥
 
--- ---- what a step makes of a chain
+-- ---- the effect of an operation on a chain
 
 pub data Makes (before : Chain) (op : Op) (after : Chain) : Type 0 where
-  -- a new entry stands at the place, with the next attachment number
+  -- a new entry is at the position, with the next attachment number
   attaches : (at : ℕ) (name label : List ℕ) (policy : Policy) (front back : List Entry)
       → op ≡ Attach at name label policy
       → before.entries ≡ front ++ back → length front ≡ at
@@ -98,18 +98,18 @@ pub data Makes (before : Chain) (op : Op) (after : Chain) : Type 0 where
         attached = before.attached + 1;
       }
       → Makes before op after
-  -- the entry of the name is gone
+  -- the entry with the name is removed
   detaches : (name : List ℕ) (e : Entry) (front back : List Entry) → op ≡ Detach name
       → before.entries ≡ front ++ e ∷ back → e.name ≡ name
       → after ≡ record { entries = front ++ back; attached = before.attached } → Makes before op after
-  -- the entry of the name has the new policy, and its next version
+  -- the entry with the name has the new policy, and its next version
   upgrades : (name label : List ℕ) (policy : Policy) (e : Entry) (front back : List Entry)
       → op ≡ Upgrade name label policy
       → before.entries ≡ front ++ e ∷ back → e.name ≡ name
       → after ≡ record { entries = front ++ upgraded e policy ∷ back; attached = before.attached }
       → Makes before op after
 
--- a step changes a chain where nothing stands against it
+-- an operation changes a chain if there is no reason to reject it
 pub record Changes (before : Chain) (op : Op) (after : Chain) : Type 0 where
   pub free : (refusal : Refusal) → IsAgainst before.entries op refusal → ⊥
   pub makes : Makes before op after
@@ -118,7 +118,7 @@ pub record Changes (before : Chain) (op : Op) (after : Chain) : Type 0 where
 abbrev pub is_named : List ℕ → Entry → Bool
 is_named name e = bytes_eq e.name name
 
--- what a step makes of a chain that doesn't refuse it
+-- the chain after an operation that it doesn't reject
 abbrev pub changed : Op → Chain → Chain
 changed (Attach at name label policy) chain = record {
   entries = take at chain.entries ++ new_entry name (chain.attached + 1) policy ∷ drop at chain.entries;

@@ -1,4 +1,4 @@
--- What contracts see of an engine, and of what happened to one of a rate policy.
+-- Engines as contracts see them, and the past of an engine with a rate policy.
 use Rattle.std.specs.Prelude.{◌≡◌, ℕ, ◌-◌, max, List, ◌∷◌, map}
 use Rattle.policy_rate.specs.Level.{BucketHappening, charge, rate_after, moment_after, IsPaid}
 use Rattle.policy_rate.specs.Level as bucket
@@ -9,17 +9,17 @@ use Rattle.engine_core.specs.declared.policy.Policy.TheVariants.{Rate}
 use Rattle.engine_core.specs.declared.outcome.Noted.{Noted}
 use Rattle.engine_core.specs.declared.outcome.Noted.TheVariants.{Charged}
 
--- the entry that an engine works for, the level of its bucket, and the latest moment that it was shown
+-- the entry of an engine, the level of its bucket, and its latest timestamp
 pub record EngineParts : Type 0 where
   pub entry : Entry
   pub level : ℕ
   pub last : ℕ
 
--- the entries that engines work for, with the number of attachments
+-- the entries of engines, with the number of attachments
 abbrev pub chain_of : List EngineParts → ℕ → Chain
 chain_of engines attached = record { entries = map (λ e. e.entry) engines; attached = attached }
 
--- an engine that is shown a moment: time fills its bucket, and a lower moment counts as the last one
+-- an engine after a timestamp: time fills its bucket, and an earlier timestamp counts as the last one
 abbrev pub clocked : ℕ → EngineParts → EngineParts
 clocked now e = record {
   entry = e.entry;
@@ -27,8 +27,8 @@ clocked now e = record {
   last = max e.last now;
 }
 
--- this is what happened to the engine's attachment, the latest first: the policy `first` was attached at the moment
--- `start`, and policy, level and latest moment are those of this past, in which each charge was paid
+-- The events of the engine's attachment, the latest first. The policy `first` was attached at the timestamp `start`.
+-- The engine has the policy, the level and the latest timestamp of this past, in which each charge was covered.
 pub record HasPast (e : EngineParts) (first : RatePolicy) (start : ℕ) (past : List BucketHappening) : Type 0 where
   pub policy : e.entry.policy ≡ Rate (rate_after first past)
   pub level : e.level ≡ bucket.level first start past

@@ -1,4 +1,4 @@
--- The marks of a standing call, and what they tell of it.
+-- The marks of a pending call, and what they mean.
 use Rattle.std.specs.Prelude.{◌≡◌, ℕ, ◌<◌, ◌≤◌, ◌==◌, Bool, true, false, not, List, ◌∷◌, [], filter, find, map, Option, Some, None, option_map}
 use Rattle.std.specs.List.{list_any}
 use Rattle.policy_access.specs.Verdict.{verdict}
@@ -11,7 +11,7 @@ use Rattle.engine_core.specs.declared.mark.Mark.{Mark}
 use Rattle.engine_core.specs.declared.mark.Note.{Note}
 use Rattle.engine_core.specs.declared.mark.Note.TheVariants.{Allowed, Charged, Drawn, Counted}
 
--- a call that stands, with its marks
+-- a pending call, with its marks
 pub record StandingCall : Type 0 where
   pub call : Call
   pub marks : List Mark
@@ -24,7 +24,7 @@ seqs_of calls = map (λ s. s.call.seq) calls
 abbrev pub note_of : List Mark → ℕ → Option Note
 note_of marks attach = option_map (λ m. m.note) (find (λ m. m.attach == attach) marks)
 
--- the marks of a call are of attachments up to this one
+-- the call has marks of attachments up to this one alone
 abbrev pub HasMarksUpTo : ℕ → StandingCall → Type 0
 HasMarksUpTo attached s = (attach : ℕ) → attached < attach → note_of s.marks attach ≡ None
 
@@ -33,7 +33,7 @@ abbrev pub IsOneEach : List Mark → Type 0
 IsOneEach [] = Unit {0}
 IsOneEach (m ∷ ms) = (list_any (λ n. n.attach == m.attach) ms ≡ false) × IsOneEach ms
 
--- what a mark says was noted; that an access policy allowed the call is no note
+-- what a mark notes; that an access policy allowed the call is no note
 abbrev pub past_by : Option Note → Past
 past_by None = nothing
 past_by (Some (Allowed version)) = nothing
@@ -45,12 +45,12 @@ past_by (Some Counted) = counted
 abbrev pub past_of : List Mark → ℕ → Past
 past_of marks attach = past_by (note_of marks attach)
 
--- the code's own: a mark says that an access policy allowed the call
+-- the code's own: a mark that an access policy allowed the call
 abbrev pub is_allowing : Note → Bool
 is_allowing (Allowed version) = true
 is_allowing _ = false
 
--- the access policy of this version allowed the call, by a mark
+-- by a mark, the access policy of this version allowed the call
 abbrev pub is_allowed_by : ℕ → Option Note → Bool
 is_allowed_by version (Some (Allowed v)) = v == version
 is_allowed_by version _ = false
@@ -62,18 +62,18 @@ is_allowed marks attach version = is_allowed_by version (note_of marks attach)
 abbrev pub other_marks : ℕ → List Mark → List Mark
 other_marks attach marks = filter (λ m. not (m.attach == attach)) marks
 
--- the call is allowed, where the policy is one of access; of another nothing is asked
+-- the call is allowed, if the policy is an access policy; others have no condition
 abbrev pub IsAllowing : Policy → Call → Type 0
 IsAllowing (Access p) call = (verdict p call).allow ≡ true
 IsAllowing _ call = Unit {0}
 
--- nothing is noted, where the policy is one of access
+-- nothing is noted, if the policy is an access policy
 abbrev pub IsSilent : Policy → Past → Type 0
 IsSilent (Access p) past = past ≡ nothing
 IsSilent _ past = Unit {0}
 
--- the marks of a call are true for an entry: they have no version to come, and where they say that the
--- present one allowed the call, its policy does so
+-- The marks of a call are true for an entry. No mark is of a later version. If a mark means that the present version
+-- allowed the call, the policy does allow it.
 pub record IsTrueFor (e : Entry) (s : StandingCall) : Type 0 where
   pub silent : IsSilent e.policy (past_of s.marks e.attach)
   pub present : (version : ℕ) → is_allowed s.marks e.attach version ≡ true → version ≤ e.version

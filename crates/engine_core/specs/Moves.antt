@@ -1,10 +1,10 @@
--- How the calls that stand on a chain move along it (this project's own).
+-- How the pending calls of a chain move along it (this project's own).
 use Rattle.std.specs.Prelude.{ℕ, ◌+◌, ◌-◌, ◌==◌, nat_lt, min, not, List, [], ◌∷◌, filter, find, map, if◌then◌else◌, Option}
 use Rattle.engine_core.specs.Chains.{Entry, is_named}
 use Rattle.engine_core.specs.declared.op.Op.{Op}
 use Rattle.engine_core.specs.declared.op.Op.TheVariants.{Attach, Detach, Upgrade}
 
--- the calls that stand, by ascending number, each a number and a position; the chain's length is the position for
+-- the pending calls by ascending number, each a number and a position; the chain's length is the position for
 -- transport
 abbrev pub Row : Type 0
 Row = List (ℕ × ℕ)
@@ -13,32 +13,32 @@ Row = List (ℕ × ℕ)
 abbrev pub first_at : ℕ → Row → Option (ℕ × ℕ)
 first_at position row = find (λ call. call.1 == position) row
 
--- calls behind a position go back to it
+-- calls past a position return to it
 abbrev pub back_to : ℕ → Row → Row
 back_to position row = map (λ call. (call.0, min call.1 position)) row
 
--- calls behind an entry that leaves move up
+-- calls past a detached entry move up
 abbrev pub moved_up : ℕ → Row → Row
 moved_up position row = map (λ call. (call.0, if nat_lt position call.1 then call.1 - 1 else call.1)) row
 
--- one call goes on by an entry
+-- one call advances by an entry
 abbrev pub goes_on : ℕ → Row → Row
 goes_on seq row = map (λ call. (call.0, if call.0 == seq then call.1 + 1 else call.1)) row
 
--- a call and those of greater numbers begin again
+-- a call and those with greater numbers start over
 abbrev pub begin_again : ℕ → Row → Row
 begin_again seq row = map (λ call. (call.0, if nat_lt call.0 seq then call.1 else 0)) row
 
--- one call is gone
+-- one call is removed
 abbrev pub without_call : ℕ → Row → Row
 without_call seq row = filter (λ call. not (seq == call.0)) row
 
--- the position of the entry of a name; the number of entries where there is none
+-- the position of the entry with a name; the number of entries if there is none
 abbrev pub place_of : List ℕ → List Entry → ℕ
 place_of name [] = 0
 place_of name (e ∷ entries) = if is_named name e then 0 else place_of name entries + 1
 
--- how a step of an operator moves calls
+-- how an operation moves calls
 abbrev pub moved_by : Op → List Entry → Row → Row
 moved_by (Attach at name label policy) entries row = back_to at row
 moved_by (Detach name) entries row = moved_up (place_of name entries) row

@@ -1,4 +1,4 @@
--- What holds of policies of each kind.
+-- Properties of policies, by kind.
 use Rattle.std.specs.Prelude.{ℕ, ◌≤◌, ◌==◌, Bool, true, false}
 use Rattle.policy_rate.specs.Level.{IsRate, full_level, level_after, converted_level}
 use Rattle.engine_core.specs.declared.policy.Policy.{Policy}
@@ -10,19 +10,19 @@ IsPolicy (Rate r) = IsRate r
 IsPolicy (Quota tenant per cap) = (1 ≤ per) × (per ≤ 86400000)
 IsPolicy _ = Unit {0}
 
--- a policy judges calls by rules
+-- an access policy
 abbrev pub IsAccess : Policy → Type 0
 IsAccess (Access p) = Unit {0}
 IsAccess _ = ⊥
 
--- something is noted of each call that a policy lets pass
+-- a policy that notes each call that it lets pass
 abbrev pub IsNoting : Policy → Type 0
 IsNoting (Rate r) = Unit {0}
 IsNoting (Quota tenant per cap) = Unit {0}
 IsNoting Count = Unit {0}
 IsNoting _ = ⊥
 
--- two policies are of one kind; the tenant of a quota belongs to its kind
+-- two policies are of one kind; the tenant of a quota is part of its kind
 abbrev pub is_same_kind : Policy → Policy → Bool
 is_same_kind (Access p) (Access q) = true
 is_same_kind (Rate r) (Rate s) = true
@@ -31,12 +31,12 @@ is_same_kind Count Count = true
 is_same_kind (Redact r) (Redact s) = true
 is_same_kind _ _ = false
 
--- where a policy is a quota, its tenant is known
+-- the tenant is known, if the policy is a quota
 abbrev pub KnowsTenantOf : (ℕ → Type 0) → Policy → Type 0
 KnowsTenantOf Knows (Quota tenant per cap) = Knows tenant
 KnowsTenantOf Knows _ = Unit {0}
 
--- A rate policy has a bucket, and a policy of another kind the level 0.
+-- A rate policy has a bucket; for other policies the level is 0.
 
 -- the level at the attachment
 abbrev pub first_level : Policy → ℕ

@@ -1,4 +1,4 @@
--- The code's own: what an engine does, branch by branch.
+-- The code's own: an engine's turn, case by case.
 use Rattle.std.specs.Prelude.{◌≡◌, ◌≢◌, ℕ, ◌-◌, ◌/◌, ◌<◌, ◌≤◌, ◌==◌, min, true, false, if◌then◌else◌, List, [], ◌∷◌, length, None}
 use Rattle.mrpc_table.specs.Weight.{weight}
 use Rattle.mrpc_table.specs.declared.table.Table.{Table}
@@ -19,7 +19,7 @@ use Rattle.engine_core.specs.declared.outcome.Why.TheVariants.{Denied, Short, Ov
 use Rattle.engine_core.specs.declared.outcome.Outcome.{Outcome}
 use Rattle.engine_core.specs.declared.outcome.Outcome.TheVariants.{Passed, Held, Refused, Redacted}
 
--- the marks with one for an attachment: in place of the one that it had, or behind the others
+-- the marks after setting one for an attachment: it replaces an earlier one, or is appended
 abbrev pub marked : ℕ → Note → List Mark → List Mark
 marked attach note [] = record { attach = attach; note = note } ∷ []
 marked attach note (m ∷ ms) =
@@ -28,7 +28,7 @@ marked attach note (m ∷ ms) =
 abbrev pub with_mark : ℕ → Note → StandingCall → StandingCall
 with_mark attach note s = record { call = s.call; marks = marked attach note s.marks }
 
--- the marks of a call that a redaction leaves: no access policy has allowed what is left, and what was noted stays
+-- The marks after a redaction: no access policy has allowed the new tree, and the notes are unchanged.
 pub record IsUnallowed (before after : List Mark) : Type 0 where
   pub pasts : (attach : ℕ) → past_of after attach ≡ past_of before attach
   pub none : (attach version : ℕ) → is_allowed after attach version ≡ false

@@ -1,4 +1,4 @@
--- How a turn of an entry comes out for a standing call.
+-- The outcome of an entry's turn for a pending call.
 use Rattle.std.specs.Prelude.{◌≡◌, ◌≢◌, ℕ, Bool, true, false, ◌⊎◌, List, [], ◌∷◌, ◌++◌, Option, IfSome, IsSomeAnd}
 use Rattle.mrpc_table.specs.declared.call.Call.{Call}
 use Rattle.policy_redact.specs.Redacting.{cleared_call}
@@ -12,14 +12,14 @@ use Rattle.engine_core.specs.declared.outcome.Why.TheVariants.{Denied, Short, Ov
 use Rattle.engine_core.specs.declared.outcome.Outcome.{Outcome}
 use Rattle.engine_core.specs.declared.outcome.Outcome.TheVariants.{Passed, Held, Refused, Redacted}
 
--- the answer that is a refusal
+-- the answer for a reason to refuse
 abbrev pub refusal : Why → Answer
 refusal (Denied rule) = deny rule
 refusal (Short level cost) = refuse level cost
 refusal (Over ticket cap) = over ticket cap
 
--- a turn: first what is to be noted is noted, and then the call passes, is held or is refused, or fields are cleared
--- from it, which ends the turn
+-- a turn: first it notes what must be noted; then the call passes, is held or is refused, or fields are cleared,
+-- which ends the turn
 pub data ComesOut (policy : Policy) (level moment : ℕ) (form : Call) (past : Past) (outcome : Outcome) : Type 0 where
   passes : Answers policy level moment form past pass → outcome ≡ Passed Nothing
       → ComesOut policy level moment form past outcome
@@ -58,13 +58,13 @@ abbrev pub is_draw : Noted → Bool
 is_draw (Drawn window ticket) = true
 is_draw _ = false
 
--- where the tickets of a window are told afterwards, they are those of before and then this one
+-- if the tickets of a window are known afterwards, they are the earlier ones followed by this one
 abbrev pub IsNextTicket : Option (List ℕ) → Option (List ℕ) → ℕ → Type 0
 IsNextTicket before after ticket =
     IfSome after (λ tickets. IsSomeAnd before (λ earlier. tickets ≡ earlier ++ ticket ∷ []))
 
--- a draw was one of the policy's tenant, in the window of the note; `before` and `after` are the tickets of each
--- tenant and window
+-- a draw was for the policy's tenant, in the window of the note; `before` and `after` are the tickets of each tenant
+-- and window
 abbrev pub TellsDraw : (ℕ → ℕ → Option (List ℕ)) → (ℕ → ℕ → Option (List ℕ)) → Policy → Noted → Type 0
 TellsDraw before after (Quota tenant per cap) (Drawn window ticket) =
     IsNextTicket (before tenant window) (after tenant window) ticket

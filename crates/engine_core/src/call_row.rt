@@ -1,4 +1,4 @@
-//! The calls that stand on a chain, in one row.
+//! The pending calls of a chain, in one row.
 
 ghost use Rattle.std.specs.Prelude.{◌≡◌, ◌<◌, ◌≤◌, ◌++◌, ◌∷◌, ◌↔◌, [], ℕ, List, Some, IfOk, IsTrue, length, remove, slice_get};
 ghost use Rattle.std.specs.Bool.{OnFalse, OnTrue};
@@ -13,10 +13,10 @@ use std::alloc::Global;
 use std::collections::VecDeque;
 use std::marker::Model;
 
-/// How many calls stand on a chain at most.
+/// The maximum number of pending calls of a chain.
 pub const MAX_CALLS: usize = 64;
 
-/// The calls that stand on a chain, the first in front: a ring, so that the first leaves without a shift.
+/// The pending calls of a chain, in order. It is a ring buffer, so the first call leaves without shifting the others.
 /// Contracts see it as the list of the calls.
 #[derive(Drop)]
 pub struct CallRow {
@@ -51,7 +51,7 @@ impl CallRow {
     ghost use Rattle.engine_core.specs.declared.outcome.Noted.TheVariants.{Nothing};
     ghost use Rattle.engine_core.specs.declared.outcome.Outcome.TheVariants.{Passed};
 
-    /// A row without a call. It takes the room for all calls, so no later call of a row takes memory.
+    /// An empty row. It allocates room for `MAX_CALLS`, so no later call of a row allocates.
     pub fn open(alloc: Global) -> Result<CallRow, Memory>
         ensures { IfOk result (λ row. row ≡ []) }
     {
@@ -60,7 +60,7 @@ impl CallRow {
         })
     }
 
-    /// How many calls stand.
+    /// The number of pending calls.
     pub fn len(&self) -> usize
         ensures count { result ≡ length self.now }
         ensures few { result ≤ MAX_CALLS }
@@ -68,14 +68,14 @@ impl CallRow {
         self.calls.len()
     }
 
-    /// Whether no call stands.
+    /// Returns true if no call is pending.
     pub fn is_empty(&self) -> bool
         ensures { IsTrue result ↔ (self.now ≡ []) }
     {
         self.calls.is_empty()
     }
 
-    /// The call at a place, from 0.
+    /// The call at an index.
     pub fn at(&self, place: usize) -> &Standing
         requires { place < length self.now }
         ensures { slice_get self.now place ≡ Some result.now }
@@ -83,7 +83,7 @@ impl CallRow {
         &self.calls[place]
     }
 
-    /// Puts a call behind the others, of which there are fewer than `MAX_CALLS`.
+    /// Appends a call. There must be fewer than `MAX_CALLS`.
     pub fn push(&mut self, call: Standing)
         requires { length self.old < MAX_CALLS }
         ensures { self.new ≡ self.old ++ call ∷ [] }
@@ -91,7 +91,7 @@ impl CallRow {
         self.calls.push_back_reserved(call);
     }
 
-    /// Takes the call at a place from the row. That of the first moves no other.
+    /// Removes and returns the call at an index. Removing the first one shifts no others.
     pub fn take(&mut self, place: usize) -> Standing
         requires { place < length self.old }
         ensures call { slice_get self.old place ≡ Some result }
@@ -100,7 +100,7 @@ impl CallRow {
         self.calls.remove(place).unwrap()
     }
 
-    /// Drops the call at a place, as `take` does without handing it over. That of the first moves no other.
+    /// Like `take`, but drops the call. Dropping the first one shifts no others.
     pub fn drop_at(&mut self, place: usize)
         requires { place < length self.old }
         ensures { self.new ≡ remove self.old place }
@@ -119,9 +119,9 @@ impl CallRow {
         self.calls.truncate(0);
     }
 
-    /// Has the call at a place pass the engine at a place where nothing is to be noted of it: the access policy allows it,
-    /// or has done so in this version, or the rate or the count has noted it. Where it answers false all is as before, and
-    /// a turn decides.
+    /// Passes the call at index `place` through the engine at position `at`, if there is nothing to note. That is so
+    /// if the access policy allows the call or already did in this version, or if the rate or the count has noted it.
+    /// If it returns false, nothing has changed, and a turn decides.
     pub fn pass_unnoted(
         &mut self,
         place: usize,
@@ -143,8 +143,8 @@ impl CallRow {
         engines[at].pass_unnoted(call, at, table)
     }
 
-    /// The engine at a place works on the call at a place. `alone` says that it is known that the call has marks of these
-    /// engines alone; else those of others are taken away first. It takes no memory.
+    /// The engine at position `at` works on the call at index `place`. `alone` means that the call is known to have
+    /// marks of these engines alone; otherwise the marks of other engines are removed first. It allocates nothing.
     pub fn work<Q: Tickets>(
         &mut self,
         place: usize,

@@ -1,4 +1,4 @@
-//! Engines, and the states that they are moved in.
+//! Engines, and the states in which they are moved.
 
 ghost use Rattle.std.specs.Prelude.{◌≡◌, ◌+◌, ◌-◌, ◌<◌, ◌≤◌, ◌^◌, ℕ, true, false, max, List, [], ◌∷◌, length, IfSome, IfNone};
 
@@ -11,7 +11,7 @@ use mrpc_table::{Name, Table};
 use policy_rate::Bucket;
 use std::marker::Model;
 
-/// An engine: it works for one entry of a chain. Contracts see it as `EngineParts` of
+/// An engine: it enforces the policy of one entry of a chain. Contracts see it as `EngineParts` of
 /// `specs/Engines.antt`.
 #[derive(Drop)]
 pub struct Engine {
@@ -19,11 +19,11 @@ pub struct Engine {
     attach: u32,
     version: u32,
     policy: Policy,
-    // That of a rate policy. It is empty for a policy of another kind.
+    // The bucket of a rate policy. It is empty for other kinds of policies.
     bucket: Bucket,
 }
 
-/// What an engine is decomposed to: it does nothing until it is restored. It is moved, and can't be copied.
+/// The state of a decomposed engine. It does nothing until it is restored. It can be moved but not copied.
 #[derive(Drop)]
 pub struct State {
     engine: Engine,
@@ -68,8 +68,8 @@ impl Engine {
     ghost use Rattle.engine_core.specs.Turns.{IsElsewhere, TellsDraw, is_draw, noted_in};
     ghost use Rattle.engine_core.specs.Working.{IsTurn, LeavesCall, LeavesEngine, LeavesMarks, LeavesTickets};
 
-    /// An engine for a policy that is attached at this moment, in milliseconds: it has version 1 and a
-    /// full bucket. It takes no memory, as no call of an engine does.
+    /// An engine for a policy that is attached at the timestamp `now`, in milliseconds. It has version 1 and a full
+    /// bucket. Like every call of an engine, it allocates nothing.
     pub fn new(name: Name, attach: u32, policy: Policy, now: u64) -> Engine
         requires { IsPolicy policy }
         ensures entry { result.entry ≡ new_entry name attach policy }
@@ -100,14 +100,14 @@ impl Engine {
         &self.name
     }
 
-    /// How often its entry was upgraded, and once more.
+    /// The version: 1 plus the number of upgrades of its entry.
     pub fn version(&self) -> u32
         ensures { result ≡ self.now.entry.version }
     {
         self.version
     }
 
-    /// The policy that it works for.
+    /// The policy that it enforces.
     pub fn policy(&self) -> &Policy
         ensures policy { result.now ≡ self.now.entry.policy }
         ensures ranges { IsPolicy result.now }
@@ -122,7 +122,7 @@ impl Engine {
         self.attach
     }
 
-    /// Brings its bucket to a moment; a lower moment counts as the last one.
+    /// Advances its bucket to a timestamp. An earlier timestamp counts as the last one.
     pub fn clock(&mut self, now: u64)
         ensures level { self.new.level ≡ level_at self.old.entry.policy self.old.level (now - self.old.last) }
         ensures last { self.new.last ≡ max self.old.last now }
@@ -138,9 +138,10 @@ impl Engine {
         }
     }
 
-    /// Works on a call of the table, which has the marks of at most seven other engines. Each turn is one
-    /// of the engine's entry, if the mark of its version is true: what is due is noted, and the call passes, is held or is
-    /// refused, or loses fields and begins again. The bucket is as `clock` left it, a quota's window the moment's.
+    /// Works on a call of the table, which has marks of at most seven other engines. If the mark of this version is
+    /// true, each turn is one of the engine's entry. It first notes what is due. Then the call passes, is held or is
+    /// refused; or fields are cleared and it starts over. The bucket's level is that of the last `clock`; a quota's
+    /// window is that of `now`.
     pub fn work<Q: Tickets>(
         &mut self,
         call: &mut Standing,
@@ -152,7 +153,7 @@ impl Engine {
         requires room { length (other_marks self.old.entry.attach call.old.marks) ≤ 7 }
         requires known { KnowsTenantOf (Q.knows tickets.old) self.old.entry.policy }
 
-        // How it comes out, and what it leaves.
+        // The outcome, and the effects of the turn.
         ensures comes_out { IsTurn self.old now call.old result }
         ensures engine { LeavesEngine result self.old self.new }
         ensures call { LeavesCall self.old.entry.policy result call.old.call call.new.call }
@@ -163,9 +164,9 @@ impl Engine {
         self.turn(call, table, now, tickets)
     }
 
-    // Has a call of the table pass where nothing is to be noted of it: the access policy allows it, or has done so in this
-    // version, or the rate or the count has noted it. Where it answers false all is as before, and a turn decides. The
-    // mark that it has of the engine is looked for at a place first.
+    // Passes a call of the table, if there is nothing to note. That is so if the access policy allows the call or
+    // already did in this version, or if the rate or the count has noted it. If it returns false, nothing has
+    // changed, and a turn decides. The search for the engine's mark starts at the index `likely`.
     pub(crate) fn pass_unnoted(&self, call: &mut Standing, likely: usize, table: &Table) -> bool
         requires call { IsCallOf table.now call.old.call }
         requires room { length (other_marks self.now.entry.attach call.old.marks) ≤ 7 }
@@ -185,7 +186,7 @@ impl Engine {
         }
     }
 
-    // A turn, branch by branch.
+    // A turn, case by case.
     fn turn<Q: Tickets>(
         &mut self,
         call: &mut Standing,
@@ -219,8 +220,8 @@ impl Engine {
         }
     }
 
-    /// The level and the cost for which it holds a call, if it does: it has a rate policy that holds, the
-    /// call has no mark of it, and the level is below the cost.
+    /// The level and the cost for which it holds a call, or `None`. It holds a call if its rate policy holds calls,
+    /// the call has no mark of it, and the level is below the cost.
     pub fn held(&self, call: &Standing) -> Option<(u64, u64)>
         ensures holds { IfSome result (λ h. (moment : ℕ)
             → Answers self.now.entry.policy self.now.level moment call.now.call
@@ -244,15 +245,15 @@ impl Engine {
         }
     }
 
-    /// Takes the engine apart, so that it can be restored with another policy.
+    /// Decomposes the engine, so that it can be restored with another policy.
     pub fn decompose(self) -> State
         ensures { result ≡ self }
     {
         State { engine: self }
     }
 
-    /// The engine of a state, with a policy of the same kind: it has the next version, the rest stays, and its
-    /// level pays for as many calls as before, rounded down and up to a full bucket.
+    /// Restores the engine of a state with a policy of the same kind, as the next version. Its level pays for as many
+    /// calls as before, rounded down and up to a full bucket. Everything else is unchanged.
     pub fn restore(policy: Policy, state: State) -> Engine
         requires ranges { IsPolicy policy }
         requires kind { is_same_kind state.entry.policy policy ≡ true }
@@ -264,7 +265,7 @@ impl Engine {
             → policy ≡ Policy.Rate rate → HasPast state first start past
             → HasPast result first start (upgrade rate ∷ past) }
 
-        // Marks that were true for the version before are true for the new one.
+        // Marks that were true for the previous version are true for the new one.
         ensures stays_true { (s : StandingCall) → IsTrueFor state.entry s → IsTrueFor result.entry s }
     {
         let old = state.engine;

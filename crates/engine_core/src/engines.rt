@@ -1,4 +1,4 @@
-//! The engines of a chain: where one of a name stands, one more, and their clocks.
+//! Helpers for the engines of a chain: look-up by name, insertion, clocks.
 
 ghost use Rattle.std.specs.Prelude.{◌≡◌, ◌<◌, ◌≤◌, insert, length, map, position, vec_capacity};
 ghost use Rattle.engine_core.specs.Chains.{is_named};
@@ -7,14 +7,14 @@ ghost use Rattle.engine_core.specs.Engines.{clocked};
 use crate::engine::Engine;
 use mrpc_table::Name;
 
-/// The position of the engine of a name.
+/// The position of the engine with a name.
 pub fn place_of(engines: &[Engine], name: &Name) -> Option<usize>
     ensures { result ≡ position (λ e. is_named name.now e.entry) engines.now }
 {
     place_named(engines, name.as_slice())
 }
 
-/// The same, by the bytes of the name.
+/// Like `place_of`, by the bytes of the name.
 pub fn place_named(engines: &[Engine], name: &[u8]) -> Option<usize>
     ensures { result ≡ position (λ e. is_named name.now e.entry) engines.now }
 {
@@ -23,7 +23,7 @@ pub fn place_named(engines: &[Engine], name: &[u8]) -> Option<usize>
         .position(|engine| engine.name().as_slice() == name)
 }
 
-/// Puts an item at a position, for which there is room.
+/// Inserts an item at a position. There must be capacity for it.
 pub fn put<T>(items: &mut Vec<T>, at: usize, item: T)
     requires at { at ≤ length items.old.items }
     requires room { length items.old.items < vec_capacity items.old }
@@ -36,7 +36,7 @@ pub fn put<T>(items: &mut Vec<T>, at: usize, item: T)
     }
 }
 
-/// Brings every bucket to a moment, in milliseconds; a lower moment counts as the last one.
+/// Advances every bucket to a timestamp in milliseconds. An earlier timestamp counts as the last one.
 pub fn clock_all(engines: &mut [Engine], now: u64)
     ensures { engines.new ≡ map (λ e. clocked now e) engines.old }
 {

@@ -1,4 +1,4 @@
-//! What holds of answers, of marks and of chains. These functions do nothing; their clauses hold.
+//! Laws of answers, of marks and of chains. The functions have no effect: each clause is a law.
 
 ghost use Rattle.std.specs.Prelude.{◌≡◌, ◌+◌, ◌-◌, ◌*◌, ◌/◌, ◌≤◌, ◌++◌, ◌⊎◌, ℕ, List, None, length};
 ghost use Rattle.mrpc_table.specs.declared.call.Call.{Call};
@@ -18,7 +18,7 @@ ghost use Rattle.engine_core.specs.declared.policy.Policy.{Policy};
 
 use policy_rate::bounded_charges;
 
-/// An entry has one answer to a call, but for the ticket of a draw, which may be any.
+/// An entry has exactly one answer to a call, except that the ticket of a draw may be any.
 pub fn one_answer()
     ensures at_most { (policy : Policy) (level moment : ℕ) (form : Call) (past : Past) (a b : Answer)
         → Answers policy level moment form past a → Answers policy level moment form past b
@@ -27,22 +27,22 @@ pub fn one_answer()
         → (answer : Answer) × Answers policy level moment form past answer }
 {}
 
-/// A turn comes out in one way, but for the ticket of a draw, which may be any.
+/// A turn has at most one outcome, except that the ticket of a draw may be any.
 pub fn one_outcome()
     ensures { (policy : Policy) (level moment : ℕ) (form : Call) (past : Past) (a b : Outcome)
         → ComesOut policy level moment form past a → ComesOut policy level moment form past b
         → ticket_in (note (noted_in a)) ≡ ticket_in (note (noted_in b)) → a ≡ b }
 {}
 
-/// A call that passed is allowed behind the turn, with what was noted of it.
+/// A call that passed is allowed after the turn, with what was noted of it.
 pub fn passed_is_allowed()
     ensures { (policy : Policy) (level moment other later : ℕ) (form : Call) (past : Past) (noted : Noted)
         → ComesOut policy level moment form past (Outcome.Passed noted)
         → Allows policy other later form (past_after noted past) }
 {}
 
-/// Whether an entry allows a call depends neither on the level of its bucket nor on the moment, and for a policy that
-/// notes calls on what was noted alone.
+/// Whether an entry allows a call depends neither on the level of its bucket nor on the timestamp. For a policy that
+/// notes calls, it depends on the notes alone.
 pub fn allows_at_any_time()
     ensures at_any_time { (policy : Policy) (level moment other later : ℕ) (form : Call) (past : Past)
         → Allows policy level moment form past → Allows policy other later form past }
@@ -50,14 +50,14 @@ pub fn allows_at_any_time()
         → IsNoting policy → Allows policy level moment form past → Allows policy other later another past }
 {}
 
-/// An access policy denies a call by one of its rules, or by the default behind them.
+/// An access policy denies a call by one of its rules, or by its default.
 pub fn denied_by_a_rule()
     ensures { (p : AccessPolicy) (level moment rule : ℕ) (form : Call) (past : Past)
         → Answers (Policy.Access p) level moment form past (deny rule) → rule ≤ length p.rules }
 {}
 
-/// Between two moments without an upgrade, an engine of a rate policy charges no more calls than a full bucket and the
-/// time between them pay for.
+/// Between two timestamps without an upgrade, an engine of a rate policy charges at most as many calls as a full
+/// bucket and the time between them pay for.
 pub fn bounded_charges_of_engines()
     ensures { (before after : EngineParts) (first : Rate) (start : ℕ) (past recent : List BucketHappening)
         → IsPolicy before.entry.policy → HasPast before first start past → HasPast after first start (recent ++ past)
@@ -68,12 +68,12 @@ pub fn bounded_charges_of_engines()
     bounded_charges();
 }
 
-/// A call without a mark of an entry's attachment has true marks for it.
+/// If a call has no mark of an entry's attachment, its marks are true for the entry.
 pub fn unmarked_is_true()
     ensures { (e : Entry) (s : StandingCall) → note_of s.marks e.attach ≡ None → IsTrueFor e s }
 {}
 
-/// A step changes a chain in one way or is refused for one reason, and never both.
+/// An operation changes a chain in exactly one way or is rejected for exactly one reason, never both.
 pub fn one_change()
     ensures one_chain { (before after other : Chain) (op : Op) → IsChain before → Changes before op after
         → Changes before op other → after ≡ other }
@@ -84,12 +84,12 @@ pub fn one_change()
         → Refuses before op refusal → ⊥ }
 {}
 
-/// A step leaves at most eight entries, whose names and attachments are distinct.
+/// After an operation there are at most eight entries, with distinct names and attachments.
 pub fn stays_chain()
     ensures { (before after : Chain) (op : Op) → IsChain before → Changes before op after → IsChain after }
 {}
 
-/// What a step makes of a chain is `changed`, where nothing stands against the step.
+/// A chain after an operation is `changed`, unless there is a reason to reject the operation.
 pub fn change_is_changed()
     ensures only { (before after : Chain) (op : Op) → IsChain before → Changes before op after
         → after ≡ changed op before }

@@ -1,13 +1,12 @@
-//! Engines: each works for one policy on a chain, and says of one call after another whether it goes on.
+//! Engines: each enforces one policy on a chain, and decides for one call after another whether it continues.
 //!
-//! An [`Engine`] has a policy of one kind ([`Policy`]), and its calls come as [`Standing`] ones, which
-//! carry marks of the engines that they passed. So an engine that sees a call again neither charges nor
-//! counts it again, nor draws another ticket for it. An engine is decomposed to a [`State`], which is
-//! moved and not copied, and restored from it with another policy of its kind. `specs/Answers.antt` says
-//! what an entry of a chain answers to a call, in the words of the audit, and `specs/Chains.antt` what an
-//! operator's step makes of a chain. It stands on `policy_access`, `policy_rate`, `policy_redact`,
-//! `mrpc_base` and `mrpc_table`. The layers above use one contract: a turn of an engine comes out as the answers of its
-//! entry say.
+//! An [`Engine`] has a policy of one kind ([`Policy`]). It works on pending calls ([`Standing`]), which carry marks
+//! of the engines that they passed. So if an engine gets a call again, it neither charges nor counts it again, nor
+//! draws another ticket for it. An engine is decomposed to a [`State`], which can be moved but not copied, and
+//! restored from it with another policy of its kind. `specs/Answers.antt` defines the answer of a chain's entry to a
+//! call, in the terms of the audit, and `specs/Chains.antt` the effect of an operation on a chain. The crate depends
+//! on `policy_access`, `policy_rate`, `policy_redact`, `mrpc_base` and `mrpc_table`. The layers above use one
+//! contract: the outcome of an engine's turn is the one that the answers of its entry define.
 #![tactic(auto)]
 
 mod call_row;
@@ -33,5 +32,5 @@ pub use outcome::{Noted, Outcome, Why};
 pub use policy::Policy;
 pub use standing::Standing;
 
-/// How many engines a chain has at most, and so how many marks a call.
+/// The maximum number of engines of a chain, and so of marks of a call.
 pub const MAX_ENGINES: usize = 8;

@@ -1,4 +1,4 @@
-//! Marks: what a standing call keeps of the engines that it met.
+//! Marks: what a pending call carries of the engines that it passed.
 
 ghost use Rattle.std.specs.Prelude.{◌≡◌, ◌≤◌, ◌==◌, not, filter, length, position};
 ghost use Rattle.std.specs.List.{list_any};
@@ -20,7 +20,7 @@ pub(crate) struct Mark {
     pub note: Note,
 }
 
-// What a mark says.
+// The content of a mark.
 #[derive(Clone, Copy)]
 pub(crate) enum Note {
     // The access policy of this version allowed the call.
@@ -34,7 +34,7 @@ pub(crate) enum Note {
 }
 
 impl Mark {
-    // Whether it says that an access policy allowed the call.
+    // Whether it is the mark of an access policy that allowed the call.
     fn is_allowing(&self) -> bool
         ensures { result ≡ is_allowing self.now.note }
     {
@@ -42,7 +42,7 @@ impl Mark {
     }
 }
 
-// What stands in the unused places for marks.
+// The content of unused slots for marks.
 impl Default for Mark {
     fn default() -> Mark {
         Mark {
@@ -52,7 +52,7 @@ impl Default for Mark {
     }
 }
 
-// Sets the mark of an attachment, in place of the one that it had.
+// Sets the mark of an attachment, replacing an earlier one.
 pub(crate) fn set(marks: &mut Marks, attach: u32, note: Note)
     requires { length (other_marks attach marks.old.items) ≤ 7 }
     ensures { marks.new.items ≡ marked attach note marks.old.items }
@@ -63,7 +63,7 @@ pub(crate) fn set(marks: &mut Marks, attach: u32, note: Note)
     }
 }
 
-// The place of the mark of an attachment, if there is one.
+// The index of the mark of an attachment, if there is one.
 fn place_of(marks: &[Mark], attach: u32) -> Option<usize>
     ensures { result ≡ position (λ m. m.attach == attach) marks.now }
 {

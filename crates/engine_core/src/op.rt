@@ -1,23 +1,23 @@
-//! What an operator does to a chain.
+//! Operations on a chain.
 
 use crate::policy::Policy;
 use mrpc_table::Name;
 
-/// A step of an operator. `label` is the name under which the policy was declared.
+/// An operator's operation. `label` is the name under which the policy was declared.
 #[derive(Drop)]
 pub enum Op {
-    /// Attaches a policy at a place of the chain, from 0, under a name.
+    /// Attaches a policy at a position of the chain, from 0, under a name.
     Attach {
         at: u32,
         name: Name,
         label: Name,
         policy: Policy,
     },
-    /// Takes the entry of a name from the chain.
+    /// Detaches the entry with a name.
     Detach {
         name: Name,
     },
-    /// Puts another policy of its kind into the entry of a name.
+    /// Replaces the policy of the entry with a name by another one of its kind.
     Upgrade {
         name: Name,
         label: Name,

@@ -1,24 +1,24 @@
-//! How a turn of an engine comes out.
+//! The outcome of an engine's turn.
 
-/// What came of a call that an engine worked on.
+/// The outcome for a call that an engine worked on.
 #[derive(Clone, Copy, PartialEq, Eq)]
 pub enum Outcome {
-    /// It goes on, and this was noted of it.
+    /// It continues, and this was noted of it.
     Passed(Noted),
-    /// It waits until the level has its cost.
+    /// It is held until the level covers its cost.
     Held { level: u64, cost: u64 },
-    /// It is refused, and this was noted of it before.
+    /// It is refused; this was noted of it first.
     Refused(Noted, Why),
     /// Fields were cleared from it.
     Redacted,
 }
 
-/// What was noted of a call in a turn.
+/// What a turn noted of a call.
 #[derive(Clone, Copy, PartialEq, Eq)]
 pub enum Noted {
     /// Nothing.
     Nothing,
-    /// It was charged, and this is the level after it.
+    /// It was charged; `level` is the level afterwards.
     Charged { level: u64 },
     /// This ticket was drawn for it in this window.
     Drawn { window: u64, ticket: u64 },
@@ -26,10 +26,10 @@ pub enum Noted {
     Counted,
 }
 
-/// Why an engine refuses a call.
+/// The reason why an engine refuses a call.
 #[derive(Clone, Copy, PartialEq, Eq)]
 pub enum Why {
-    /// An access policy denied it, by the rule at this place; the number of rules stands for the default.
+    /// An access policy denied it by the rule at this index. The number of rules means the default.
     Denied { rule: u32 },
     /// The level of a rate policy is below the cost.
     Short { level: u64, cost: u64 },

@@ -1,4 +1,4 @@
-//! The policies that an engine works for.
+//! The policies that an engine enforces.
 
 ghost use Rattle.std.specs.Prelude.{◌≡◌, IfOk};
 ghost use Rattle.engine_core.specs.Policies.{is_same_kind};
@@ -9,20 +9,19 @@ use policy_rate::Rate;
 use policy_redact::Redact;
 use std::alloc::Global;
 
-/// What an operator attaches to a chain. `IsPolicy` of `specs/Policies.antt` has the ranges of its numbers.
+/// A policy that an operator attaches to a chain. `IsPolicy` of `specs/Policies.antt` has the ranges of its numbers.
 pub enum Policy {
     /// Calls are allowed or denied by rules.
     Access(Access),
-    /// So many calls pass in a time, and others are held or refused.
+    /// A limited number of calls passes in a period; others are held or refused.
     Rate(Rate),
-    /// Each call draws a ticket in the window of the moment, and those whose ticket isn't below the cap
-    /// are refused.
+    /// Each call draws a ticket in the current window. It is refused if the ticket isn't below the cap.
     Quota {
-        /// Whose windows these are.
+        /// The tenant whose windows these are.
         tenant: u32,
-        /// The milliseconds of a window, 1 to 86400000. Window 1023 is the last, and lasts.
+        /// The length of a window in milliseconds, 1 to 86400000. Window 1023 is the last and has no end.
         per: u64,
-        /// The tickets below it pass.
+        /// Tickets below it pass.
         cap: u64,
     },
     /// Calls are counted, and pass.
@@ -31,7 +30,7 @@ pub enum Policy {
     Redact(Redact),
 }
 
-// By hand, so that a drop is one call where it is needed, and not a drop of each part.
+// Written by hand, so that a drop is one call instead of one for each field.
 impl Drop for Policy {
     fn drop(self) {
         match self {
@@ -49,8 +48,7 @@ impl Drop for Policy {
 }
 
 impl Policy {
-    /// Whether a policy may take the place of another: it is of the same kind, and a quota of the same
-    /// tenant.
+    /// Whether a policy may replace another one: it is of the same kind, and a quota has the same tenant.
     pub fn is_same_kind(&self, other: &Policy) -> bool
         ensures { result ≡ is_same_kind self.now other.now }
     {

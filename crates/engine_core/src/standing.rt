@@ -1,4 +1,4 @@
-//! Calls that stand: they were accepted, and have neither been sent nor refused.
+//! Pending calls: accepted, neither sent nor refused.
 
 ghost use Rattle.std.specs.Prelude.{◌≡◌, ◌≢◌, ◌≤◌, ◌<◌, ◌↔◌, ℕ, [], All, IsTrue, None, length, Some, slice_get};
 ghost use Rattle.std.specs.Bool.{OnTrue, OnFalse};
@@ -17,7 +17,7 @@ use mrpc_table::Call;
 use policy_redact::Redact;
 use std::marker::Model;
 
-/// A call with its marks: at most one for each engine, and at most eight.
+/// A pending call with its marks: at most one for each engine, and at most eight.
 #[derive(Drop)]
 pub struct Standing {
     call: Call,
@@ -40,7 +40,7 @@ impl Model for Standing {
 }
 
 impl Standing {
-    /// A call without marks. It takes no memory.
+    /// A call without marks. It allocates nothing.
     pub fn new(call: Call) -> Standing
         ensures call { result.call ≡ call }
         ensures marks { result.marks ≡ [] }
@@ -58,7 +58,7 @@ impl Standing {
         &self.call
     }
 
-    // What the mark of an attachment says, if there is one.
+    // The content of an attachment's mark, if there is one.
     pub(crate) fn note_of(&self, attach: u32) -> Option<Note>
         ensures { result ≡ note_of self.now.marks attach }
     {
@@ -69,7 +69,7 @@ impl Standing {
             .map(|mark| mark.note)
     }
 
-    // The same, which is looked for at a place first.
+    // Like `note_of`, but looks at the index `likely` first.
     pub(crate) fn note_at(&self, likely: usize, attach: u32) -> Option<Note>
         ensures { result ≡ note_of self.now.marks attach }
     {
@@ -88,8 +88,8 @@ impl Standing {
         set(&mut self.marks, attach, note);
     }
 
-    // Clears the fields of a redacting policy. Where that changes the tree, the marks of access engines
-    // are taken away, since their policies allowed another one. Answers whether it did.
+    // Clears the fields of a redacting policy. If that changes the tree, it removes the marks of access engines,
+    // since their policies allowed another tree. Returns whether the tree changed.
     pub(crate) fn clear(&mut self, redact: &Redact) -> bool
         requires { FitsSomeTable self.old.call }
         ensures left { self.new.call ≡ cleared_call redact.now self.old.call }
@@ -106,7 +106,7 @@ impl Standing {
         changed
     }
 
-    // Takes away the marks of all engines but these.
+    // Removes the marks of all engines but these.
     pub(crate) fn keep_marks_of(&mut self, engines: &[Engine])
         ensures call { self.new.call ≡ self.old.call }
         ensures kept { All (λ e. note_of self.new.marks e.entry.attach
@@ -114,13 +114,13 @@ impl Standing {
         ensures gone { HasOnlyMarksOf engines.now self.new }
         ensures none { (attach : ℕ) → note_of self.old.marks attach ≡ None → note_of self.new.marks attach ≡ None }
 
-        // There are no more marks than these engines.
+        // There are at most as many marks as engines.
         ensures room { All (λ e. length (other_marks e.entry.attach self.new.marks) < length engines.now) engines.now }
     {
         keep_of(&mut self.marks, engines);
     }
 
-    // Takes away the marks of all engines but these, unless it is known (`alone`) that it has no others.
+    // Removes the marks of all engines but these, unless the call is known (`alone`) to have no others.
     pub(crate) fn lose_others(&mut self, engines: &[Engine], alone: bool)
         requires { OnTrue alone (HasOnlyMarksOf engines.now self.old) }
         ensures { KeepsMarksOf engines.now self.old self.new }
@@ -130,8 +130,8 @@ impl Standing {
         }
     }
 
-    // A law; it does nothing. Besides its mark of the engine at a place, a call that has marks of some engines alone has
-    // fewer marks than there are engines.
+    // A law; the function has no effect. If a call has marks of some engines alone, it has fewer marks than there are
+    // engines, not counting its mark of the engine at a position.
     pub(crate) fn few_others(&self, engines: &[Engine], at: usize)
         requires engine { at < length engines.now }
         requires marks { HasOnlyMarksOf engines.now self.now }
@@ -142,7 +142,7 @@ impl Standing {
         let _ = (engines.len(), at);
     }
 
-    // A law; it does nothing. No two marks are of one engine, and there are at most eight.
+    // A law; the function has no effect. No two marks are of the same engine, and there are at most eight.
     pub(crate) fn few_marks(&self)
         ensures one_each { IsOneEach self.now.marks }
         ensures few { length self.now.marks ≤ 8 }

@@ -1,4 +1,4 @@
-//! What an engine of each kind does with a call.
+//! The turns of an engine, by kind of policy.
 
 ghost use Rattle.std.specs.Prelude.{◌≡◌, ◌≢◌, ◌<◌, ◌≤◌, ℕ, MatchOption, false, length};
 ghost use Rattle.std.specs.Bool.{OnTrue, OnFalse};
@@ -22,7 +22,7 @@ use policy_access::Access;
 use policy_rate::{Bucket, Rate, Step};
 use policy_redact::Redact;
 
-// An access engine judges a call that its policy, in this version, hasn't allowed yet.
+// An access engine judges a call that this version of its policy hasn't allowed yet.
 pub(crate) fn judge(
     access: &Access,
     attach: u32,
@@ -46,8 +46,8 @@ pub(crate) fn judge(
     Outcome::Passed(Noted::Nothing)
 }
 
-// Marks a call where the policy allows it, and answers whether it did. `note` is what the mark of the engine says so far,
-// and not that this version has allowed the call.
+// Marks a call that the policy allows, and returns whether it did. `note` is the engine's mark so far; it isn't that
+// this version allowed the call.
 pub(crate) fn allow(
     access: &Access,
     attach: u32,
@@ -164,7 +164,7 @@ pub(crate) fn clear(redact: &Redact, call: &mut Standing) -> Outcome
     }
 }
 
-// Whether a mark, or none, says that something was noted.
+// Whether an optional mark notes a charge, a ticket or a count.
 pub(crate) fn is_past(note: Option<Note>) -> bool
     ensures noted { OnTrue result (past_by note ≢ nothing) }
     ensures none { OnFalse result (past_by note ≡ nothing) }
@@ -175,7 +175,7 @@ pub(crate) fn is_past(note: Option<Note>) -> bool
     )
 }
 
-// Whether a mark, or none, says that an access policy of this version has allowed a call.
+// Whether an optional mark is that an access policy of this version allowed the call.
 pub(crate) fn allows(note: Option<Note>, version: u32) -> bool
     ensures { result ≡ is_allowed_by version note }
 {
@@ -185,7 +185,7 @@ pub(crate) fn allows(note: Option<Note>, version: u32) -> bool
     }
 }
 
-// Whether something was noted of a call for an attachment.
+// Whether an attachment noted a call.
 pub(crate) fn is_noted(call: &Standing, attach: u32) -> bool
     ensures noted { OnTrue result (past_of call.now.marks attach ≢ nothing) }
     ensures none { OnFalse result (past_of call.now.marks attach ≡ nothing) }
@@ -193,7 +193,7 @@ pub(crate) fn is_noted(call: &Standing, attach: u32) -> bool
     is_past(call.note_of(attach))
 }
 
-// The ticket that was drawn of a call for an attachment, if one was.
+// The ticket that an attachment drew for a call, if any.
 fn ticket_of(call: &Standing, attach: u32) -> Option<u64>
     ensures { MatchOption result ((t : ℕ)
         → past_of call.now.marks attach ≢ drawn t) (λ t. past_of call.now.marks attach ≡ drawn t) }

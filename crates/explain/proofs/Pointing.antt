@@ -1,4 +1,4 @@
--- Where a finding points.
+-- Where a diagnostic points.
 use Rattle.std.proofs.Common.{◌≡◌, ◌∙◌, ℕ, List, Contains, length, min, ap, arith, refl}
 use Rattle.std.proofs.lemmas.List.{get_or-map, length-map}
 use Rattle.file_bundle.specs.Bundle.{Spells}
@@ -14,7 +14,7 @@ use Rattle.schema_offences.specs.declared.reason.ResolveReason.{ResolveReason}
 use Rattle.schema_resolve.specs.Resolving as resolve
 use Rattle.schema_resolve.specs.declared.fault.ResolveFault.TheVariants as resolve_fault
 
--- what is the same text
+-- a text that is equal to another one
 pub also_of : (input a b : List ℕ) → a ≡ b → IsTextOf input b → IsTextOf input a
 also_of input a b e h = rw e h
 

@@ -20,10 +20,10 @@ use proto_schema::{alone_is_ordered, read_proto};
 use schema_resolve::{ResolveFault, resolve};
 use std::alloc::Global;
 
-// How long a text is that isn't read again. No input that a command reads is so long.
+// The length from which a text isn't read again. No input that a command reads is this long.
 pub(crate) const TOO_LONG: usize = 0x1000_0000;
 
-// What stands against a proto file or a set of files.
+// The fault of a proto file or a set of files.
 pub(crate) fn explain_check<'a>(
     alloc: Global,
     input: &'a [u8],
@@ -42,7 +42,7 @@ pub(crate) fn explain_check<'a>(
     }
 }
 
-// What stands against a file by itself.
+// The fault of a single file.
 fn explain_file<'a>(alloc: Global, text: &'a [u8]) -> Result<Finding<'a>, Memory>
     requires short { length text.now < 2 ^ 62 }
     ensures { IfOk result (λ f. PointsInto text.now f.part) }
@@ -61,7 +61,7 @@ fn explain_file<'a>(alloc: Global, text: &'a [u8]) -> Result<Finding<'a>, Memory
     }
 }
 
-// What stands against the names and numbers of a file that was read.
+// The fault of the names and numbers of a file that was read.
 fn explain_resolved<'a>(alloc: Global, text: &'a [u8], file: &File) -> Result<Finding<'a>, Memory>
     requires read { IsTextOfFile text.now file.now }
     ensures { IfOk result (λ f. PointsInto text.now f.part) }
@@ -114,7 +114,7 @@ fn say_token(
     }
 }
 
-// What is said in front of the token and behind it; None where it is said what could stand there.
+// The words before the token and after it; `None` if the diagnostic lists the tokens that can be there.
 fn token_words(reason: ProtoReason) -> Option<Around> {
     match reason {
         ProtoReason::Token => Some(Around::quoted("no token begins with ", "")),

@@ -13,7 +13,7 @@ use findings::{Finding, Sentence};
 use mrpc_table::{Bytes, Memory, is_word};
 use std::alloc::Global;
 
-/// What stands against the input of a command, in lines for a person, given the line `fault ..` that the command wrote.
+/// The fault of a command's input, in lines for a person, given the line `fault ..` that the command wrote.
 /// Lines of the input are cut to `width` bytes.
 pub fn explained(
     alloc: Global,
@@ -32,7 +32,7 @@ pub fn explained(
     }
 }
 
-// That the input is what a command wrote that failed, where it is.
+// Appends that the input is the output of a command that failed, if it is.
 fn say_failed(input: &[u8], front: &mut Sentence) -> Result<(), Memory> {
     if !input.starts_with(FAULT) {
         return Ok(());
@@ -41,7 +41,7 @@ fn say_failed(input: &[u8], front: &mut Sentence) -> Result<(), Memory> {
     front.end_line()
 }
 
-// The lines of a finding.
+// The lines of a diagnostic.
 fn lines_of(
     alloc: Global,
     front: &Sentence,
@@ -55,7 +55,7 @@ fn lines_of(
     Ok(out)
 }
 
-/// Which words are no command line, in a line for a person.
+/// Says which words are no command line, in a line for a person.
 pub fn no_command(alloc: Global, words: &[String]) -> Result<Bytes, Memory>
     ensures { IfOk result IsPlain }
 {
@@ -71,7 +71,7 @@ fn say_no_command(words: &[String], line: &mut Sentence) -> Result<(), Memory> {
     line.end_line()
 }
 
-// Says words with a blank between two.
+// Appends the words, with a blank between two.
 fn say_words(words: &[String], line: &mut Sentence) -> Result<(), Memory> {
     for (place, word) in words.iter().enumerate() {
         if place > 0 {
@@ -82,7 +82,7 @@ fn say_words(words: &[String], line: &mut Sentence) -> Result<(), Memory> {
     Ok(())
 }
 
-// What stands against the input. In front of it goes the path of a file of a set.
+// The diagnostic for the input. `front` gets the path of a file of a set, which comes before it.
 fn found<'a>(
     alloc: Global,
     command: &[u8],

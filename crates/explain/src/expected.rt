@@ -1,4 +1,4 @@
-//! What could stand in the place of a token that can't.
+//! The tokens that are possible in place of a token at fault.
 
 ghost use Rattle.std.specs.Prelude.{◌≡◌, ◌<◌, ◌^◌, ◌∷◌, ◌++◌, [], length, OnOk};
 
@@ -8,25 +8,26 @@ use proto_parts::ProtoFault;
 use proto_schema::read_proto;
 use std::alloc::Global;
 
-// How long the text in front of a token is, at the most, where it is tried what could stand there. It is read again
-// for each token that is tried.
+// The longest text before a token for which possible tokens are tried. The text is read again for each token
+// that is tried.
 const LONGEST: usize = 0x10_0000;
 
-// Names, numbers, strings and marks that are tried, and then words, which are tried where not every name can stand.
+// The tokens that are tried: names, numbers, strings and punctuators, and then words. Words are tried only if
+// not every name is possible.
 const TOKENS: [&[u8]; 24] = [
     b"x", b"1", b"'x'", b";", b"=", b"{", b"}", b"(", b")", b"[", b"]", b"<", b">", b",",
     b"returns", b"message", b"enum", b"service", b"rpc", b"import", b"package", b"option",
     b"syntax", b"to",
 ];
 
-// The tokens that stand for all of their sort.
+// The tokens that represent all of their kind.
 const SORTS: [Row; 3] = [("x", "a name"), ("1", "a number"), ("'x'", "a string")];
 
-// The place of the first word among them.
+// The index of the first word among them.
 const FIRST_WORD: usize = 14;
 
-// Says `expected X, Y or Z, found W` about the token that stands in a text from one place to another. What is named is
-// what the reader of proto files takes in its place.
+// Appends `expected X, Y or Z, found W` about the token from one offset of a text to another. It lists the
+// tokens that the reader of proto files accepts in its place.
 pub(crate) fn say_expected(
     alloc: Global,
     text: &[u8],
@@ -46,7 +47,7 @@ pub(crate) fn say_expected(
     sentence.quote_part(text, start, end)
 }
 
-// The places of the tokens that can stand behind the beginning of a text.
+// The indices of the tokens that are possible after a prefix of a text.
 fn standing(alloc: Global, front: &[u8]) -> Result<Vec<usize>, Memory> {
     let mut places = Vec::new(alloc);
     let any_name = can_stand(alloc, front, b"x")?;
@@ -67,7 +68,8 @@ fn token_at(place: usize) -> &'static [u8] {
     }
 }
 
-// Whether a token can stand behind the beginning of a text: the first fault of both stands behind the token.
+// Whether a token is possible after a prefix of a text: the first fault of the two together is after the
+// token.
 fn can_stand(alloc: Global, front: &[u8], token: &[u8]) -> Result<bool, Memory> {
     let mut text = Bytes::from_slice(alloc, &front[..front.len().min(LONGEST)])?;
     put_token(&mut text, &token[..token.len().min(8)])?;
@@ -94,7 +96,7 @@ fn is_read(alloc: Global, text: &[u8]) -> Result<bool, Memory>
     }
 }
 
-// Names tokens, with `or` in front of the last one.
+// Appends the names of tokens, with `or` before the last one.
 fn say_list(places: &[usize], sentence: &mut Sentence) -> Result<(), Memory> {
     if places.is_empty() {
         return sentence.say(b"another token");
@@ -108,7 +110,7 @@ fn say_list(places: &[usize], sentence: &mut Sentence) -> Result<(), Memory> {
     Ok(())
 }
 
-// What stands in front of a part of a list, which isn't the first one.
+// What separates this item of a list from the one before; empty for the first.
 fn joint(place: usize, count: usize) -> &'static [u8] {
     if place.saturating_add(1) < count {
         b", "

@@ -1,14 +1,14 @@
-//! A fault as the program printed it.
+//! The line of a fault, as a command prints it.
 
 use mrpc_table::{Decimal, cut, number_of};
 
-// The beginning of the line of a fault.
+// The start of the line of a fault.
 pub(crate) const FAULT: &[u8] = b"fault ";
 
-// What a printed fault says.
+// The fields of the line of a fault.
 #[derive(Clone, Copy)]
 pub(crate) struct FaultLine<'a> {
-    // The file of a set, from 1, where a line of it is named.
+    // The file of a set, from 1, if a line of it is named.
     pub file: Option<u64>,
     // A line, from 1, a byte, from 0, or, in a set, a file, from 1.
     pub place: u64,
@@ -17,7 +17,7 @@ pub(crate) struct FaultLine<'a> {
 }
 
 impl<'a> FaultLine<'a> {
-    // What the line `fault PLACE REASON` or `fault FILE:LINE REASON` says; None where it is none.
+    // The fields of a line `fault PLACE REASON` or `fault FILE:LINE REASON`; `None` if it has another form.
     pub(crate) fn of(line: &'a [u8]) -> Option<FaultLine<'a>> {
         let line = match line.strip_suffix(b"\n") {
             Some(line) => line,

@@ -1,4 +1,4 @@
-//! The fields of a frame's message in which a byte stands.
+//! The fields of a frame's message that contain a byte.
 
 ghost use Rattle.std.specs.Prelude.{◌≤◌, length, IfSome};
 ghost use Rattle.mrpc_table.specs.Valid.{IsValid};
@@ -8,7 +8,7 @@ use frame_transport::{FrameRef, HEADER_LEN};
 use mrpc_table::{Kind, MAX_DEPTH, Memory, Table};
 use wire_base::{read_delimited, read_record, read_tag};
 
-// Says the numbers of the fields in which a byte of a frame stands, joined by dots.
+// Appends the numbers of the fields that contain a byte of a frame, joined by dots.
 pub(crate) fn say_path(
     table: &Table,
     frame: &FrameRef<'_>,
@@ -27,7 +27,7 @@ pub(crate) fn say_path(
     say_fields(table, message, frame.payload, at - HEADER_LEN, sentence)
 }
 
-// Says the numbers of the fields of a message in which a byte of its payload stands.
+// Appends the numbers of the fields of a message that contain a byte of its payload.
 fn say_fields(
     table: &Table,
     message: u32,
@@ -61,7 +61,7 @@ fn say_fields(
     Ok(())
 }
 
-// The message that a field has; None where it has none.
+// The message that is the type of a field; `None` if the field has none.
 fn inner_message(table: &Table, message: u32, number: u32) -> Option<u32>
     requires valid { IsValid table.now }
 {
@@ -71,18 +71,18 @@ fn inner_message(table: &Table, message: u32, number: u32) -> Option<u32>
     }
 }
 
-// A record in which a byte stands.
+// A record that contains a byte.
 #[derive(Clone, Copy)]
 struct Around {
     // The number of its field.
     number: u32,
-    // From where its own payload goes where it has a length, and else the end of all.
+    // The start of its own payload if it has a length, and else the end of all.
     from: usize,
-    // To where that goes.
+    // The end of its own payload.
     to: usize,
 }
 
-// The record in which a byte of a payload stands; None where no tag stands there.
+// The record of a payload that contains a byte; `None` if there is no tag.
 fn record_around(payload: &[u8], place: usize) -> Option<Around>
     ensures { IfSome result (λ r. (r.from ≤ r.to) × (r.to ≤ length payload.now)) }
 {
@@ -96,7 +96,7 @@ fn record_around(payload: &[u8], place: usize) -> Option<Around>
     None
 }
 
-// The place behind the record at a place, where that stands in front of a byte or at it.
+// The end of the record at an offset, if that is at or before the byte.
 fn record_behind(payload: &[u8], at: usize, place: usize) -> Option<usize> {
     if at > payload.len() {
         return None;
@@ -107,7 +107,7 @@ fn record_behind(payload: &[u8], at: usize, place: usize) -> Option<usize> {
     }
 }
 
-// The record at a place; None where no tag stands there.
+// The record at an offset; `None` if there is no tag.
 fn record_at(payload: &[u8], at: usize) -> Option<Around>
     ensures { IfSome result (λ r. (r.from ≤ r.to) × (r.to ≤ length payload.now)) }
 {

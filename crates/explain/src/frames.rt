@@ -1,4 +1,4 @@
-//! The faults of `decode`: of the text in front of the frames, and of the frames.
+//! The faults of `decode`: of the text before the frames, and of the frames.
 
 ghost use Rattle.std.specs.Prelude.{◌≤◌, ℕ, List, length, IfOk};
 ghost use Rattle.mrpc_table.specs.Valid.{IsValid};
@@ -13,13 +13,13 @@ use mrpc_table::{Memory, Table, is_word};
 use std::alloc::Global;
 use table_text::{TableFault, read_table, split_table};
 
-// What stands in front of the table of an input of `decode`.
+// The lines before the table in an input of `decode`.
 const HEAD: &[u8] = b"mrpc-decode 1\ntable\n";
 
-// How many bytes are shown in front of a byte, and behind it, at the most.
+// The most bytes around the byte at fault, before it and after it.
 const AROUND: usize = 12;
 
-// What a reason says. The last ones are those of frames that no replay can send.
+// Sentences for reasons. The last ones are about frames that no replay can send.
 const SENTENCES: [Row; 18] = [
     ("Version", "the version of a frame is 1, of a hello 1 or 2"),
     (
@@ -62,7 +62,7 @@ const SENTENCES: [Row; 18] = [
     ),
 ];
 
-// What stands against an input of `decode`.
+// The fault of an input of `decode`.
 pub(crate) fn explain_decode<'a>(
     alloc: Global,
     input: &'a [u8],
@@ -80,7 +80,7 @@ pub(crate) fn explain_decode<'a>(
     }
 }
 
-// What stands against the frames, in a sentence alone.
+// The fault of the frames, as a sentence alone.
 fn found_frames<'a>(
     alloc: Global,
     table: &Table,
@@ -95,7 +95,7 @@ fn found_frames<'a>(
     Ok(Finding::alone(sentence))
 }
 
-// Says where the fault is and what stands against the frames, and shows the bytes there.
+// Appends the location and the fault of the frames, and prints the bytes there.
 fn say_frames(
     table: &Table,
     stream: &[u8],
@@ -116,8 +116,8 @@ fn say_frames(
     say_around(stream, at, sentence)
 }
 
-// A byte of the frame at fault. A message that is too deep starts at the place of the fault, and may be empty and the
-// last of its frame; the byte of its length stands in front of it.
+// A byte of the frame at fault. A message that is too deep starts at the offset of the fault, and may be
+// empty and the last of its frame; the byte of its length is before it.
 fn byte_within(at: usize, reason: &[u8]) -> usize
     ensures { result ≤ at }
 {
@@ -128,7 +128,7 @@ fn byte_within(at: usize, reason: &[u8]) -> usize
     }
 }
 
-// Says the place of a fault, and in which frame and which field a byte stands.
+// Appends the offset of a fault, and which frame and which field contain a byte.
 fn say_where(
     table: &Table,
     stream: &[u8],
@@ -149,7 +149,7 @@ fn say_where(
     }
 }
 
-// The number of the frame, from 1, in which a byte of a stream stands, and the place at which that frame begins.
+// The number of the frame, from 1, that contains a byte of a stream, and the offset of that frame.
 fn frame_around(stream: &[u8], at: usize) -> (u64, usize)
     ensures before { result.1 ≤ at }
 {
@@ -168,7 +168,7 @@ fn frame_around(stream: &[u8], at: usize) -> (u64, usize)
     (count, from.min(at))
 }
 
-// The place behind the frame that begins at a place; None where no whole frame stands there.
+// The offset after the frame at an offset; `None` if there is no whole frame.
 fn frame_end(stream: &[u8], from: usize) -> Option<usize> {
     if from > stream.len() {
         return None;
@@ -182,7 +182,7 @@ fn frame_end(stream: &[u8], from: usize) -> Option<usize> {
     }
 }
 
-// Shows the bytes around a place in hexadecimal digits, with a mark under its own.
+// Prints the bytes around an offset in hexadecimal digits, with a mark under its own.
 fn say_around(stream: &[u8], at: usize, sentence: &mut Sentence) -> Result<(), Memory>
     requires within { at ≤ length stream.now }
 {

@@ -1,10 +1,10 @@
-//! The fault of an input in lines for a person: its line and column, a sentence, the line itself, and a mark under what
-//! is at fault.
+//! Explains the fault of an input in lines for a person: its line and column, a sentence, the line itself,
+//! and carets under what is at fault.
 //!
-//! [`explained`] takes the input of a command and the line `fault ..` that the command wrote. It asks the readers of
-//! the input for the place, and for what could stand there or what stands against it. It stands on these readers, on
-//! `scenario_explain`, which does so for scenarios, and on `findings`, whose contract says what is shown of a finding. The
-//! program uses one contract: what is said is a plain sentence, or points at a place of the input with it
+//! [`explained`] takes the input of a command and the line `fault ..` that the command wrote. It asks the
+//! readers of the input for the location, and for the possible tokens or the fault there. The crate uses
+//! these readers, `scenario_explain` for scenarios, and `findings`, whose contract describes a diagnostic.
+//! Its one contract for the program: it prints a plain sentence, or points into the input with one
 //! (`specs/Said.antt` of `findings`). The sentences are tested.
 #![tactic(auto)]
 

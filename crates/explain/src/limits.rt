@@ -1,15 +1,15 @@
-//! Which limit of tables a name of a proto file passes.
+//! Which limit of tables a name of a proto file exceeds.
 
 use crate::named::{name_at, stands_at};
 use mrpc_table::{MAX_ENUMS, MAX_FIELDS, MAX_MESSAGES, MAX_METHODS, MAX_NAME, MAX_VALUES};
 use proto_file::{EnumDecl, File, MessageDecl, ServiceDecl, Span};
 
-// All limits, where it isn't known which one is passed.
+// All limits, for a name whose limit isn't known.
 pub(crate) const LIMITS: &str =
     "past a limit: 256 messages, enums or rpcs, 128 fields of a message, 1024 values of an \
     enum, 64 bytes of a name, 255 of a full name, 65536 of the table's text";
 
-// Which limit the name at the span passes.
+// The limit that the name at the span exceeds.
 pub(crate) fn limit_words(file: &File, span: Span) -> &'static str {
     if is_message_past(file.messages.as_slice(), span) {
         return "a table has 256 messages at the most, and this is the 257th";
@@ -42,7 +42,7 @@ fn is_enum_past(enums: &[EnumDecl], span: Span) -> bool {
     enums.len() > MAX_ENUMS && stands_at(&enums[MAX_ENUMS].name, span)
 }
 
-// Whether the first rpc past the limit stands there. The rpcs of all services count together.
+// Whether the first rpc past the limit is at the span. The rpcs of all services count together.
 fn is_rpc_past(services: &[ServiceDecl], span: Span) -> bool {
     let mut left = MAX_METHODS;
     for service in services {

@@ -3,7 +3,7 @@
 use crate::lines::Format;
 use findings::{Row, text_for};
 
-// The lines of a table, and those around it.
+// The lines of a table, and the lines around it.
 const TABLE: [Row; 7] = [
     ("table", "table"),
     ("enum", "enum FULLNAME"),
@@ -14,7 +14,7 @@ const TABLE: [Row; 7] = [
     ("end", "end"),
 ];
 
-// The lines of scripts and of audits that declare something.
+// The declaring lines of scripts and audits.
 const FRONT: [Row; 6] = [
     ("loads", "loads N"),
     ("tenant", "tenant NAME PER"),
@@ -27,7 +27,7 @@ const FRONT: [Row; 6] = [
     ("clear", "clear method INDEX [reply] PATH"),
 ];
 
-// The lines of scripts that do something.
+// The acting lines of scripts.
 const SCRIPT: [Row; 12] = [
     ("conn", "conn CONN WORDS"),
     ("store", "store CONN PLACE VALUE"),
@@ -68,7 +68,7 @@ const AUDIT: [Row; 12] = [
     ("stands", "stands CONN SEQ POSITION NAME [held LEVEL COST]"),
 ];
 
-// The form of the lines of a format that begin with a word; None where none does.
+// The form of a format's lines that start with a word; `None` if no line does.
 pub(crate) fn line_form(word: &[u8], format: Format) -> Option<&'static str> {
     match text_for(&TABLE, word) {
         Some(form) => Some(form),

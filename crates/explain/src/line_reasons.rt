@@ -1,10 +1,10 @@
-//! What stands against a line, by the word of the reason.
+//! The fault of a line, by the word of the reason.
 
 use crate::limits::LIMITS;
 use findings::{Row, text_for};
 use mrpc_table::is_word;
 
-// What a reason says of a line whose words have the right form.
+// The sentence for a reason about a line whose words have the right form.
 const SENTENCES: [Row; 18] = [
     (
         "Number",
@@ -63,7 +63,7 @@ const SENTENCES: [Row; 18] = [
     ),
 ];
 
-// Which numbers a line may have that is none of a table, by its first word.
+// The numbers that are allowed in a line outside a table, by the line's first word.
 const NUMBERS: [Row; 4] = [
     ("loads", "the limit of loads is 1 to 16384"),
     ("tenant", "there are 16 tenants at the most"),
@@ -74,14 +74,14 @@ const NUMBERS: [Row; 4] = [
     ("clear", "INDEX is 0 to 65535"),
 ];
 
-// What a reason says of a line that begins with this word, and whose words have the right form.
+// The sentence for a reason about a line that starts with this word, and whose words have the right form.
 pub(crate) fn reason_sentence(reason: &[u8], word: &[u8]) -> &'static str {
     number_sentence(reason, word)
         .or(text_for(&SENTENCES, reason))
         .unwrap_or("the line is at fault")
 }
 
-// Which numbers a line may have that is none of a table.
+// The numbers that are allowed in a line outside a table.
 fn number_sentence(reason: &[u8], word: &[u8]) -> Option<&'static str> {
     if !is_word(reason, b"Number") {
         return None;

@@ -1,4 +1,4 @@
-//! The faults of texts of lines: scripts, what stands in front of frames, and audits.
+//! The faults of texts of lines: scripts, the text before frames, and audits.
 
 ghost use Rattle.std.specs.Prelude.{IfOk};
 ghost use Rattle.findings.specs.Findings.{PointsInto};
@@ -19,12 +19,12 @@ const MISSING: [Row; 3] = [
     ("Number", "the value 0 of an enum"),
 ];
 
-// What a text of lines is.
+// The format of a text of lines.
 #[derive(Clone, Copy)]
 pub(crate) enum Format {
     // A script, which `replay` reads.
     Replay,
-    // What stands in front of the frames that `decode` reads.
+    // The text before the frames that `decode` reads.
     Decode,
     // An audit.
     Audit,
@@ -48,7 +48,7 @@ impl Format {
     }
 }
 
-// What stands against a line of a text.
+// The fault of a line of a text.
 pub(crate) fn explain_line<'a>(
     alloc: Global,
     text: &'a [u8],
@@ -68,7 +68,7 @@ pub(crate) fn explain_line<'a>(
     Ok(Finding::in_line(sentence, part))
 }
 
-// What stands against a line, and how it ends.
+// Appends the fault of a line, and how the line ends.
 fn say_line(
     line: &TextLine<'_>,
     reason: &[u8],
@@ -99,7 +99,7 @@ fn say_fault(
     say_reason(line, reason, format, found, sentence)
 }
 
-// What is missing at the end of the text, or that a line is empty.
+// Appends what is missing at the end of the text, or that a line is empty.
 fn say_missing(
     line: &TextLine<'_>,
     reason: &[u8],
@@ -126,12 +126,12 @@ fn missing_line(text: &[u8], reason: &[u8], format: Format) -> &'static str {
     text_or(&MISSING, reason, "the end of the table or of a policy")
 }
 
-// Whether the table begins in the line where it may.
+// Whether a text starts its table on the line where it may.
 fn has_table(text: &[u8]) -> bool {
     is_word(TextLine::of(text, 2).bytes, b"table") || is_word(TextLine::of(text, 3).bytes, b"table")
 }
 
-// What stands against a line that isn't empty.
+// Appends the fault of a line that isn't empty.
 fn say_reason(
     line: &TextLine<'_>,
     reason: &[u8],
@@ -150,12 +150,12 @@ fn say_reason(
     }
 }
 
-// Whether a reason is one of form.
+// Whether a reason is about the form of a line.
 fn is_of_form(reason: &[u8]) -> bool {
     is_word(reason, b"Word") || is_word(reason, b"Syntax") || is_word(reason, b"Audit")
 }
 
-// The form of a line, by its first word, or that no line begins with that word.
+// Appends the form of a line, by its first word, or that no line starts with that word.
 fn say_form(
     line: &TextLine<'_>,
     reason: &[u8],
@@ -175,7 +175,7 @@ fn say_form(
     }
 }
 
-// What is asked of a line besides its form.
+// The rule for a line besides its form.
 fn form_rule(reason: &[u8]) -> &'static str {
     if is_word(reason, b"Audit") {
         ", with numbers in their ranges, names that are declared, and the encoding of a copy"
@@ -184,7 +184,7 @@ fn form_rule(reason: &[u8]) -> &'static str {
     }
 }
 
-// That the line is one that a command wrote, or how it ends, where that isn't a line feed alone.
+// Appends that a command wrote the line, or how the line ends if that isn't a single line feed.
 fn say_end(line: &TextLine<'_>, sentence: &mut Sentence) -> Result<(), Memory> {
     if line.start > 0 && line.bytes.starts_with(FAULT) {
         return sentence.say(b"; this is what a command wrote that failed");

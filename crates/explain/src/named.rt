@@ -1,10 +1,10 @@
-//! What of a file has a name or a number already.
+//! Names and numbers that are used already in a file.
 
 use findings::{Around, Sentence};
 use mrpc_table::{Decimal, Memory};
 use proto_file::{EnumDecl, FieldDecl, File, MessageDecl, ServiceDecl, Span, Word};
 
-// Says which earlier field of its message has the number that stands at the span.
+// Appends which earlier field of its message has the number at the span.
 pub(crate) fn say_earlier_number(
     text: &[u8],
     file: &File,
@@ -25,7 +25,7 @@ pub(crate) fn say_earlier_number(
     }
 }
 
-// Says in which line the name at the span was given already.
+// Appends on which line the name at the span was used already.
 pub(crate) fn say_earlier_name(
     text: &[u8],
     file: &File,
@@ -45,7 +45,7 @@ fn say_line(span: Span, sentence: &mut Sentence) -> Result<(), Memory> {
     sentence.say(b" already")
 }
 
-// The first field before the one whose number stands at the span, with the same number.
+// The first field that has the number at the span and is before the field there.
 fn earlier_number(file: &File, span: Span) -> Option<&FieldDecl> {
     for message in file.messages.as_slice() {
         if let Some(field) = earlier_field(message.fields.as_slice(), span) {
@@ -65,7 +65,7 @@ fn earlier_field(fields: &[FieldDecl], span: Span) -> Option<&FieldDecl> {
     None
 }
 
-// The number that stands at the span.
+// The number at the span.
 fn value_at(fields: &[FieldDecl], span: Span) -> Option<Decimal> {
     for field in fields {
         if field.number.span.start == span.start {
@@ -75,18 +75,19 @@ fn value_at(fields: &[FieldDecl], span: Span) -> Option<Decimal> {
     None
 }
 
-// Where a name is looked for: among the methods of a service, in a message, in an enum's scope, or in the file.
+// Where a name is looked up: among the methods of a service, in a message, in an enum's scope, or in the
+// file.
 #[derive(Clone, Copy)]
 enum Scope {
-    // The methods of the service at this place.
+    // The methods of the service with this index.
     Service(usize),
-    // What stands in the message at this place.
+    // The members of the message with this index.
     Message(usize),
-    // What stands in no message.
+    // The declarations outside messages.
     File,
 }
 
-// Where the first thing of the scope stands whose name is the one at the span.
+// The span of the first member of the scope that has the name at the span.
 fn earlier_name(file: &File, span: Span) -> Option<Span> {
     let (scope, own) = named_at(file, span)?;
     match scope {
@@ -106,13 +107,13 @@ fn scope_of(parent: Option<usize>) -> Scope {
     }
 }
 
-// The name of a thing of the file that stands at the span.
+// The name of a declaration at the span.
 pub(crate) fn name_at(file: &File, span: Span) -> Option<&Word> {
     let (_, word) = named_at(file, span)?;
     Some(word)
 }
 
-// The name that stands at the span, and the scope that it is in.
+// The name at the span, and its scope.
 fn named_at(file: &File, span: Span) -> Option<(Scope, &Word)> {
     if let Some(found) = named_in_messages(file.messages.as_slice(), span) {
         return Some(found);
@@ -177,12 +178,12 @@ fn named_in_services(services: &[ServiceDecl], span: Span) -> Option<(Scope, &Wo
     None
 }
 
-// Whether a name stands at the span.
+// Whether the name is at the span.
 pub(crate) fn stands_at(word: &Word, span: Span) -> bool {
     word.span.start == span.start
 }
 
-// Whether a name is the same as another one that stands behind it.
+// Whether a name is equal to a later one.
 fn is_earlier(word: &Word, own: &Word) -> bool {
     word.span.start < own.span.start && word.name.as_slice() == own.name.as_slice()
 }
@@ -196,7 +197,7 @@ fn first_of_rpcs(service: &ServiceDecl, own: &Word) -> Option<Span> {
     None
 }
 
-// The first thing of a message's scope, or of the file's, that has this name and stands in front of it.
+// The first member of a message's scope, or of the file's, that has this name and is before it.
 fn first_in_scope(file: &File, scope: Option<usize>, own: &Word) -> Option<Span> {
     let mut first = None;
     for (place, message) in file.messages.as_slice().iter().enumerate() {
@@ -236,7 +237,7 @@ fn note_enum(first: &mut Option<Span>, choices: &EnumDecl, own: &Word) {
     }
 }
 
-// Keeps a name's place where it is the same one and stands before the place that was kept.
+// Keeps a name's span if it is equal to `own` and before the span that is kept.
 fn note(first: &mut Option<Span>, word: &Word, own: &Word) {
     let is_first = match first {
         Some(span) => word.span.start < span.start,

@@ -1,4 +1,4 @@
-//! What stands against a name or a number of a proto file.
+//! The violation by a name or a number of a proto file.
 
 ghost use Rattle.std.specs.Prelude.{List, ℕ, IfOk};
 ghost use Rattle.findings.specs.Findings.{PointsInto};
@@ -15,7 +15,7 @@ use proto_file::{File, Span};
 use schema_offences::ResolveReason;
 use std::alloc::Global;
 
-// What stands against the first name or number at fault of a file that was read.
+// The diagnostic for the first name or number at fault of a file that was read.
 pub(crate) fn found_offence<'a>(
     alloc: Global,
     text: &'a [u8],
@@ -49,7 +49,7 @@ fn say_offence(
     }
 }
 
-// What is said in front of the name or the number and behind it.
+// The words before the name or the number, and after it.
 fn offence_words(reason: ResolveReason) -> Around {
     match reason {
         ResolveReason::UnknownName => {

@@ -9,7 +9,7 @@ use mrpc_table::Memory;
 use scenario_explain::{Told, tell_fault};
 use std::alloc::Global;
 
-// What stands against a scenario.
+// The fault of a scenario.
 pub(crate) fn explain_run<'a>(alloc: Global, input: &'a [u8]) -> Result<Finding<'a>, Memory>
     ensures { IfOk result (λ f. PointsInto input.now f.part) }
 {
@@ -19,7 +19,7 @@ pub(crate) fn explain_run<'a>(alloc: Global, input: &'a [u8]) -> Result<Finding<
     }
 }
 
-// What is told, and where.
+// The diagnostic for it, with its location.
 fn found_told<'a>(alloc: Global, input: &'a [u8], told: &Told) -> Result<Finding<'a>, Memory>
     ensures { IfOk result (λ f. PointsInto input.now f.part) }
 {

@@ -1,4 +1,4 @@
-//! Which word of a line is at fault.
+//! The word of a line that is at fault.
 
 use crate::line_reasons::reason_sentence;
 use crate::lines::Format;
@@ -6,24 +6,24 @@ use findings::{Sentence, TextLine};
 use mrpc_table::{Memory, cut, is_word};
 use script_words::{Form, Sort, form_of, judge};
 
-// A word of a line of a known form, and what stands against it.
+// A word at fault in a line of a known form, and its fault.
 #[derive(Clone, Copy)]
 pub(crate) struct WordAtFault {
-    // Its place among the words of the line, from 0.
+    // Its index among the words of the line, from 0.
     pub place: usize,
     why: Why,
 }
 
 #[derive(Clone, Copy)]
 enum Why {
-    // It isn't of the sort of the words that stand there.
+    // It isn't of the kind of words that its position takes.
     NotOf(Sort),
-    // What the reason of the fault says.
+    // The text for the reason of the fault.
     Reason(&'static str),
 }
 
 impl WordAtFault {
-    // Says what stands against the word.
+    // Appends the fault of the word.
     pub(crate) fn say(&self, line: &TextLine<'_>, sentence: &mut Sentence) -> Result<(), Memory> {
         let word = self.word(line);
         match self.why {
@@ -50,7 +50,7 @@ impl WordAtFault {
     }
 }
 
-// The word of a line at fault, if it is a line of a script whose form is known and the reason stands against a word.
+// The word at fault in a line, if it is a line of a script of a known form and the reason is about a word.
 pub(crate) fn word_at_fault(
     line: &TextLine<'_>,
     reason: &[u8],
@@ -70,7 +70,7 @@ pub(crate) fn word_at_fault(
     })
 }
 
-// The first word that its sort refuses for this reason.
+// The first word that isn't of its kind, with this reason.
 fn misjudged(sorts: &[Sort], line: &[u8], reason: &[u8]) -> Option<WordAtFault> {
     let mut rest = line;
     for (place, sort) in sorts.iter().enumerate() {
@@ -89,7 +89,7 @@ fn misjudged(sorts: &[Sort], line: &[u8], reason: &[u8]) -> Option<WordAtFault> 
     None
 }
 
-// Whether a word isn't of a sort, for this reason.
+// Whether a word isn't of its kind, with this reason.
 fn is_refused(sort: Sort, word: &[u8], reason: &[u8]) -> bool {
     match judge(&[sort], word) {
         Ok(_) => false,
@@ -97,7 +97,7 @@ fn is_refused(sort: Sort, word: &[u8], reason: &[u8]) -> bool {
     }
 }
 
-// The word that a reason stands against, in a line whose words are of their sorts.
+// The index of the word that a reason is about, in a line whose words are of their kinds.
 fn place_of(form: Form, line: &TextLine<'_>, reason: &[u8]) -> Option<usize> {
     if is_word(reason, b"Unknown") {
         Some(unknown_place(form, line))
@@ -110,7 +110,7 @@ fn place_of(form: Form, line: &TextLine<'_>, reason: &[u8]) -> Option<usize> {
     }
 }
 
-// The word that a reason stands against in any line.
+// The index of the word that a reason is about in any line.
 fn fixed_place(reason: &[u8]) -> Option<usize> {
     if is_word(reason, b"Known") {
         Some(1)
@@ -131,7 +131,7 @@ fn name_place(form: Form) -> usize {
     }
 }
 
-// The place in the heap, or the load of a race, where that is 0.
+// The place in the heap, or the load of a race, if that is 0.
 fn place_place(form: Form, line: &TextLine<'_>) -> usize {
     match form {
         Form::Race if !is_word(nth(line.bytes, 2), b"0") => 3,
@@ -139,7 +139,7 @@ fn place_place(form: Form, line: &TextLine<'_>) -> usize {
     }
 }
 
-// The connection, where no line before opens it, or else the last name.
+// The connection, if no earlier line opens it, or else the last name.
 fn unknown_place(form: Form, line: &TextLine<'_>) -> usize {
     match form {
         Form::Quota => 3,
@@ -149,7 +149,7 @@ fn unknown_place(form: Form, line: &TextLine<'_>) -> usize {
     }
 }
 
-// Whether a line before this one opens the connection that it names.
+// Whether an earlier line opens the connection that this one names.
 fn is_open(line: &TextLine<'_>) -> bool {
     let conn = nth(line.bytes, 1);
     let mut rest = &line.text[..line.start.min(line.text.len())];
@@ -165,7 +165,7 @@ fn is_open(line: &TextLine<'_>) -> bool {
     false
 }
 
-// The word of a line at a place, from 0; nothing where the line has fewer.
+// The word of a line with this index, from 0; empty if the line has fewer.
 fn nth(line: &[u8], place: usize) -> &[u8] {
     let mut rest = line;
     for _ in 0..place {
@@ -180,7 +180,7 @@ fn nth(line: &[u8], place: usize) -> &[u8] {
     }
 }
 
-// What words of a sort are.
+// Appends what words of a kind look like.
 fn say_sort(sort: Sort, sentence: &mut Sentence) -> Result<(), Memory> {
     match sort {
         Sort::Key(word) | Sort::Fixed(word) => sentence.quote(word.spelling()),

@@ -17,14 +17,14 @@ use proto_parts::ProtoFault;
 use proto_schema::read_proto;
 use std::alloc::Global;
 
-// What a reason says in front of the path of an import.
+// The words for a reason, before the path of an import.
 const IMPORTS: [Row; 3] = [
     ("Missing", "no file of the set has the path "),
     ("Twice", "an import before this one has the path "),
     ("Cycle", "imports lead back to this file from "),
 ];
 
-// What a reason says of something in a line.
+// The words for a reason about something in a line.
 const LINES: [Row; 12] = [
     (
         "Missing",
@@ -67,7 +67,7 @@ const LINES: [Row; 12] = [
     ("Limit", LIMITS),
 ];
 
-// What stands against a set of files, whose file is named by its path.
+// The fault of a set of files; names the file by its path.
 pub(crate) fn explain_set<'a>(
     alloc: Global,
     input: &'a [u8],
@@ -89,7 +89,7 @@ pub(crate) fn explain_set<'a>(
     }
 }
 
-// The file of a number, from 1.
+// The file with this number, from 1.
 fn member<'a, 'b>(files: &'b [Packed<'a>], number: u64) -> Option<&'b Packed<'a>>
     ensures { IfSome result (λ file. Contains files.now file.now) }
 {
@@ -99,7 +99,7 @@ fn member<'a, 'b>(files: &'b [Packed<'a>], number: u64) -> Option<&'b Packed<'a>
     Some(&files[(number - 1) as usize])
 }
 
-// A file that doesn't stand there.
+// The diagnostic for a file that isn't there.
 fn missing_file<'a>(alloc: Global, file: u32) -> Result<Finding<'a>, Memory>
     ensures { (input : List ℕ) → IfOk result (λ f. PointsInto input f.part) }
 {
@@ -111,7 +111,7 @@ fn missing_file<'a>(alloc: Global, file: u32) -> Result<Finding<'a>, Memory>
     Ok(Finding::alone(sentence))
 }
 
-// What stands against a file of a set.
+// The fault of a file of a set.
 fn explain_member<'a>(
     alloc: Global,
     file: &Packed<'a>,
@@ -146,7 +146,7 @@ fn explain_member<'a>(
     }
 }
 
-// What stands against an import, a name or a number of a file that was read, in the line that was told.
+// The fault of an import, a name or a number of a file that was read, on the reported line.
 fn explain_read<'a>(
     alloc: Global,
     text: &'a [u8],
@@ -162,7 +162,7 @@ fn explain_read<'a>(
     }
 }
 
-// What stands against an import.
+// The fault of an import.
 fn found_import<'a>(
     alloc: Global,
     text: &'a [u8],
@@ -176,7 +176,7 @@ fn found_import<'a>(
     Ok(Finding::in_line(sentence, Part::of(text, import.span.start, import.span.end)))
 }
 
-// What stands against something in a line.
+// The fault of something in a line.
 fn found_line<'a>(
     alloc: Global,
     text: &'a [u8],
@@ -189,7 +189,7 @@ fn found_line<'a>(
     Ok(Finding::in_line(sentence, TextLine::of(text, fault.place).whole()))
 }
 
-// The import of a line; None where it has none, or several.
+// The import on a line; `None` if there is none, or several.
 fn import_at(imports: &[Import], line: u64) -> Option<&Import> {
     let mut found = None;
     for import in imports {

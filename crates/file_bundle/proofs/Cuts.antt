@@ -1,4 +1,4 @@
--- A list that is cut at the first place of a byte.
+-- A list that is split at the first occurrence of a byte.
 use Rattle.std.proofs.Common.{◌≡◌, ◌≢◌, ℕ, ◌==◌, true, false, List, [], ◌∷◌, ◌++◌, length, ◌⊎◌, inl, inr, refl, ap, sym, subst, ◌∙◌, arith}
 use Rattle.std.specs.List.{slice_split, join_with_byte, AllByRecursion}
 use Rattle.std.proofs.lemmas.Bool.{ne_eqb, eq-eqb, eqb-true}
@@ -6,7 +6,7 @@ use Rattle.std.proofs.lemmas.Bool.Decides.{eqb_tells}
 use Rattle.std.proofs.lemmas.List.Elements.{All-from_recursion}
 use Rattle.std.proofs.lemmas.List.Splits.{slice_split_at, slice_split_none, length-slice_split, join_with_byte-slice_split}
 
--- the byte doesn't stand in the list
+-- the byte doesn't occur in the list
 abbrev pub Lacks : ℕ → List ℕ → Type 0
 Lacks c xs = AllByRecursion (λ b. b ≢ c) xs
 
@@ -14,7 +14,7 @@ pub Lacks-append : (c : ℕ) (xs ys : List ℕ) → Lacks c xs → Lacks c ys �
 Lacks-append c [] ys h k = k
 Lacks-append c (x ∷ xs) ys h k = (h.0, Lacks-append c xs ys h.1 k)
 
--- a list is cut in one way
+-- a list is split in one way
 pub cut_once : (c : ℕ) (p q x y : List ℕ) → Lacks c p → Lacks c q → p ++ c ∷ x ≡ q ++ c ∷ y → (p ≡ q) × (x ≡ y)
 cut_once c [] [] x y h k e = (refl, cc)
 cut_once c [] (b ∷ q) x y h k e = let first : c ≡ b = cc in absurd (k.0 (sym first))
@@ -25,14 +25,14 @@ cut_once c (a ∷ p) (b ∷ q) x y h k e =
     let rest = cut_once c p q x y h.1 k.1 later in
     ((λ i. first i ∷ rest.0 i), rest.1)
 
--- and not at all where the byte is lacking
+-- a list without the byte isn't split
 pub cut_nowhere : (c : ℕ) (text p x : List ℕ) → Lacks c text → text ≡ p ++ c ∷ x → ⊥
 cut_nowhere c [] [] x h e = absurd cc
 cut_nowhere c [] (a ∷ p) x h e = absurd cc
 cut_nowhere c (t ∷ ts) [] x h e = let first : t ≡ c = cc in h.0 first
 cut_nowhere c (t ∷ ts) (a ∷ p) x h e = let later : ts ≡ p ++ c ∷ x = cc in cut_nowhere c ts p x h.1 later
 
--- a list that is cut at the first place of a byte
+-- a list that is split at the first occurrence of a byte
 pub record IsCut (c : ℕ) (text line behind : List ℕ) : Type 0 where
   pub lacks : Lacks c line
   pub text_is : text ≡ line ++ c ∷ behind
@@ -49,7 +49,7 @@ cut_or_not c (t ∷ ts) = elim (eqb_tells t c) [
       ]
 ]
 
--- ---- the parts that a split gives
+-- ---- the parts of a split
 
 tested : (c : ℕ) (xs : List ℕ) → Lacks c xs → AllByRecursion (λ b. (b == c) ≡ false) xs
 tested c [] h = tt
@@ -72,7 +72,7 @@ same_parts c x y e = sym (join_with_byte-slice_split c x) ∙ ap (join_with_byte
 pub head_is : {X : Type 0} (x y : X) (xs ys : List X) → x ∷ xs ≡ y ∷ ys → (x ≡ y) × (xs ≡ ys)
 head_is x y xs ys e = (cc, cc)
 
--- what a first part and the parts behind it say
+-- a first part and further parts are such a split
 pub cut_from_parts : (c : ℕ) (text line behind : List ℕ) → slice_split (λ b. b == c) text ≡ line ∷ slice_split (λ b. b == c) behind → IsCut c text line behind
 cut_from_parts c text line behind e = elim (cut_or_not c text) [
   | inl found ↦
@@ -84,7 +84,7 @@ cut_from_parts c text line behind e = elim (cut_or_not c text) [
       absurd (some_part c behind (sym parts.1))
 ]
 
--- and what one part says
+-- a single part lacks the byte
 pub lacks_from_parts : (c : ℕ) (text : List ℕ) → slice_split (λ b. b == c) text ≡ text ∷ [] → Lacks c text
 lacks_from_parts c text e = elim (cut_or_not c text) [
   | inl found ↦
@@ -93,7 +93,7 @@ lacks_from_parts c text e = elim (cut_or_not c text) [
   | inr none ↦ none
 ]
 
--- ---- lists that are tested by their length
+-- ---- lists that are compared by their length
 
 pub is_nothing : {X : Type 0} (xs : List X) → true ≡ (length xs == 0) → xs ≡ []
 is_nothing [] e = refl

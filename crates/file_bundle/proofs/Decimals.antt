@@ -1,4 +1,4 @@
--- The decimal digits of a number of any size, and what reads them.
+-- The decimal digits of a number of any size, and their reader.
 use Rattle.std.proofs.Common.{◌≡◌, ◌≢◌, ℕ, zero, suc, ◌+◌, ◌*◌, ◌/◌, ◌%◌, ◌^◌, ◌<◌, ◌≤◌, ◌==◌, ◌&&◌, ◌||◌, not, Bool}
 use Rattle.std.proofs.Common.{true, false, cond, List, [], ◌∷◌, ◌++◌, length, get_or, take, map, Some, None, inl, inr}
 use Rattle.std.proofs.Common.{refl, ap, sym, subst, ◌∙◌, arith}
@@ -143,7 +143,7 @@ word_from c cs false is all first =
     let value : digits_value 10 (c ∷ cs) ≡ number_from_digits 10 (map digit_value (c ∷ cs)) = digits_value_is 10 (c ∷ cs) in
     sym (ap decimal_word value ∙ decimal_word-some (number_from_digits 10 (map digit_value (c ∷ cs))) number.1 ∙ ap (map (λ d. 48 + d)) number.0 ∙ shown.0)
 
--- what is read as a number is its digits
+-- what is read as a number are its digits
 pub decimal_word-from : (word : List ℕ) (n : ℕ) → number_of word ≡ Some n → word ≡ decimal_word n
 decimal_word-from [] n e = absurd cc
 decimal_word-from (c ∷ cs) n e =
@@ -156,7 +156,7 @@ decimal_word-from (c ∷ cs) n e =
 pub decimal_word-once : (m n : ℕ) → decimal_word m ≡ decimal_word n → m ≡ n
 decimal_word-once m n e = let same : Some m ≡ Some n = sym (number_of-decimal_word m) ∙ ap number_of e ∙ number_of-decimal_word n in cc
 
--- the digits of a number of 64 bits are those that are printed
+-- the digits of a number of 64 bits are those of `decimal`
 pub decimal_word-printed : (n : ℕ) → n < 2 ^ 64 → decimal_word n ≡ decimal n
 decimal_word-printed n small = elim (cases_lt 0 n) [
   | inl some ↦ decimal_word-some n some ∙ sym (decimal-digits_of n some small)
@@ -174,6 +174,6 @@ lacks_of-digits c (d ∷ ds) none all =
     let first : is_ascii_digit d ≡ true = both_left (is_ascii_digit d) (list_all is_ascii_digit ds) all in
     (λ same. let here : is_ascii_digit c ≡ true = ap is_ascii_digit (sym same) ∙ first in cc, lacks_of-digits c ds none (both_right (is_ascii_digit d) (list_all is_ascii_digit ds) all))
 
--- what is no digit doesn't stand among those of a number
+-- the digits of a number contain no byte that isn't a digit
 pub decimal_word-lacks : (c n : ℕ) → is_ascii_digit c ≡ false → AllByRecursion (λ d. d ≢ c) (decimal_word n)
 decimal_word-lacks c n none = lacks_of-digits c (decimal_word n) none (decimal_of-some (decimal_word n) n (number_of-decimal_word n))

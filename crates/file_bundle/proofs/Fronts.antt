@@ -1,4 +1,4 @@
--- The files at the front of an input, and what stands behind them.
+-- The files that an input starts with, and the remainder.
 use Rattle.std.proofs.Common.{◌≡◌, ℕ, zero, suc, ◌+◌, ◌<◌, ◌≤◌, List, [], ◌∷◌, ◌++◌, length, take, drop, ◌⊎◌, inl}
 use Rattle.std.proofs.Common.{inr, refl, ap, sym, subst, ◌∙◌, arith, append_assoc, length-append}
 use Rattle.std.specs.Prelude.{All, codes}
@@ -42,11 +42,11 @@ texts_of files = flat_map file_text files
 file_first : (f : File) (fs : List File) (rest : List ℕ) → texts_of (f ∷ fs) ++ rest ≡ file_text f ++ (texts_of fs ++ rest)
 file_first f fs rest = ap (λ (t : List ℕ). t ++ rest) (flat_map-cons file_text f fs) ∙ append_assoc (file_text f) (texts_of fs) rest
 
--- the header line of a file, and its bytes and the rest behind it
+-- the header line of a file, followed by its bytes and the remainder
 file_text-behind : (f : File) (rest : List ℕ) → file_text f ++ rest ≡ header_line f.0 (length f.1) ++ (f.1 ++ rest)
 file_text-behind f rest = append_assoc (header_line f.0 (length f.1)) f.1 rest
 
--- ---- a list that is cut by its length
+-- ---- a list that is split by its length
 
 cut_long : (xs ys r s : List ℕ) → length xs ≡ length ys → xs ++ r ≡ ys ++ s → (xs ≡ ys) × (r ≡ s)
 cut_long [] [] r s n e = (refl, e)
@@ -57,7 +57,7 @@ cut_long (x ∷ xs) (y ∷ ys) r s n e =
     let rest = cut_long xs ys r s (omega (arith, n)) parts.1 in
     ((λ i. parts.0 i ∷ rest.0 i), rest.1)
 
--- bytes have one file at their front at most
+-- bytes start with at most one file
 pub file_once : (f g : File) (rest more : List ℕ) → IsWord f.0 → IsWord g.0 → file_text f ++ rest ≡ file_text g ++ more → (f ≡ g) × (rest ≡ more)
 file_once f g rest more w v e =
     let heads = header_once f.0 g.0 (length f.1) (length g.1) (f.1 ++ rest) (g.1 ++ more) w v (sym (file_text-behind f rest) ∙ e ∙ file_text-behind g more) in
@@ -67,9 +67,9 @@ file_once f g rest more w v e =
 some_text : (f : File) (rest : List ℕ) → file_text f ++ rest ≡ [] → ⊥
 some_text f rest e = absurd cc
 
--- ---- where no file stands
+-- ---- no file follows
 
--- no file stands at the front of these bytes
+-- the bytes start with no file
 abbrev pub NoFile : List ℕ → Type 0
 NoFile bytes = (f : File) (more : List ℕ) → IsWord f.0 → bytes ≡ file_text f ++ more → ⊥
 
@@ -84,7 +84,7 @@ no_file_of bytes h f more w e = elim h [
       omega (arith, few.fewer, same.1, ap (length {A = ℕ}) same.2, length-append f.1 more)
 ]
 
--- no file stands behind these files, of which there are 64 at most: the next one would be the 65th, or isn't there
+-- no further file follows these at most 64 files: they are 64, or the remainder starts with no file
 abbrev pub NoFurther : List File → List ℕ → Type 0
 NoFurther files rest = (length files ≤ 64) × (length files < 64 → NoFile rest)
 
@@ -94,7 +94,7 @@ no_further files rest (too_many all some) = (omega (arith, all), λ fewer. absur
 no_further files rest (no_header fewer some none) = (omega (arith, fewer), λ _. no_file_of rest (inl none))
 no_further files rest (too_few fewer few) = (omega (arith, fewer), λ _. no_file_of rest (inr few))
 
--- the files at the front are determined, where no further one stands behind them
+-- the leading files are determined if no further one follows them
 one_front : (files others : List File) (rest more : List ℕ) (n : ℕ) → AreWords files → AreWords others
     → n + length files ≤ 64 → (n + length files < 64 → NoFile rest) → n + length others ≤ 64 → (n + length others < 64 → NoFile more)
     → texts_of files ++ rest ≡ texts_of others ++ more → (files ≡ others) × (rest ≡ more)
@@ -114,9 +114,9 @@ front_once input files others rest more w v stops ends e d =
     one_front files others rest more 0 w v (omega (arith, stops.0)) (λ h. stops.1 (omega (arith, h))) (omega (arith, ends.0)) (λ h. ends.1 (omega (arith, h)))
     (append_cancel_left first_line (texts_of files ++ rest) (texts_of others ++ more) same)
 
--- ---- one file more
+-- ---- one more file
 
--- a file stands behind those at the front
+-- a file follows the leading ones
 pub pushed : (input : List ℕ) (files : List File) (f : File) (rest behind : List ℕ) → input ≡ bundle_text files ++ rest → rest ≡ file_text f ++ behind
     → input ≡ bundle_text (files ++ f ∷ []) ++ behind
 pushed input files f rest behind e is =
@@ -126,7 +126,7 @@ pushed input files f rest behind e is =
     ∙ sym (append_assoc (first_line ++ texts_of files) (file_text f) behind)
     ∙ ap (λ (t : List ℕ). t ++ behind) (append_assoc first_line (texts_of files) (file_text f) ∙ ap (λ (t : List ℕ). first_line ++ t) (sym texts))
 
--- the bytes behind a header line are enough
+-- enough bytes follow a header line
 pub file_from : (bytes path : List ℕ) (size : ℕ) (behind : List ℕ) → IsWord path → bytes ≡ header_line path size ++ behind → size ≤ length behind
     → HasFile bytes (path, take size behind) (drop size behind)
 file_from bytes path size behind w e enough =
@@ -158,7 +158,7 @@ broken files rest (too_few fewer few) e some = absurd (nothing (sym few.text ∙
     nothing : header_line few.path few.size ++ few.behind ≡ [] → ⊥
     nothing d = absurd cc
 
--- no files stand in the first line without its line feed
+-- the first line without its line feed is followed by no files
 none_unended : (input : List ℕ) (files : List File) (rest : List ℕ) → input ≡ bundle_text files ++ rest → input ≡ codes "mrpc-files 1" → ⊥
 none_unended input files rest e d = not_there (texts_of files ++ rest) (sym d ∙ e ∙ append_assoc first_line (texts_of files) rest)
   where
@@ -187,7 +187,7 @@ breaks_once input k j (Faults.breaks_off a) (Faults.no_line_feed e n) = absurd (
 breaks_once input k j (Faults.no_line_feed e n) (Faults.breaks_off b) = absurd (none_unended input b.files b.rest b.text e)
 breaks_once input k j (Faults.no_line_feed e n) (Faults.no_line_feed d m) = n ∙ sym m
 
--- ---- nor neither
+-- ---- one of both holds
 
 abbrev pub SpelledOrBroken : List ℕ → Type 0
 SpelledOrBroken input = ((files : List File) × Spells input files) ⊎ ((k : ℕ) × IsBundleFault input k)

@@ -1,4 +1,4 @@
--- Header lines at the front of bytes.
+-- Header lines at the start of bytes.
 use Rattle.std.proofs.Common.{◌≡◌, ◌≢◌, ℕ, ◌==◌, Bool, true, false, List, [], ◌∷◌, ◌++◌, length, take, drop, codes}
 use Rattle.std.proofs.Common.{Option, Some, None, ◌⊎◌, inl, inr, refl, ap, sym, subst, ◌∙◌, arith, append_assoc}
 use Rattle.std.specs.Prelude.{option_map}
@@ -31,7 +31,7 @@ both_lacks (c ∷ cs) h k = ((h.0, k.0), both_lacks cs h.1 k.1)
 pub is_word : (word : List ℕ) → word ≢ [] → Lacks 32 word → Lacks 10 word → IsWord word
 is_word word some h k = record { some = some; bytes = All-from_recursion (λ c. (c ≢ 32) × (c ≢ 10)) word (both_lacks word h k) }
 
--- the line without its line feed, behind `file `
+-- the line after `file `, without its line feed
 abbrev pub words : List ℕ → ℕ → List ℕ
 words path size = path ++ 32 ∷ decimal_word size
 
@@ -48,7 +48,7 @@ line_lacks path size w = Lacks-append 10 (codes "file ") (words path size) (
 )
     (words_lack path size w)
 
--- bytes have one header line at their front at most
+-- bytes start with at most one header line
 pub header_once : (path other : List ℕ) (size count : ℕ) (rest more : List ℕ) → IsWord path → IsWord other
     → header_line path size ++ rest ≡ header_line other count ++ more → (path ≡ other) × (size ≡ count) × (rest ≡ more)
 header_once path other size count rest more w v e =
@@ -60,13 +60,13 @@ header_once path other size count rest more w v e =
 
 -- ---- from the parts of bytes to a header line
 
--- what a header line says of the first line of bytes
+-- what a header line implies for the first line of the bytes
 pub first_line_is : (bytes line behind path : List ℕ) (size : ℕ) (rest : List ℕ) → IsCut 10 bytes line behind → IsWord path
     → bytes ≡ header_line path size ++ rest → line ≡ codes "file " ++ words path size
 first_line_is bytes line behind path size rest k w e =
     (cut_once 10 line (codes "file " ++ words path size) behind rest k.lacks (line_lacks path size w) (sym k.text_is ∙ e ∙ header_line-behind path size rest)).0
 
--- the words of a line behind `file `
+-- the words of a line after `file `
 pub record AreWords (line words_in : List ℕ) : Type 0 where
   pub text_is : line ≡ codes "file " ++ words_in
 
@@ -84,7 +84,7 @@ words_are bytes line behind found path size rest k is w e =
     let same : codes "file " ++ found ≡ codes "file " ++ words path size = sym is ∙ first_line_is bytes line behind path size rest k w e in
     cc (same)
 
--- the parts of the words, and so a path and its size
+-- the words, and so the path and its size
 pub path_is : (found word digits path : List ℕ) (size : ℕ) → IsCut 32 found word digits → IsWord path
     → found ≡ words path size → (word ≡ path) × (digits ≡ decimal_word size)
 path_is found word digits path size k w e = cut_once 32 word path digits (decimal_word size) k.lacks (word_lacks path w).0 (sym k.text_is ∙ e)
@@ -102,7 +102,7 @@ header_from bytes line behind found word digits size k is j some number =
       k.text_is ∙ ap (λ (l : List ℕ). l ++ 10 ∷ behind) line_is ∙ sym (header_line-behind word size behind),
     )
 
--- ---- why no header line stands first
+-- ---- why the bytes start with no header line
 
 pub none_without_feed : (bytes : List ℕ) → Lacks 10 bytes → HasNoHeader bytes
 none_without_feed bytes h path size rest w e = cut_nowhere 10 bytes (codes "file " ++ words path size) rest h (e ∙ header_line-behind path size rest)
@@ -125,7 +125,7 @@ none_without_number bytes line behind found word digits k is j none path size re
     let same = (path_is found word digits path size j w (words_are bytes line behind found path size rest k is w e)).1 in
     let read : Some size ≡ None = sym (number_of-decimal_word size) ∙ ap number_of (sym same) ∙ none in absurd cc
 
--- ---- a header line stands first, or none does
+-- ---- the bytes start with a header line, or with none
 
 pub record Header (bytes : List ℕ) : Type 0 where
   pub path : List ℕ
@@ -165,7 +165,7 @@ header_or_none bytes = elim (cut_or_not 10 bytes) [
     in_line line behind k true e = header_behind bytes line behind (drop (length (codes "file ")) line) k ((starts_is Decides-eqb line (codes "file ") true e).0 refl)
     in_line line behind k false e = inr (none_without_file bytes line behind k (λ found is. let yes = (starts_is Decides-eqb line (codes "file ") false e).1 found is in cc))
 
--- the count of a number that is read
+-- the count of a number that was read
 counted : (o : Option ℕ) (count : Decimal) → option_map in_64_bits o ≡ Some count → (size : ℕ) × (o ≡ Some size) × (count ≡ in_64_bits size)
 counted None count e = absurd cc
 counted (Some size) count e = (size, refl, cc)

@@ -1,4 +1,4 @@
--- Paths that are right, and the first that is refused.
+-- Valid paths, and the first rejected one.
 use Rattle.std.proofs.Common.{◌≡◌, ◌≢◌, ℕ, zero, suc, ◌+◌, ◌-◌, ◌<◌, ◌||◌, Bool, true, false, List, [], ◌∷◌, ◌++◌}
 use Rattle.std.proofs.Common.{length, get_or, take, drop, ◌⊎◌, inl, inr, refl, ap, sym, subst, ◌∙◌, arith}
 use Rattle.std.proofs.Common.{append_assoc, length-append}
@@ -15,7 +15,7 @@ use Rattle.file_bundle.specs.Packed.{file_of, files_of}
 use Rattle.file_bundle.specs.Paths.{IsPath, HaveRightPaths, IsRefused, no_path, second, IsFirstRefused, is_path_byte}
 use Rattle.file_bundle.specs.declared.packed.Packed.{Packed}
 
--- ---- one path more
+-- ---- one more path
 
 pub right_none : HaveRightPaths []
 right_none = record { each = All-nil IsPath; distinct = λ i j d lt within. absurd (omega (arith, within)) }
@@ -29,7 +29,7 @@ right_push files f r is new =
           (λ k d within same. new (k, within, get_or_default (paths_of files) k f.0 d within ∙ sym same)));
     }
 
--- ---- a path that is refused isn't right
+-- ---- a rejected path isn't valid
 
 refused_here : (before later : List (List ℕ)) (path : List ℕ) → All IsPath (before ++ path ∷ later)
     → AllPairs (λ (path later : List ℕ). later ≢ path) (before ++ path ∷ later)
@@ -57,9 +57,9 @@ not_refused before file later r refused =
 pub never_right_and_refused : (files : List File) (k : ℕ) → HaveRightPaths files → IsFirstRefused files k → ⊥
 never_right_and_refused files k r f = not_refused f.before f.file f.later (subst HaveRightPaths f.order r) f.refused
 
--- ---- one file is the first
+-- ---- the first one is unique
 
--- where one of two marked lists is longer, the other mark stands in it
+-- two lists with a marked element: the mark of the shorter one is in the longer one
 record Within (xs : List File) (x : File) (ys : List File) : Type 0 where
   more : List File
   is : ys ≡ xs ++ x ∷ more
@@ -90,7 +90,7 @@ refused_once files k j a b = elim (which_first a.before b.before a.file b.file a
   ]
 ]
 
--- ---- a path is of its form, or not; and stands among others, or not
+-- ---- a path is valid or not, and is among others or not
 
 form_or_not : (path : List ℕ) (b : Bool) → list_all is_path_byte path ≡ b → IsPath path ⊎ (IsPath path → ⊥)
 form_or_not path false e = inr (λ p. let yes : list_all is_path_byte path ≡ true = p.form in cc)
@@ -105,7 +105,7 @@ form_or_not path true e = elim (cases_lt 0 (length path)) [
 pub path_or_not : (path : List ℕ) → IsPath path ⊎ (IsPath path → ⊥)
 path_or_not path = form_or_not path (list_all is_path_byte path) refl
 
--- a test of each path finds the one that stands there
+-- a search of the paths finds exactly those among them
 pub found_or_not : (paths : List (List ℕ)) (path : List ℕ)
     → (list_any (λ p. bytes_eq p path) paths ≡ true → Contains paths path) × (Contains paths path
     → list_any (λ p. bytes_eq p path) paths ≡ true)
@@ -126,7 +126,7 @@ contained_or_not : (paths : List (List ℕ)) (path : List ℕ) (b : Bool) → li
 contained_or_not paths path true e = inl ((found_or_not paths path).0 e)
 contained_or_not paths path false e = inr (λ c. let yes = (found_or_not paths path).1 c in cc)
 
--- ---- files have right paths, or one is the first that is refused
+-- ---- files have valid paths, or one is the first that is rejected
 
 right_on : (before later : List File) → HaveRightPaths before → HaveRightPaths (before ++ later) ⊎ ((k : ℕ) × IsFirstRefused (before ++ later) k)
 right_on before [] r = inl (subst HaveRightPaths (sym (append-nil before)) r)

@@ -1,4 +1,4 @@
--- One file after another, as they are read.
+-- Files are read one after another.
 use Rattle.std.proofs.Common.{◌≡◌, ◌≢◌, ℕ, ◌+◌, ◌<◌, ◌≤◌, ◌==◌, true, false, List, [], ◌∷◌, ◌++◌, length, inl, inr, refl, ap, sym, ◌∙◌, arith}
 use Rattle.std.proofs.lemmas.Bool.{eq-eqb}
 use Rattle.std.proofs.lemmas.List.{append-nil, length-map}
@@ -10,7 +10,7 @@ use Rattle.file_bundle.specs.Parts.{HasNoFile}
 use Rattle.file_bundle.specs.declared.packed.Packed.{Packed}
 use Rattle.file_bundle.proofs.Fronts.{AreWords, all_words}
 
--- these files stand in front of the rest of an input
+-- the input is these files followed by the remainder
 pub record StandInFront (input : List ℕ) (files : List File) (rest : List ℕ) : Type 0 where
   pub text : input ≡ bundle_text files ++ rest
   pub words : AreWords files
@@ -56,7 +56,7 @@ spelled input (p ∷ ps) rest s nothing some = record {
   few = s.few;
 }
 
--- without its line feed the first line is all of the input
+-- the first line without its line feed is the whole input
 pub unended : (input : List ℕ) → IsBundle input → ((rest : List ℕ) → input ≢ first_line ++ rest) → IsBundleFault input 1
 unended input (whole_line behind e) none = absurd (none behind e)
 unended input (no_line_feed e) none = Faults.no_line_feed e refl

@@ -1,4 +1,4 @@
--- Small sets of files, and each way to be at fault at its smallest, as terms.
+-- Small sets of files, and a smallest example of each kind of fault, as terms.
 use Rattle.std.proofs.Common.{◌≡◌, ◌≢◌, ℕ, zero, suc, ◌<◌, List, [], ◌∷◌, ◌++◌, codes, replicate, Some, refl, ap, sym, ◌∙◌, arith}
 use Rattle.std.specs.Prelude.{Contains, IsTrue}
 use Rattle.std.specs.List.{list_all}
@@ -39,7 +39,7 @@ two = (codes "a", codes "x") ∷ (codes "b/c", codes "yz") ∷ []
 two_text : bundle_text two ≡ codes "mrpc-files 1\nfile a 1\nxfile b/c 2\nyz"
 two_text = refl
 
--- a file without a byte
+-- an empty file
 abbrev empty : File
 empty = (codes "a", [])
 
@@ -49,7 +49,7 @@ empty_text = refl
 is_bundle : IsBundle (codes "mrpc-files 1\n")
 is_bundle = whole_line [] refl
 
--- the first line may lack its line feed where nothing else stands there
+-- the first line may lack its line feed if nothing follows it
 unended_bundle : IsBundle (codes "mrpc-files 1")
 unended_bundle = no_line_feed refl
 
@@ -117,9 +117,9 @@ two_right =
 empty_spelled : Spells (codes "mrpc-files 1\nfile a 0\n") (empty ∷ [])
 empty_spelled = record { text = refl; words = All-cons IsWord (codes "a") [] a_word (All-nil IsWord); some = omega arith; few = omega arith }
 
--- ---- a file isn't there
+-- ---- a file can't be read
 
--- the input ends behind the first line
+-- the input ends after the first line
 nothing_there : IsBundleFault (codes "mrpc-files 1\n") 1
 nothing_there = breaks_off (record { files = []; rest = []; text = refl; words = All-nil IsWord; ends = no_file refl refl; number = refl })
 
@@ -127,7 +127,7 @@ nothing_there = breaks_off (record { files = []; rest = []; text = refl; words =
 no_feed_there : IsBundleFault (codes "mrpc-files 1") 1
 no_feed_there = Faults.no_line_feed refl refl
 
--- the first header line isn't of its form
+-- the first header line is malformed
 first_at_fault : (rest : List ℕ) → rest ≢ [] → HasNoHeader rest → IsBundleFault (first_line ++ rest) 1
 first_at_fault rest some none = breaks_off (record { files = []; rest = rest; text = refl; words = All-nil IsWord; ends = no_header (omega arith) some none; number = refl })
 
@@ -196,7 +196,7 @@ empty_path =
     let words : IsCut 32 (codes " 0") [] (codes "0") = record { lacks = tt; text_is = refl } in
     first_at_fault (codes "file  0\n") (λ e. cc) (none_without_path (codes "file  0\n") (codes "file  0") [] (codes " 0") [] (codes "0") line refl words refl)
 
--- it lacks its line feed
+-- its line feed is missing
 feed_lacks : IsBundleFault (codes "mrpc-files 1\nfile a 0") 1
 feed_lacks =
     first_at_fault (codes "file a 0") (λ e. cc)
@@ -231,7 +231,7 @@ other_word : IsBundleFault (codes "mrpc-files 1\n\n") 1
 other_word =
     first_at_fault (codes "\n") (λ e. cc) (none_without_file (codes "\n") [] [] (record { lacks = tt; text_is = refl }) (λ found e. cc))
 
--- it says one byte more than there is
+-- it states one byte more than follow
 one_more : IsBundleFault (codes "mrpc-files 1\nfile a 2\nx") 1
 one_more = breaks_off (record {
   files = [];
@@ -242,7 +242,7 @@ one_more = breaks_off (record {
   number = refl;
 })
 
--- a number above all that a word of 64 bits can say
+-- a number larger than a word of 64 bits holds
 too_few_of : (digits : List ℕ) (n : ℕ) → number_of digits ≡ Some n → 0 < n → HasTooFew (codes "file a " ++ (digits ++ codes "\n"))
 too_few_of digits n read some = record {
   path = codes "a";
@@ -263,7 +263,7 @@ many_more = breaks_off (record {
   number = refl;
 })
 
--- what stands behind the first file begins no header line
+-- what follows the first file is no header line
 byte_behind : IsBundleFault (codes "mrpc-files 1\nfile a 0\nx") 2
 byte_behind = breaks_off (record {
   files = empty ∷ [];
@@ -274,7 +274,7 @@ byte_behind = breaks_off (record {
   number = refl;
 })
 
--- a byte stands behind the 64th file
+-- a byte follows the 64th file
 sixty_fifth : IsBundleFault (bundle_text (replicate 64 empty) ++ codes "x") 65
 sixty_fifth = breaks_off (record {
   files = replicate 64 empty;
@@ -285,7 +285,7 @@ sixty_fifth = breaks_off (record {
   number = refl;
 })
 
--- ---- a path is refused
+-- ---- a path is rejected
 
 first_refused : IsFirstRefused ((codes "~", []) ∷ []) 0
 first_refused = record { before = []; file = (codes "~", []); later = []; order = refl; right = right_none; refused = no_path no_tilde; number = refl }

@@ -1,4 +1,4 @@
--- What the reader answers of an input that spells files, and of one that breaks off.
+-- What the reader returns for an input that is the text of files, and for one that breaks off.
 use Rattle.std.proofs.Common.{◌≡◌, ◌≢◌, ℕ, List, refl, ap, Ok, Err, Result}
 use Rattle.std.specs.Prelude.{IfOk, IfErr, MatchResult}
 use Rattle.std.specs.Global.{Vec}

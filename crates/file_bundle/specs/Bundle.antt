@@ -1,5 +1,5 @@
 -- The text of a set of files (this project's own): the line `mrpc-files 1`, and for each file a header line and its
--- bytes. A header line is `file`, the file's path and the number of its bytes.
+-- bytes. A header line is the word `file`, the path and the number of bytes.
 use Rattle.std.specs.Prelude.{◌≡◌, ◌≢◌, ℕ, ◌+◌, ◌≤◌, ◌==◌, if◌then◌else◌, List, [], ◌∷◌, ◌++◌, length, map, All, codes}
 use Rattle.std.specs.Int.Digits.{digits_of}
 use Rattle.std.specs.List.{flat_map, join_with_byte}
@@ -12,14 +12,14 @@ File = List ℕ × List ℕ
 abbrev pub paths_of : List File → List (List ℕ)
 paths_of files = map (λ f. f.0) files
 
--- the decimal digits of a number of any size, without a leading zero
+-- the decimal digits of a number of any size, without leading zeros
 abbrev pub decimal_word : ℕ → List ℕ
 decimal_word n = if n == 0 then codes "0" else map (λ d. 48 + d) (digits_of 10 n)
 
 abbrev pub first_line : List ℕ
 first_line = codes "mrpc-files 1\n"
 
--- three words with one space between each two, and a line feed
+-- three words separated by single spaces, and a line feed
 abbrev pub header_line : List ℕ → ℕ → List ℕ
 header_line path size = join_with_byte 32 (codes "file" ∷ path ∷ decimal_word size ∷ []) ++ codes "\n"
 
@@ -29,12 +29,12 @@ file_text f = header_line f.0 (length f.1) ++ f.1
 abbrev pub bundle_text : List File → List ℕ
 bundle_text files = first_line ++ flat_map file_text files
 
--- what a header line can have for a path: one byte at least, and neither a space nor a line feed
+-- what a path in a header line may be: at least one byte, and neither a space nor a line feed
 pub record IsWord (word : List ℕ) : Type 0 where
   pub some : word ≢ []
   pub bytes : All (λ c. (c ≢ 32) × (c ≢ 10)) word
 
--- the first line stands there, whatever stands behind it, or all of it but its line feed and nothing else
+-- the input starts with the first line, or is that line without its line feed
 pub data IsBundle (input : List ℕ) : Type 0 where
   whole_line : (behind : List ℕ) → input ≡ first_line ++ behind → IsBundle input
   no_line_feed : input ≡ codes "mrpc-files 1" → IsBundle input

@@ -1,4 +1,4 @@
--- What a list of borrowed files says.
+-- The files in a list of borrowed files.
 use Rattle.std.specs.Prelude.{List, map}
 use Rattle.file_bundle.specs.Bundle.{File}
 use Rattle.file_bundle.specs.declared.packed.Packed.{Packed}

@@ -1,4 +1,4 @@
--- The paths of files: letters, digits, `_`, `-`, `.` and `/`, 255 bytes at most, and no two the same.
+-- The paths of files: at most 255 letters, digits, `_`, `-`, `.` and `/`, all paths distinct.
 use Rattle.std.specs.Prelude.{◌≡◌, ◌≢◌, ℕ, ◌≤◌, ◌==◌, Bool, ◌||◌, IsTrue}
 use Rattle.std.specs.Prelude.{List, ◌∷◌, ◌++◌, length, All, AllPairs, Contains}
 use Rattle.std.specs.List.{list_all}
@@ -15,17 +15,17 @@ pub record IsPath (path : List ℕ) : Type 0 where
   pub short : length path ≤ MAX_PATH
   pub form : IsTrue (list_all is_path_byte path)
 
--- the paths of these files are right
+-- the paths of these files are valid
 pub record HaveRightPaths (files : List File) : Type 0 where
   pub each : All IsPath (paths_of files)
   pub distinct : AllPairs (λ path later. later ≢ path) (paths_of files)
 
--- A path is refused behind these files: it isn't of its form, or one of them has it.
+-- a path is rejected after these files: it is invalid, or one of them has it
 pub data IsRefused (before : List File) (path : List ℕ) : Type 0 where
   no_path : (IsPath path → ⊥) → IsRefused before path
   second : Contains (paths_of before) path → IsRefused before path
 
--- the path of the file at this place, from 0, is the first that is refused
+-- the path of the file at this index, from 0, is the first that is rejected
 pub record IsFirstRefused (files : List File) (place : ℕ) : Type 0 where
   pub before : List File
   pub file : File

@@ -1,4 +1,4 @@
-//! Why an input is no set of files.
+//! Why an input is not a set of files.
 
 ghost use Rattle.std.specs.Prelude.{◌≡◌};
 ghost use Rattle.file_bundle.specs.declared.fault.BundleFault.TheVariants.{Memory as NoMemory};
@@ -9,11 +9,11 @@ use thiserror::Error;
 /// Why no set of files was read. Files are counted from 1.
 #[derive(Clone, Copy, Debug, Error)]
 pub enum BundleFault {
-    /// The first file that doesn't stand there: its header line isn't of its form, the bytes behind that are too few,
-    /// no file is there at all (then `file` is 1), or it is the 65th, of which any byte is too much.
+    /// The first file that can't be read: its header line is malformed, fewer bytes follow than it states, the set
+    /// has no file at all (then `file` is 1), or the file is the 65th, which no byte may start.
     #[error("file {file} doesn't stand there")]
     Bundle { file: u32 },
-    /// No memory was found.
+    /// Out of memory.
     #[error("out of memory")]
     Memory,
 }

@@ -1,4 +1,4 @@
-//! A header line and a file at the front of some bytes.
+//! The header line and the file at the start of a byte string.
 
 ghost use Rattle.std.specs.Prelude.{◌≡◌, ◌≤◌, ◌<◌, ℕ, MatchOption, IfSome, IfNone};
 ghost use Rattle.mrpc_table.specs.Lines.{in_64_bits};
@@ -9,20 +9,20 @@ ghost use Rattle.file_bundle.specs.Parts.{HasHeader, HasFile, HasNoFile};
 use crate::packed::Packed;
 use mrpc_table::{Decimal, cut, number_of};
 
-// What a header line begins with.
+// The first bytes of a header line.
 const FILE: &[u8] = b"file ";
 
-// A header line where it stands, and what stands behind it.
+// A header line, and the bytes after it.
 #[derive(Clone, Copy)]
 struct Header<'a> {
     path: &'a [u8],
-    // How many bytes the file is said to have.
+    // The stated number of bytes of the file.
     size: Decimal,
     behind: &'a [u8],
 }
 
-// The file at the front, and what stands behind its bytes; none where no header line stands there, or too few bytes
-// stand behind it.
+// The file at the start of the bytes, and the bytes after it. `None` if there is no header line, or fewer bytes
+// follow than it states.
 pub(crate) fn first_file(bytes: &[u8]) -> Option<(Packed<'_>, &[u8])>
     ensures found { IfSome result (λ f. HasFile bytes.now (file_of f.0) f.1.now) }
     ensures none { IfNone result (HasNoFile bytes.now) }
@@ -50,7 +50,7 @@ fn first_header(bytes: &[u8]) -> Option<Header<'_>>
     Some(Header { path, size, behind })
 }
 
-// The count as a number of bytes, where so many are there.
+// The count as a number of bytes, if that many are available.
 fn within(count: Decimal, bytes: usize) -> Option<usize>
     ensures { (n : ℕ) → count ≡ in_64_bits n → MatchOption result (bytes < n) (λ size. (size ≡ n) × (n ≤ bytes)) }
 {

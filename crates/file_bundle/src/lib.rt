@@ -1,9 +1,9 @@
-//! Sets of files: the text of several files that stand in one input (this project's own format), and what reads it.
+//! Sets of files: several files in one input (this project's own format), and its reader.
 //!
-//! A set is the line `mrpc-files 1`, and then, for each of its 1 to 64 files, a header line `file PATH BYTES` and so
-//! many bytes. [`read_bundle`] gives the files where they stand, and copies none, and [`first_refused`] judges their
-//! paths. The crate stands on `mrpc_table`, for lines, words and numbers. The layers above use one contract: an input
-//! with that first line is one set of files or has one first fault, and that is what is read.
+//! A set is the line `mrpc-files 1`, followed by 1 to 64 files. Each file is a header line `file PATH BYTES` and that
+//! many bytes. [`read_bundle`] returns the files as slices of the input, without copying, and [`first_refused`]
+//! checks their paths. The crate uses `mrpc_table` for lines, words and numbers. The layers above rely on one
+//! contract: an input with that first line is one set of files or has one first fault, and that is what is read.
 #![tactic(auto)]
 
 mod fault;

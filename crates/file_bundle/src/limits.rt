@@ -1,4 +1,4 @@
-//! The limit of paths, which the definitions share.
+//! The limit of paths, shared with the definitions.
 
-/// How many bytes a path has at most.
+/// The maximum length of a path, in bytes.
 pub const MAX_PATH: usize = 255;

@@ -1,9 +1,9 @@
-//! A file where it stands in a set.
+//! A file of a set, borrowed from the input.
 
-/// A file as it stands in a set: its path and its bytes, borrowed from the input.
+/// A file of a set: its path and its bytes, borrowed from the input.
 #[derive(Clone, Copy)]
 pub struct Packed<'a> {
-    /// The path, of any form: [`first_refused`](crate::first_refused) judges it.
+    /// The path, of any form: [`first_refused`](crate::first_refused) checks it.
     pub path: &'a [u8],
     /// The bytes of the file.
     pub text: &'a [u8],

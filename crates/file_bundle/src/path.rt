@@ -1,4 +1,4 @@
-//! Which paths files have.
+//! The paths of files.
 
 ghost use Rattle.std.specs.Prelude.{◌≡◌, ◌↔◌, IsTrue, IfSome, IfNone};
 ghost use Rattle.std.specs.List.{list_all, list_any};
@@ -9,7 +9,7 @@ ghost use Rattle.file_bundle.specs.Paths.{IsPath, HaveRightPaths, IsFirstRefused
 use crate::limits::MAX_PATH;
 use crate::packed::Packed;
 
-/// Whether a path may be that of a file: 1 to 255 bytes of letters, digits, `_`, `-`, `.` and `/`.
+/// True if a path is valid: 1 to 255 bytes, each a letter, a digit, `_`, `-`, `.` or `/`.
 pub fn is_path(path: &[u8]) -> bool
     ensures { IsTrue result ↔ IsPath path.now }
 {
@@ -28,8 +28,8 @@ fn is_path_byte(byte: u8) -> bool
     matches!(byte, b'A'..=b'Z' | b'a'..=b'z' | b'0'..=b'9' | b'_' | b'-' | b'.' | b'/')
 }
 
-/// The place, from 0, of the first file whose path is refused: it isn't of the form of a path, or is that of a file
-/// before it. It takes time in proportion to the bytes of the paths and the number of the files, squared.
+/// Returns the index, from 0, of the first file whose path is rejected: it is invalid, or an earlier file has it.
+/// Compares each path with all earlier ones.
 pub fn first_refused(files: &[Packed]) -> Option<usize>
     ensures first { IfSome result (IsFirstRefused (files_of files.now)) }
     ensures none { IfNone result (HaveRightPaths (files_of files.now)) }

@@ -19,26 +19,26 @@ const FIRST_LINE: &[u8] = b"mrpc-files 1\n";
 // The first line without its line feed.
 const UNENDED_LINE: &[u8] = b"mrpc-files 1";
 
-/// Whether an input is meant as a set of files: whether its first line is `mrpc-files 1`, with its line feed, or as all
-/// of the input also without.
+/// True if an input is meant as a set of files: its first line is `mrpc-files 1`, with a line feed unless nothing
+/// follows.
 pub fn is_bundle(input: &[u8]) -> bool
     ensures { IsTrue result ↔ IsBundle input.now }
 {
     input.starts_with(FIRST_LINE) || input == UNENDED_LINE
 }
 
-/// The files of a set, where they stand in the input. The first is the root. The error is the first file that doesn't
-/// stand there, or `Memory`. Paths may have any form here.
+/// Returns the files of a set, borrowed from the input. The first is the root. The error is the first file that can't
+/// be read, or `Memory`. Paths may have any form here.
 pub fn read_bundle<'a>(alloc: Global, input: &'a [u8]) -> Result<Vec<Packed<'a>>, BundleFault>
     requires { IsBundle input.now }
-    // What is read is the set that the input spells.
+    // The files read are the set that the input is the text of.
     ensures read { IfOk result (λ read. Spells input.now (files_of read.items)) }
-    // The set that an input spells is read, unless memory runs out.
+    // If the input is the text of a set, that set is read, unless memory runs out.
     ensures only { (files : List File) → Spells input.now files
         → MatchResult result (λ read. files_of read.items ≡ files) (λ fault. fault ≡ NoMemory) }
     // A fault is the first one.
     ensures fault { IfErr result (IsFaultOf input.now) }
-    // The first fault is found, unless memory runs out.
+    // If the input has a first fault, it is returned, unless memory runs out.
     ensures found { (k : ℕ) → IsBundleFault input.now k
         → MatchResult result (λ _. ⊥) (λ fault. fault ≢ NoMemory → fault ≡ Bundle k) }
 {

@@ -7,7 +7,7 @@ use Rattle.findings.specs.Said.{is_plain, IsPlain, Says, alone}
 plain_words : IsPlain (codes "2:1: found \"}\"\n")
 plain_words = refl
 
--- what moves a terminal's cursor isn't, nor is a byte above ASCII
+-- what moves a terminal's cursor isn't plain, nor is a byte above ASCII
 escape : is_plain 27 ≡ false
 escape = refl
 
@@ -17,6 +17,6 @@ carriage_return = refl
 above_ascii : is_plain 195 ≡ false
 above_ascii = refl
 
--- a sentence of which no place is known
+-- a sentence without a location
 said_alone : (input : List ℕ) → Says input 100 (codes "the input has a fault\n")
 said_alone input = alone (codes "the input has a fault") refl refl

@@ -1,10 +1,10 @@
--- What a finding appends.
+-- What a diagnostic appends.
 use Rattle.std.proofs.Common.{◌≡◌, ◌++◌, ℕ, List, codes, refl}
 use Rattle.std.specs.Prelude.{Result, Ok, Err, OnOk}
 use Rattle.line_mark.specs.Pointing.{IsPointed}
 use Rattle.findings.specs.Said.{IsAtFault, IsPlain, IsTextOf, Says, alone, pointing}
 
--- what holds where a step was made, holds by it
+-- a consequence of what holds if a step succeeds
 on-ok : {T E : Type 0} (r : Result T E) (P Q : Type 0) → OnOk r P → (P → Q) → OnOk r Q
 on-ok (Ok x) P Q h f = f h
 on-ok (Err e) P Q h f = tt
@@ -16,7 +16,7 @@ pub says_alone : {T E : Type 0} (r : Result T E) (input : List ℕ) (width : ℕ
 says_alone r input width sentence before after p h =
     on-ok r _ _ h (λ e. (sentence ++ codes "\n", alone sentence p refl, e))
 
--- a place with the sentence
+-- a location with the sentence
 pub says_there : {T E : Type 0} (r : Result T E) (input text : List ℕ) (width start end : ℕ) (sentence before after : List ℕ)
     → IsTextOf input text → IsAtFault text start end → IsPlain sentence
     → OnOk r ((shown : List ℕ) × IsPointed text start end width sentence shown × (after ≡ before ++ shown))

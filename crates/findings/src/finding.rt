@@ -1,4 +1,4 @@
-//! What stands against an input, and where.
+//! A diagnostic: the fault of an input, and its location.
 
 ghost use Rattle.std.specs.Prelude.{◌≡◌, ◌++◌, List, ℕ, codes, OnOk};
 ghost use Rattle.findings.specs.Said.{IsTextOf, Says};
@@ -8,7 +8,7 @@ use crate::part::Part;
 use crate::sentence::Sentence;
 use mrpc_table::{Bytes, Memory};
 
-/// What stands against an input: in which words, and where, if that is known.
+/// The fault of an input: a sentence, and the location if it is known.
 #[derive(Drop)]
 pub struct Finding<'a> {
     pub sentence: Sentence,
@@ -36,7 +36,7 @@ impl<'a> Finding<'a> {
         }
     }
 
-    /// Appends the sentence, and below it the line of the place with a mark.
+    /// Appends the sentence, and if the location is known, the line below it with carets.
     pub fn put(&self, width: usize, out: &mut Bytes) -> Result<(), Memory>
         ensures { (input : List ℕ) → PointsInto input self.now.part → OnOk result ((shown : List ℕ)
             × Says input width shown × (out.new ≡ out.old ++ shown)) }

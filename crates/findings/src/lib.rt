@@ -1,9 +1,10 @@
-//! What stands against an input, as a person is told of it: a sentence, and the part of the input that is at fault.
+//! Diagnostics for a person: a sentence, and the part of the input that is at fault.
 //!
-//! A [`Sentence`] has nothing but what a terminal shows, whatever it quotes; a [`Part`] is a part of a text, a [`TextLine`]
-//! a line of one; a [`Finding`] puts them together. It stands on `line_mark`, whose contract says what is shown of a place,
-//! and its definitions on the readers of inputs. The layer above uses one contract, that of [`Finding::put`]: what is
-//! said is a plain sentence, or points at a place of the input with it (`specs/Said.antt`).
+//! A [`Sentence`] holds only bytes that a terminal prints, whatever it quotes. A [`Part`] is a part of a
+//! text, a [`TextLine`] a line of one; a [`Finding`] combines them. The crate uses `line_mark`, whose
+//! contract describes a snippet; its definitions use the readers of inputs. Its one contract for the layer
+//! above is that of [`Finding::put`]: it prints a plain sentence, or points into the input with one
+//! (`specs/Said.antt`).
 #![tactic(auto)]
 
 mod finding;

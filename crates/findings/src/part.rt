@@ -10,16 +10,16 @@ use mrpc_table::{Bytes, Memory};
 #[derive(Clone, Copy)]
 pub struct Part<'a> {
     pub text: &'a [u8],
-    /// The place of its first byte, from 0.
+    /// The offset of its first byte.
     pub start: usize,
-    /// The place behind its last byte.
+    /// The offset after its last byte.
     pub end: usize,
     ghost within: { start ≤ length text.now },
     ghost countable: { length text.now < 2 ^ 63 },
 }
 
 impl<'a> Part<'a> {
-    /// The part of a text from one place up to another. It starts at the text's end at the latest.
+    /// The part of a text from one offset up to another. Its start is at most the end of the text.
     pub fn of(text: &'a [u8], start: usize, end: usize) -> Part<'a>
         ensures text { result.text.now ≡ text.now }
         ensures start { result.start ≡ min start (length text.now) }
@@ -32,7 +32,7 @@ impl<'a> Part<'a> {
         }
     }
 
-    /// Appends a sentence with the place, and below it the line of the place with a mark.
+    /// Appends the sentence with its line and column, and below it the line with carets.
     pub fn put(&self, sentence: &[u8], width: usize, out: &mut Bytes) -> Result<(), Memory>
         ensures { OnOk result ((shown : List ℕ) × IsPointed self.now.text.now self.now.start self.now.end width
             sentence.now shown × (out.new ≡ out.old ++ shown)) }

@@ -1,4 +1,4 @@
-//! Sentences, which a terminal shows whatever they quote.
+//! Sentences that a terminal can print, whatever they quote.
 
 ghost use Rattle.std.specs.Prelude.{◌≡◌, [], true, false};
 ghost use Rattle.findings.specs.Said.{IsPlain, SaysOn, is_plain};
@@ -8,12 +8,12 @@ use mrpc_table::{Bytes, Memory};
 use std::alloc::Global;
 use std::marker::Model;
 
-/// How many bytes of a word are named in a sentence, at the most.
+/// The most bytes of a word that a sentence quotes.
 pub const NAMED: usize = 100;
 
 const DIGITS: [u8; 16] = *b"0123456789abcdef";
 
-/// Bytes that a terminal shows. Clauses see a list of bytes.
+/// Bytes that a terminal prints. Clauses see a list of bytes.
 #[derive(Drop)]
 pub struct Sentence {
     bytes: Bytes,
@@ -39,7 +39,7 @@ pub struct Around {
 }
 
 impl Around {
-    /// Words in front of what is quoted, and behind it.
+    /// Words before the quoted part, and words after it.
     pub fn quoted(before: &'static str, behind: &'static str) -> Around
         ensures before { result.before.now ≡ before.now }
         ensures quoted { result.is_quoted ≡ true }
@@ -66,7 +66,7 @@ impl Around {
 }
 
 impl Sentence {
-    /// Nothing is said yet.
+    /// An empty sentence.
     pub fn new(alloc: Global) -> Sentence
         ensures { result ≡ [] }
     {
@@ -83,7 +83,7 @@ impl Sentence {
         self.bytes.as_slice()
     }
 
-    // Appends a byte, if a terminal shows it.
+    // Appends a byte, if a terminal prints it.
     #[tactic(auto, using(crate::proofs::Plain::plain_with))]
     fn push(&mut self, byte: u8) -> Result<(), Memory>
         ensures { SaysOn self.old self.new }
@@ -95,7 +95,7 @@ impl Sentence {
         }
     }
 
-    /// Appends words. A byte of them that a terminal doesn't show becomes `\x` and two digits.
+    /// Appends words. A byte that a terminal doesn't print becomes `\x` and two digits.
     pub fn say(&mut self, words: &[u8]) -> Result<(), Memory>
         ensures { SaysOn self.old self.new }
     {
@@ -148,7 +148,7 @@ impl Sentence {
         self.quote(word)
     }
 
-    /// Appends a word of the input in quotation marks, cut where it is long.
+    /// Appends a word of the input in quotation marks, truncated if it is long.
     pub fn quote(&mut self, word: &[u8]) -> Result<(), Memory>
         ensures { SaysOn self.old self.new }
     {
@@ -157,7 +157,8 @@ impl Sentence {
         self.say(if word.len() > NAMED { b"..\"" } else { b"\"" })
     }
 
-    /// Appends the bytes of a text from one place to another in quotation marks, or that the text ends there.
+    /// Appends the bytes of a text from one offset to another in quotation marks, or words for the end of the
+    /// text.
     pub fn quote_part(&mut self, text: &[u8], start: usize, end: usize) -> Result<(), Memory>
         ensures { SaysOn self.old self.new }
     {
@@ -192,7 +193,7 @@ impl Sentence {
     }
 }
 
-// Whether a terminal shows a byte.
+// Whether a terminal prints a byte.
 fn is_plain(byte: u8) -> bool
     ensures { result ≡ is_plain byte }
 {

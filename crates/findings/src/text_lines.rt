@@ -7,16 +7,16 @@ use crate::part::Part;
 /// A line of a text, without its line feed.
 #[derive(Clone, Copy)]
 pub struct TextLine<'a> {
-    /// The text that it stands in.
+    /// The text that contains it.
     pub text: &'a [u8],
-    /// Where it starts in the text, from 0.
+    /// Its offset in the text.
     pub start: usize,
     /// Its bytes.
     pub bytes: &'a [u8],
 }
 
 impl<'a> TextLine<'a> {
-    /// The line of this number, from 1; an empty one at the text's end where it has fewer lines.
+    /// The line with this number, from 1. If the text has fewer lines, an empty one at the text's end.
     pub fn of(text: &'a [u8], number: u64) -> TextLine<'a>
         ensures text { result.text.now ≡ text.now }
     {
@@ -29,14 +29,14 @@ impl<'a> TextLine<'a> {
         }
     }
 
-    /// Whether no line feed stands behind it.
+    /// Whether no line feed follows it.
     pub fn is_unended(&self) -> bool
         ensures { IsTrue result → length self.now.text.now ≤ self.now.start + length self.now.bytes.now }
     {
         self.start.saturating_add(self.bytes.len()) >= self.text.len()
     }
 
-    /// The line without the blanks in front of it.
+    /// The line without its leading blanks.
     pub fn whole(&self) -> Part<'a>
         ensures { result.text.now ≡ self.now.text.now }
     {
@@ -49,7 +49,7 @@ impl<'a> TextLine<'a> {
         )
     }
 
-    /// The word at a place among those of the line, from 0; the whole line where it has fewer.
+    /// The word with this index in the line, from 0; the whole line if it has fewer.
     pub fn word(&self, place: usize) -> Part<'a>
         ensures { result.text.now ≡ self.now.text.now }
     {
@@ -64,7 +64,7 @@ impl<'a> TextLine<'a> {
     }
 }
 
-// Where the line of a number starts, or the end of the text where it has fewer lines.
+// The offset of the line with this number, or of the text's end if it has fewer lines.
 fn line_start(text: &[u8], number: u64) -> usize
     ensures { result ≤ length text.now }
 {
@@ -80,7 +80,7 @@ fn line_start(text: &[u8], number: u64) -> usize
     text.len()
 }
 
-// Where the line ends that a place stands in.
+// The end of the line that contains an offset.
 fn line_end(text: &[u8], start: usize) -> usize
     requires within { start ≤ length text.now }
     ensures within { result ≤ length text.now }
@@ -94,7 +94,7 @@ fn line_end(text: &[u8], start: usize) -> usize
     text.len()
 }
 
-// From where to where a word of a line goes, by its place among the words; None where the line has fewer.
+// The span of the word with this index in the line; `None` if the line has fewer.
 fn word_span(line: &[u8], place: usize) -> Option<(usize, usize)> {
     let mut from = 0;
     for _ in 0..place {
@@ -106,7 +106,7 @@ fn word_span(line: &[u8], place: usize) -> Option<(usize, usize)> {
     Some((from, blank_from(line, from).unwrap_or(line.len())))
 }
 
-// The first blank of a line from a place on.
+// The first blank of a line at an offset or after it.
 fn blank_from(line: &[u8], from: usize) -> Option<usize>
     ensures { IfSome result (λ at. at < length line.now) }
 {

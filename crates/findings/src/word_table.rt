@@ -1,4 +1,4 @@
-//! Texts by words.
+//! Texts, looked up by a word.
 
 ghost use Rattle.std.specs.Prelude.{◌≡◌, ◌⊎◌, Contains, IfSome, map};
 
@@ -7,7 +7,7 @@ use mrpc_table::is_word;
 /// A word, and the text that goes with it.
 pub type Row = (&'static str, &'static str);
 
-/// The text of a table for a word; None where the table doesn't have the word.
+/// The text for a word; `None` if the table doesn't have the word.
 pub fn text_for(rows: &[Row], word: &[u8]) -> Option<&'static str>
     ensures { IfSome result (λ text. Contains (map (λ row. row.1.now) rows.now) text.now) }
 {
@@ -19,7 +19,7 @@ pub fn text_for(rows: &[Row], word: &[u8]) -> Option<&'static str>
     None
 }
 
-/// The same, with a text for words that the table doesn't have.
+/// Like [`text_for`], with a text for words that the table doesn't have.
 pub fn text_or(rows: &[Row], word: &[u8], others: &'static str) -> &'static str
     ensures { (result.now ≡ others.now) ⊎ Contains (map (λ row. row.1.now) rows.now) result.now }
 {

@@ -1,4 +1,4 @@
--- Frames of a stream, one behind another.
+-- Consecutive frames of a stream.
 use Rattle.std.proofs.Common.{◌≡◌, ℕ, ◌+◌, ◌≤◌, List, [], ◌∷◌, ◌++◌, length, drop, refl, sym, ap, subst, ◌∙◌, arith, append_assoc, append-nil, drop-drop}
 use Rattle.std.proofs.lemmas.List.{drop_all}
 use Rattle.std.proofs.lemmas.List.Elements.{All-append, All-nil, All-cons}
@@ -8,7 +8,7 @@ use Rattle.frame_transport.specs.Standing.{StandsAt}
 use Rattle.frame_transport.specs.declared.format.Frame.{Frame}
 use Rattle.frame_reading.specs.Walks.{Stands}
 
--- what holds of frames
+-- laws of frames
 pub record FollowLaw : Type 0 where
   pub size_of_one : (f : Frame) → length (bytes_of f) ≡ 16 + length f.payload
   pub places : (place : ℕ) (frames others : List Frame) → StandFrom place frames

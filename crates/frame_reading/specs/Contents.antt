@@ -1,4 +1,4 @@
--- What a frame has.
+-- The content of a frame.
 use Rattle.std.specs.Prelude.{◌≡◌, ◌≢◌, ◌<◌, length}
 use Rattle.mrpc_table.specs.Node.{Node}
 use Rattle.mrpc_table.specs.Normal.{IsNormal}
@@ -10,7 +10,7 @@ use Rattle.frame_transport.specs.declared.format.TheConstants.{HELLO}
 use Rattle.frame_reading.specs.declared.content.Content.{Content}
 use Rattle.frame_reading.specs.declared.content.Content.TheVariants.{Hello, Call}
 
--- the frame is that of a request or a reply of a method of the table, and its payload means this message
+-- the frame is a request or a reply of a method of the table, and its payload means this message
 pub record IsMessageOf (T : Table) (f : Frame) (t : Node) : Type 0 where
   pub kind : f.kind ≢ HELLO
   pub method : f.method < length T.methods

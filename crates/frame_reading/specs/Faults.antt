@@ -1,4 +1,4 @@
--- Why an input isn't read further.
+-- Why the reading of an input stops.
 use Rattle.std.specs.Prelude.{◌≡◌, ◌≢◌, ℕ, ◌+◌, ◌<◌, ◌≤◌, List, [], codes, length, Some, None}
 use Rattle.wire_decode.specs.Faults.{IsFirstFault}
 use Rattle.wire_decode.specs.Reason.{reason_word}
@@ -14,13 +14,13 @@ use Rattle.frame_transport.specs.Messages.{message_in}
 use Rattle.frame_reading.specs.declared.fault.ReadFault.{ReadFault}
 use Rattle.frame_reading.specs.declared.fault.ReadFault.TheVariants.{At, Memory}
 
--- P holds of a fault's place and word
+-- P holds of a fault's line or offset and of its word
 abbrev pub OnFault : (ℕ → List ℕ → Type 0) → ReadFault → Type 0
 OnFault P (At place word) = P place word.now
 OnFault P Memory = Unit {0}
 
--- The fault of a frame: its place in the stream and a word. A method that the table lacks is at fault at the method's
--- first byte, and counts before the payload.
+-- The fault of a frame: its offset in the stream and a word. If the table lacks the method, the fault is at
+-- the method's first byte, and counts before the payload.
 pub data IsFaultIn (T : Table) (f : Frame) (place : ℕ) (word : List ℕ) : Type 0 where
   no_method : f.kind ≢ HELLO → length T.methods ≤ f.method → place ≡ f.place + METHOD_PLACE → word ≡ codes "NoMethod"
       → IsFaultIn T f place word
@@ -28,23 +28,23 @@ pub data IsFaultIn (T : Table) (f : Frame) (place : ℕ) (word : List ℕ) : Typ
       → IsFirstFault T (message_in T f) f.payload reason at → place ≡ f.place + HEADER_LEN + at
       → word ≡ reason_word reason → IsFaultIn T f place word
 
--- the place and the word of the fault of a header
+-- the offset and the word of the fault of a header
 abbrev pub IsFaultOfHeader : FeedFault → ℕ → List ℕ → Type 0
 IsFaultOfHeader (Version at value) place word = (place ≡ at) × (word ≡ codes "Version")
 IsFaultOfHeader (Kind at value) place word = (place ≡ at) × (word ≡ codes "Kind")
 IsFaultOfHeader (TooLong at value) place word = (place ≡ at) × (word ≡ codes "TooLong")
 IsFaultOfHeader FeedMemory place word = ⊥
 
--- No frame stands at the front of these bytes, the rest of a stream from a place on: the header is at fault, or the
--- stream ends inside a frame.
+-- No frame is a prefix of these bytes, the remainder of a stream from an offset: the header is at fault, or
+-- the stream ends inside a frame.
 pub data IsFaultOfFront (start : ℕ) (bytes : List ℕ) (place : ℕ) (word : List ℕ) : Type 0 where
   in_header : (fault : FeedFault) → HasNoFrame start bytes (Some fault) → IsFaultOfHeader fault place word
       → IsFaultOfFront start bytes place word
   too_short : HasNoFrame start bytes None → bytes ≢ [] → place ≡ start → word ≡ codes "Short"
       → IsFaultOfFront start bytes place word
 
--- What stands at the front is at fault: no frame stands there, or the frame has a method that the table lacks, or a
--- payload that means no message.
+-- The next frame is at fault: no frame is a prefix of the bytes, or the frame has a method that the table
+-- lacks, or a payload that means no message.
 pub data IsFaultHere (T : Table) (start : ℕ) (bytes : List ℕ) (place : ℕ) (word : List ℕ) : Type 0 where
   of_front : IsFaultOfFront start bytes place word → IsFaultHere T start bytes place word
   of_frame : (f : Frame) → StandsAt start bytes f → IsFaultIn T f place word → IsFaultHere T start bytes place word

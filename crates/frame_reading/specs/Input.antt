@@ -1,4 +1,4 @@
--- The text in front of a stream of frames: two lines, the text of a table, and an `end` line (this project's own).
+-- The text before a stream of frames: two lines, the text of a table, and an `end` line (this project's own).
 use Rattle.std.specs.Prelude.{◌≡◌, ◌≢◌, ℕ, ◌+◌, List, ◌++◌, codes}
 use Rattle.mrpc_table.specs.Lines.{line_count}
 use Rattle.mrpc_table.specs.Valid.{IsValid}
@@ -19,7 +19,7 @@ second_line = codes "table\n"
 abbrev pub head : List ℕ
 head = codes "mrpc-decode 1\ntable\n"
 
--- the input is the text of this table, and this stream behind it
+-- the input is the text of this table, followed by this stream
 pub record Holds (text : List ℕ) (T : Table) (stream : List ℕ) : Type 0 where
   pub valid : IsValid T
   pub parts : HasTableBehind head text (table_text T) stream
@@ -32,7 +32,7 @@ pub record IsFaultOfTable (table : List ℕ) (line : ℕ) (word : List ℕ) : Ty
   pub line_is : line ≡ at + 2
   pub word_is : word ≡ reason_word reason
 
--- the fault of the text, with its line: of the first two lines, of the table, or a missing `end` line
+-- a fault of the text, with its line: in the first two lines, in the table, or a missing `end` line
 pub data IsTextFault (text : List ℕ) (line : ℕ) (word : List ℕ) : Type 0 where
   no_first_line : ((rest : List ℕ) → text ≢ first_line ++ rest) → line ≡ 1 → word ≡ codes "Header"
       → IsTextFault text line word

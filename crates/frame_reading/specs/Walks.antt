@@ -1,9 +1,9 @@
--- Frames of a stream, one behind another.
+-- Consecutive frames of a stream.
 use Rattle.std.specs.Prelude.{◌≡◌, ℕ, ◌+◌, List, ◌++◌, length, drop, All}
 use Rattle.frame_transport.specs.Frames.{IsFrame, joined, StandFrom}
 use Rattle.frame_transport.specs.declared.format.Frame.{Frame}
 
--- a stream is these frames from one place to another
+-- a stream is these frames from one offset to another
 pub record Stands (stream : List ℕ) (from to : ℕ) (frames : List Frame) : Type 0 where
   pub each : All IsFrame frames
   pub places : StandFrom from frames

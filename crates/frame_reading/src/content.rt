@@ -1,4 +1,4 @@
-//! What a frame has.
+//! The content of a frame.
 
 ghost use Rattle.std.specs.Prelude.{◌≡◌, ◌≢◌, ◌<◌, ◌^◌, length, IfOk, IfErr};
 ghost use Rattle.mrpc_table.specs.Valid.{IsValid};
@@ -15,16 +15,17 @@ use spare_trees::Spare;
 use std::alloc::Global;
 use wire_decode::{DecodeFault, decode_with};
 
-/// What a frame has.
+/// The content of a frame.
 #[derive(Drop)]
 pub enum Content {
     /// A hello.
     Hello,
-    /// The message of a request or a reply: its place in the table, and its tree.
+    /// The message of a request or a reply: its index in the table, and its tree.
     Call { message: u32, tree: Tree },
 }
 
-/// What the frame of a stream has, or its fault: a method that the table lacks, or the first fault of its payload.
+/// The content of a stream's frame, or its fault: a method that the table lacks, or the first fault of its
+/// payload.
 pub fn content_of(
     alloc: Global,
     spare: &mut Spare,

@@ -1,22 +1,22 @@
-//! Why an input isn't read further.
+//! Why the reading of an input stops.
 
 ghost use Rattle.std.specs.Prelude.{◌≡◌, ◌≢◌};
 ghost use Rattle.frame_reading.specs.Faults.{OnFault};
 
 use mrpc_table::Memory;
 
-/// Why an input isn't read further.
+/// Why the reading of an input stops.
 #[derive(Drop, Clone, Copy)]
 pub enum ReadFault {
-    /// The input has a fault at this place: a line of the text, from 1, or a byte of the stream, from 0. This is the
-    /// word of its reason.
+    /// The input has a fault at `place`: a line of the text, from 1, or an offset in the stream, from 0.
+    /// `word` is the word of its reason.
     At { place: u64, word: &'static str },
-    /// No memory was found.
+    /// Out of memory.
     Memory,
 }
 
 impl ReadFault {
-    // A fault at a place.
+    // A fault at a line or an offset.
     pub(crate) fn at(place: u64, word: &'static str) -> ReadFault
         ensures is { OnFault (λ p w. (p ≡ place) × (w ≡ word.now)) result }
         ensures not_memory { result ≢ ReadFault.Memory }

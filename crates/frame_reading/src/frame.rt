@@ -1,4 +1,4 @@
-//! The frame at a place of a stream.
+//! The frame at an offset of a stream.
 
 ghost use Rattle.std.specs.Prelude.{◌≡◌, ◌≢◌, ◌<◌, ◌^◌, length, drop, IfOk, IfErr, Err};
 ghost use Rattle.frame_transport.specs.Standing.{StandsAt, frame_of};
@@ -7,8 +7,8 @@ ghost use Rattle.frame_reading.specs.Faults.{OnFault, IsFaultOfFront, IsFaultOfH
 use crate::fault::ReadFault;
 use frame_transport::{FeedFault, FrameRef, frame_at};
 
-/// The frame at this place of a stream, or why none stands there: a fault of its header, or that the stream ends
-/// inside it. It takes no memory.
+/// The frame at this offset of a stream, or why there is none: its header has a fault, or the stream ends
+/// inside it. Allocates nothing.
 pub fn frame_here(stream: &[u8], from: usize) -> Result<FrameRef<'_>, ReadFault>
     requires countable { length stream.now < 2 ^ 63 }
     requires some { from < length stream.now }

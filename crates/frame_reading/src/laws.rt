@@ -1,4 +1,4 @@
-//! What holds of frames that are read. The function does nothing; its clauses hold.
+//! Laws of frames that are read. The function does nothing; its clauses are the laws.
 
 ghost use Rattle.std.specs.Prelude.{◌≡◌, ◌+◌, ◌≤◌, ◌∷◌, ◌++◌, ℕ, List, [], length, drop};
 ghost use Rattle.frame_transport.specs.Frames.{Splits};
@@ -9,8 +9,8 @@ ghost use Rattle.frame_reading.specs.Walks.{Stands};
 
 use frame_transport::{frames_join, one_frame};
 
-/// Frames that stand one behind another, with the next one, stand one behind another; where the stream ends behind
-/// them, they are all of its frames.
+/// Consecutive frames followed by the next frame are consecutive frames. If the stream ends after them, they
+/// are all of its frames.
 pub fn frames_follow()
     ensures none { (stream : List ℕ) (from : ℕ) → Stands stream from from [] }
     ensures one { (stream : List ℕ) (from to : ℕ) (f : Frame) → StandsAt from (drop from stream) f

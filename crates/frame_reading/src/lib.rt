@@ -1,11 +1,11 @@
-//! What the command `decode` reads, for those who show it in another way: the text of a table, and frames behind it,
-//! one at a time with the message that each has.
+//! Reads the input of the command `decode` for other views of it: the text of a table, and after it frame by
+//! frame, each with its message.
 //!
-//! [`read_head`] reads the text, [`frame_here`] the frame at a place of the stream, and [`content_of`] its message.
-//! Each fault has a place and a word: `specs/Input.antt` says so of the text, and `specs/Faults.antt` of frames;
-//! `decode_laws` proves that they are the faults of `decode`. It stands on `table_text`, `frame_transport` and
-//! `wire_decode`, which read. The layers above use one contract: what is read is what stands there, or the first
-//! fault.
+//! [`read_head`] reads the text, [`frame_here`] the frame at an offset of the stream, and [`content_of`] its
+//! message. Each fault has a location and a word: `specs/Input.antt` defines those of the text, and
+//! `specs/Faults.antt` those of frames; `decode_laws` proves that they are the faults of `decode`. The crate
+//! uses the readers `table_text`, `frame_transport` and `wire_decode`. Its one contract for the layers above:
+//! each call returns what the input has there, or the first fault.
 #![tactic(auto)]
 
 mod content;

@@ -1,4 +1,4 @@
--- How what is kept goes on with what was found.
+-- How a feed's data changes with the frames that were found.
 use Rattle.std.proofs.Common.{◌≡◌, ℕ, ◌+◌, ◌-◌, min, is_some, if◌then◌else◌, List, [], ◌∷◌, ◌++◌, length, take, drop}
 use Rattle.std.proofs.Common.{Option, Some, None, refl, sym, ap, subst, ◌∙◌, arith, append_assoc}
 use Rattle.std.proofs.lemmas.List.{take_all, take_min, drop_all, length-drop, take-append-drop}
@@ -11,13 +11,13 @@ use Rattle.frame_transport.specs.declared.format.Frame.{Frame}
 use Rattle.frame_transport.specs.declared.fault.FeedFault.{FeedFault}
 use Rattle.frame_transport.proofs.FaultFacts.{has-take, has_at}
 
--- what is kept, and what isn't
+-- the kept bytes, and those that aren't
 cut : (frames : List Frame) (begun left : List ℕ) (kept : ℕ) → begun_behind frames begun left ≡ begun_behind frames begun (take kept left) ++ drop kept left
 cut [] begun left kept =
     ap (λ (bs : List ℕ). begun ++ bs) (sym (take-append-drop kept left)) ∙ sym (append_assoc begun (take kept left) (drop kept left))
 cut (f ∷ fs) begun left kept = sym (take-append-drop kept left)
 
--- 16 bytes of what is left are enough for a fault
+-- 16 of the remaining bytes are enough for a fault
 enough : (fault : Option FeedFault) (frames : List Frame) (begun left : List ℕ) (place : ℕ)
     → HasFault place (begun_behind frames begun left) fault → HasFault place (begun_behind frames begun (take 16 left)) fault
 enough fault [] begun left place h =

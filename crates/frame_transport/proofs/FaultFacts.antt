@@ -1,4 +1,4 @@
--- When the fields at the front of a stream have a fault, and that a fault stays.
+-- When the fields at the start of a stream have a fault, and that a fault stays.
 use Rattle.std.proofs.Common.{◌≡◌, ℕ, ◌+◌, ◌<◌, ◌≤◌, List, ◌++◌, length, take, drop, ◌⊎◌, inl, inr, Option, Some}
 use Rattle.std.proofs.Common.{None, refl, sym, ap, subst, ◌∙◌, arith, length-append, min}
 use Rattle.std.proofs.Math.ListN.{get_or-append}
@@ -32,7 +32,7 @@ version_or kind version = elim (cases_eq version 1) [
   ]
 ]
 
--- before a field is there, it isn't at fault
+-- before a field is complete, it isn't at fault
 pub none_before_length : (place : ℕ) (bs : List ℕ) → length bs < 4 → (fault : FeedFault) → IsFaultAt place bs fault → ⊥
 none_before_length place bs short fault (long there large is) = omega (arith, short, there)
 none_before_length place bs short fault (no_kind there small wrong is) = omega (arith, short, there)
@@ -77,7 +77,7 @@ fault_or_none place bs = elim (cases_lt (length bs) 4) [
   ]
 ]
 
--- what holds of six bytes that have no fault
+-- facts about six bytes without a fault
 pub no_fault : (place : ℕ) (bs : List ℕ) → 6 ≤ length bs → HasFault place bs None
     → (length_in bs ≤ 262144) × IsKind (kind_in bs) × HasVersion (kind_in bs) (version_in bs)
 no_fault place bs there none = elim (cases_lt 262144 (length_in bs)) [
@@ -91,7 +91,7 @@ no_fault place bs there none = elim (cases_lt 262144 (length_in bs)) [
   ]
 ]
 
--- ---- one alone
+-- ---- at most one
 
 pub one_fault : (place : ℕ) (bs : List ℕ) (a b : FeedFault) → IsFaultAt place bs a → IsFaultAt place bs b → a ≡ b
 one_fault place bs a b (long there large is) (long there' large' is') = is ∙ sym is'
@@ -110,7 +110,7 @@ one_or_none place bs None (Some b) p q = absurd (p b q)
 one_or_none place bs (Some a) None p q = absurd (q a p)
 one_or_none place bs (Some a) (Some b) p q = ap Some (one_fault place bs a b p q)
 
--- ---- how it stays
+-- ---- a fault stays
 
 pub length_in-append : (bs more : List ℕ) → 4 ≤ length bs → length_in (bs ++ more) ≡ length_in bs
 unfolding length_in
@@ -120,7 +120,7 @@ pub length_in-take : (n : ℕ) (bs : List ℕ) → 4 ≤ n → length_in (take n
 unfolding length_in
 length_in-take n bs h = big_from-take 0 4 n bs h
 
--- bytes whose fields are those of others, as far as these have come, have their fault
+-- bytes whose fields are those of others, as far as these are complete, have their fault
 carried : (place : ℕ) (bs cs : List ℕ) (fault : FeedFault) → (4 ≤ length bs → 4 ≤ length cs) → (5 ≤ length bs → 5 ≤ length cs) → (6 ≤ length bs → 6 ≤ length cs)
     → (4 ≤ length bs → length_in bs ≡ length_in cs) → (5 ≤ length bs → kind_in bs ≡ kind_in cs) → (6 ≤ length bs → version_in bs ≡ version_in cs)
     → IsFaultAt place bs fault → IsFaultAt place cs fault
@@ -138,7 +138,7 @@ carried place bs cs fault a b c size kind version (no_version there small known 
     (subst (λ (n : ℕ). HasVersion n (version_in cs) → ⊥) k (subst (λ (n : ℕ). HasVersion (kind_in bs) n → ⊥) v wrong))
     (is ∙ ap (Version (place + 5)) v)
 
--- a fault stays however the stream goes on
+-- a fault stays whatever follows in the stream
 pub fault-append : (place : ℕ) (bs more : List ℕ) (fault : FeedFault) → IsFaultAt place bs fault → IsFaultAt place (bs ++ more) fault
 fault-append place bs more fault h =
     let len : length (bs ++ more) ≡ length bs + length more = length-append bs more in
@@ -169,7 +169,7 @@ pub has-take : (place n : ℕ) (bs : List ℕ) (fault : Option FeedFault) → 6 
 has-take place n bs (Some fault) h is = fault-take place n bs fault h is
 has-take place n bs None h none = λ fault is. none fault (fault-of_take place n bs fault is)
 
--- the fault of the same bytes at the same place
+-- the fault of the same bytes at the same offset
 pub has_at : (place place' : ℕ) (bs cs : List ℕ) (fault : Option FeedFault) → place ≡ place' → bs ≡ cs → HasFault place bs fault → HasFault place' cs fault
 has_at place place' bs cs fault p e h = subst (λ (n : ℕ). HasFault n cs fault) p (subst (λ (xs : List ℕ). HasFault place xs fault) e h)
 

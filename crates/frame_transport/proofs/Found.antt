@@ -1,4 +1,4 @@
--- The frames found so far at the front of a stream in two parts.
+-- The frames found so far at the start of a stream in two parts.
 use Rattle.std.proofs.Common.{◌≡◌, ℕ, ◌+◌, ◌-◌, ◌≤◌, List, [], ◌∷◌, ◌++◌, length, drop, Option, refl, sym, ap, subst}
 use Rattle.std.proofs.Common.{◌∙◌, arith, length-append, append_assoc}
 use Rattle.std.specs.Prelude.{All}
@@ -15,7 +15,7 @@ use Rattle.frame_transport.specs.declared.fault.FeedFault.{FeedFault}
 use Rattle.frame_transport.proofs.FaultFacts.{has_at}
 use Rattle.frame_transport.proofs.Splitting.{StandFrom-append, length-bytes_of, partial_of_nothing}
 
--- the two parts are these frames and then ahead and left, and no frame lies in ahead alone
+-- the two parts are these frames followed by `ahead` and `left`, and no whole frame is in `ahead` alone
 pub record IsFound (place : ℕ) (begun piece : List ℕ) (frames : List Frame) (end : ℕ) (ahead left : List ℕ) : Type 0 where
   pub whole : begun ++ piece ≡ joined frames ++ (ahead ++ left)
   pub each : All IsFrame frames
@@ -52,7 +52,7 @@ found_more place begun piece frames end ahead left f nothing more found h none r
       fewer = omega (arith, found.fewer);
     }
 
--- one more frame, as the loop has it
+-- one more frame, in the terms of the loop
 pub found_next : (place : ℕ) (begun piece : List ℕ) (frames : List Frame) (end : ℕ) (ahead left : List ℕ) (f : Frame) (size : ℕ) (now : List Frame)
     → IsFound place begun piece frames end ahead left → EndsFrame end ahead left f → size ≡ length f.payload → now ≡ frames ++ f ∷ []
     → IsFound place begun piece now (end + (16 + size)) [] (between (16 + size - length ahead) (length left) left)

@@ -1,4 +1,4 @@
--- What a stream in two parts has at its front.
+-- The start of a stream in two parts.
 use Rattle.std.proofs.Common.{true, false, ◌≡◌, ℕ, ◌+◌, ◌-◌, ◌<◌, ◌≤◌, List, ◌++◌, length, take, drop, slice_index}
 use Rattle.std.proofs.Common.{get_or, Some, None, inl, inr, refl, sym, ap, subst, ◌∙◌, arith, length-append}
 use Rattle.std.proofs.lemmas.Bool.{cases_lt}
@@ -29,7 +29,7 @@ front_short place bs h short =
     let len : length bs < 16 = omega (arith, length-take {A = ℕ}) in
     record { partial = partial_of_short bs (omega arith); first = has-of_take place 16 bs None (omega arith) h }
 
--- what has come of a frame is shorter than it
+-- a partial frame is shorter than the whole
 pub begun_short : (place : ℕ) (begun piece : List ℕ) → AreBytes begun → IsPartial begun → HasFault place (take 16 (begun ++ piece)) None
     → length begun < 16 + length_in (take 16 (begun ++ piece))
 begun_short place begun piece b partial h = elim (cases_lt (length begun) 16) [
@@ -46,7 +46,7 @@ begun_short place begun piece b partial h = elim (cases_lt (length begun) 16) [
       ]
 ]
 
--- what is not left of the frame's first part is left of the second
+-- what isn't in the first part of a frame is in the second
 behind_parts : (n : ℕ) (begun piece : List ℕ) → length begun ≤ n → drop n (begun ++ piece) ≡ drop (n - length begun) piece
 behind_parts n begun piece h =
     drop-parts n begun piece ∙ ap (λ (bs : List ℕ). bs ++ drop (n - length begun) piece) (drop_all n begun h)

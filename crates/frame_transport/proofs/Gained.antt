@@ -21,7 +21,7 @@ appends-more (Some a) (Some b) (Some c) xs ys h i = i ∙ ap (λ bs. bs ++ ys) h
 out-more : (more : List (List ℕ)) (frame : List ℕ) → out (more ++ frame ∷ []) ≡ out more ++ frame
 out-more more frame = flat_map-append (λ f. f) more (frame ∷ []) ∙ ap (λ bs. out more ++ bs) (append-nil frame)
 
--- a frame was handed over, whole
+-- a whole frame was sent
 handed-later : {W : Type 0} (written : W → Option (List ℕ)) (faults : W → ℕ) (first old new : ByteLink W) (frame : List ℕ)
     → IsLater written faults first old → sink_name new ≡ sink_name old → frames_of new ≡ frames_of old ++ frame ∷ []
     → failures_of new ≡ failures_of old → Appends (written (sink_of old)) (written (sink_of new)) frame
@@ -59,7 +59,7 @@ idle-later written faults first old new h same handed kept still = record {
   same_faults = λ none. ap faults still ∙ h.same_faults (sym kept ∙ none);
 }
 
--- what a send answered tells which of the two
+-- the result of a send determines which of the two
 pub sent-later : {W : Type 0} (written : W → Option (List ℕ)) (faults : W → ℕ) (first old new : ByteLink W) (frame : List ℕ)
     (result : Handed) → IsLater written faults first old → sink_name new ≡ sink_name old
     → (result ≡ Done → frames_of new ≡ frames_of old ++ frame ∷ []) → (result ≢ Done → frames_of new ≡ frames_of old)

@@ -67,23 +67,23 @@ AreBytes-take n bs h i = elim (cases_lt i n) [
 pub AreBytes-drop : (n : ℕ) (bs : List ℕ) → AreBytes bs → AreBytes (drop n bs)
 AreBytes-drop n bs h i = let e : get_or (drop n bs) i 0 ≡ get_or bs (n + i) 0 = get_or-drop n bs i 0 in omega (arith, e, h (n + i))
 
--- the bytes of a number that was read in four bytes
+-- the bytes of a number that was read from four bytes
 pub read_four : (bs : List ℕ) → 4 ≤ length bs → AreBytes bs → big_bytes 4 (big_number 4 bs) ≡ take 4 bs
 read_four bs h b =
     let same : big_number 4 bs ≡ from_be_bytes w32 (take 4 bs) = sym (big_from-take 0 4 4 bs (omega arith)) ∙ omega arith in
     be_bytes_4 (take 4 bs) (big_number 4 bs) (omega (arith, length-take {A = ℕ})) (AreBytes-take 4 bs b) same
 
--- the bytes of a number that was read in two bytes
+-- the bytes of a number that was read from two bytes
 pub read_two : (bs : List ℕ) → 2 ≤ length bs → AreBytes bs → big_bytes 2 (big_number 2 bs) ≡ take 2 bs
 read_two bs h b =
     let same : big_number 2 bs ≡ from_be_bytes w16 (take 2 bs) = sym (big_from-take 0 2 2 bs (omega arith)) ∙ omega arith in
     be_bytes_2 (take 2 bs) (big_number 2 bs) (omega (arith, length-take {A = ℕ})) (AreBytes-take 2 bs b) same
 
--- a list, cut at a place further on
+-- a list, cut at a later index
 piece : (k m n : ℕ) (bs : List ℕ) → n ≡ k + m → take m (drop k bs) ++ drop n bs ≡ drop k bs
 piece k m n bs h = rw (h, ← drop-drop m k bs) (take-append-drop m (drop k bs))
 
--- five parts and a rest, put together from the back
+-- five parts and a suffix, concatenated from the end
 assembled : (a b c d e r s t u v w : List ℕ) → e ++ r ≡ s → d ++ s ≡ t → c ++ t ≡ u → b ++ u ≡ v → a ++ v ≡ w
     → (a ++ b ++ c ++ d ++ e) ++ r ≡ w
 assembled a b c d e r s t u v w hs ht hu hv hw = simp (append_assoc, hs, ht, hu, hv, hw)
@@ -94,7 +94,7 @@ two_bytes bs h =
     let second : drop 5 bs ≡ get_or bs 5 0 ∷ drop 6 bs = drop_more bs 5 0 (omega arith) in
     rw (first, second) refl
 
--- 16 bytes are the header of the numbers that are read in them
+-- 16 bytes are the header of the numbers that are read from them
 pub read_header : (bs : List ℕ) → 16 ≤ length bs → AreBytes bs
     → header_bytes (length_in bs) (slice_index bs 4) (slice_index bs 5) (big_number 2 (drop 6 bs)) (big_number 4 (drop 8 bs)) (big_number 4 (drop 12 bs)) ++ drop 16 bs ≡ bs
 unfolding header_bytes length_in

@@ -1,4 +1,4 @@
--- Parts of two lists that stand one behind the other.
+-- Parts of two consecutive lists.
 use Rattle.std.proofs.Common.{◌≡◌, ℕ, ◌+◌, ◌-◌, ◌<◌, ◌≤◌, min, List, [], ◌++◌, length, take, drop, inl, inr, refl, sym, ap, ◌∙◌, arith, length-append}
 use Rattle.std.proofs.lemmas.Bool.{cases_lt}
 use Rattle.std.proofs.lemmas.List.{take-append-le, drop-append-le, take_all, drop_all, take_min, append-nil, length-take, length-drop, take_at, drop-drop, drop_at}

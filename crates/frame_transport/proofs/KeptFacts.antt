@@ -18,7 +18,7 @@ use Rattle.frame_transport.specs.declared.fault.FeedFault.{FeedFault}
 use Rattle.frame_transport.proofs.FaultFacts.{fault-append, has_at}
 use Rattle.frame_transport.proofs.Splitting.{StandFrom-append, length-joined, splits_behind, length-bytes_of, partial_of_nothing, splits_once, ends_once}
 
--- what a clause sees of what is kept
+-- what contracts see of the kept data
 abbrev pub seen : ℕ → List Frame → List ℕ → ℕ → Fed
 seen taken waiting begun behind = record { place = taken; bytes = joined waiting ++ begun; behind = behind }
 
@@ -37,7 +37,7 @@ kept_ends taken waiting end begun behind fault k h = record {
   first = has_at end (taken + length (joined waiting)) begun begun fault k.ends refl h;
 }
 
--- the frames that are kept, and what follows them, are those of the stream
+-- the kept frames and the bytes after them are those of the stream
 pub kept_split : (taken : ℕ) (waiting : List Frame) (end : ℕ) (begun : List ℕ) (behind : ℕ) (frames : List Frame) (rest : List ℕ)
     → IsKept taken waiting end begun behind → Splits taken (joined waiting ++ begun) frames rest → (waiting ≡ frames) × (begun ≡ rest)
 kept_split taken waiting end begun behind frames rest k s =
@@ -46,7 +46,7 @@ kept_split taken waiting end begun behind frames rest k s =
 partial_front : (xs ys : List ℕ) → IsPartial (xs ++ ys) → IsPartial xs
 partial_front xs ys h f more is e = h f (more ++ ys) is (ap (λ (bs : List ℕ). bs ++ ys) e ∙ append_assoc (bytes_of f) more ys)
 
--- the bytes that are kept now, and those that aren't, are those from before with the piece
+-- the bytes that are kept now, and those that aren't, are the earlier ones followed by the piece
 advanced_bytes : (end : ℕ) (begun piece : List ℕ) (old new : List Frame) (now_begun : List ℕ) (a : Advance)
     (adv : Advances (keeping old end begun) piece (keeping new a.end now_begun) a.dropped a.fault)
     → (joined old ++ begun) ++ piece ≡ (joined new ++ now_begun) ++ adv.unkept
@@ -76,7 +76,7 @@ kept_advanced taken waiting end begun behind piece new now_begun a k room adv =
       room = omega (arith, k.ends, ends, adv.count);
     }
 
--- a fault that was found stands behind the whole stream with the piece
+-- a fault that was found is at the end of the whole stream with the piece
 fault_of_all : (fault : Option FeedFault) (place : ℕ) (xs ys : List ℕ) → HasFault place xs fault → (fault ≡ None → ys ≡ []) → HasFault place (xs ++ ys) fault
 fault_of_all None place xs ys h clean = has_at place place xs (xs ++ ys) None refl (sym (ap (λ (bs : List ℕ). xs ++ bs) (clean refl) ∙ append-nil xs)) h
 fault_of_all (Some fault) place xs ys h clean = fault-append place xs ys fault h
@@ -141,14 +141,14 @@ gives taken f waiting end begun behind size k e =
       behind = refl;
     }
 
--- where no fault was found, the stream has none
+-- if no fault was found, the stream has none
 pub no_fault_before : (taken : ℕ) (waiting : List Frame) (end : ℕ) (begun : List ℕ) (behind : ℕ) (fault : FeedFault)
     → IsKept taken waiting end begun behind → HasFault end begun None → Ends taken (joined waiting ++ begun) (Some fault) → ⊥
 no_fault_before taken waiting end begun behind fault k h e =
     let both : None ≡ Some fault = same_fault taken waiting end begun behind None fault k h e in
     cc
 
--- what is looked up among the frames that are kept stands among those of the stream
+-- a frame that is looked up among the kept ones is the stream's frame of this index
 pub peeked_some : (Are : List Frame → List ℕ → Type 0) (waiting : List Frame) (count i : ℕ) (r : Option (Bor Frame)) → count ≡ length waiting
     → ((frames : List Frame) (rest : List ℕ) → Are frames rest → waiting ≡ frames)
     → (IsSome r → i < count) → IfSome r (λ f. f.now ≡ slice_index_or waiting i f.now)
@@ -157,7 +157,7 @@ peeked_some Are waiting count i None all same within item = tt
 peeked_some Are waiting count i (Some f) all same within item = λ frames rest are.
     subst (λ (fs : List Frame). slice_get fs i ≡ Some f.now) (same frames rest are) (slice_get_read waiting count i f.now all (within refl) item)
 
--- and where nothing was found, none stands there
+-- and if none was found, the stream has none of this index
 pub peeked_none : (Are : List Frame → List ℕ → Type 0) (waiting : List Frame) (count i : ℕ) (r : Option (Bor Frame)) → count ≡ length waiting
     → ((frames : List Frame) (rest : List ℕ) → Are frames rest → waiting ≡ frames) → (i < count → IsSome r)
     → IfNone r ((frames : List Frame) (rest : List ℕ) → Are frames rest → slice_get frames i ≡ None)

@@ -71,7 +71,7 @@ other_kind : IsFaultAt 0 (0 ∷ 0 ∷ 0 ∷ 0 ∷ 9 ∷ []) (Kind 4 9)
 unfolding length_in
 other_kind = no_kind (omega arith) (omega arith) (λ is. omega (arith, is.1)) refl
 
--- the length is judged before the kind, and the kind before the version
+-- the length is checked before the kind, and the kind before the version
 length_first : IsFaultAt 7 (0 ∷ 4 ∷ 0 ∷ 1 ∷ 9 ∷ 2 ∷ []) (TooLong 7 262145)
 unfolding length_in
 length_first = long (omega arith) (omega arith) refl
@@ -80,7 +80,7 @@ kind_first : IsFaultAt 7 (0 ∷ 0 ∷ 0 ∷ 1 ∷ 0 ∷ 2 ∷ []) (Kind 11 0)
 unfolding length_in
 kind_first = no_kind (omega arith) (omega arith) (λ is. omega (arith, is.0)) refl
 
--- three good frames, one behind the other, with their places
+-- three valid frames in order, with their offsets
 first : Frame
 first = record { kind = 1; version = 1; method = 0; conn = 1; number = 1; payload = 50 ∷ 6 ∷ 3 ∷ 142 ∷ 2 ∷ 158 ∷ 167 ∷ 5 ∷ []; place = 0 }
 
@@ -115,7 +115,7 @@ three = record {
   partial = partial_of_nothing;
 }
 
--- the beginning of a frame, without a fault so far
+-- a partial frame, without a fault so far
 short : Ends 0 (0 ∷ 0 ∷ 0 ∷ 3 ∷ 1 ∷ 1 ∷ 0 ∷ 0 ∷ 0 ∷ 0 ∷ []) None
 unfolding length_in
 short = record {
@@ -125,7 +125,7 @@ short = record {
   first = begun;
 }
 
--- a request of version 2 behind a whole frame
+-- a request of version 2 after a whole frame
 version_behind : Ends 0 (0 ∷ 0 ∷ 0 ∷ 8 ∷ 1 ∷ 1 ∷ 0 ∷ 0 ∷ 0 ∷ 0 ∷ 0 ∷ 1 ∷ 0 ∷ 0 ∷ 0 ∷ 1 ∷ 50 ∷ 6 ∷ 3 ∷ 142 ∷ 2 ∷ 158
     ∷ 167 ∷ 5 ∷ 0 ∷ 0 ∷ 0 ∷ 0 ∷ 1 ∷ 2 ∷ []) (Some (Version 29 2))
 unfolding first header_bytes length_in

@@ -1,4 +1,5 @@
--- A stream has one front: a whole frame, a fault or the beginning of a frame. So it splits in one way.
+-- A stream starts with a whole frame, a fault or a partial frame, and only one of them. So it splits in at most one
+-- way.
 use Rattle.std.proofs.Common.{◌≡◌, ℕ, ◌+◌, ◌<◌, ◌≤◌, ◌^◌, List, [], ◌∷◌, ◌++◌, length, take, drop, slice_index}
 use Rattle.std.proofs.Common.{Option, Some, None, ◌⊎◌, inl, inr, zero, suc, refl, sym, ap, subst, ◌∙◌, arith}
 use Rattle.std.proofs.Common.{length-append, append_assoc}
@@ -28,7 +29,7 @@ length-bytes_of f =
       length-header_bytes (length f.payload) f.kind f.version f.method f.conn f.number,
     )
 
--- a frame with more behind it is its header with the payload and more behind that
+-- a frame with more bytes after it is its header, followed by the payload and these bytes
 in_front : (f : Frame) (more : List ℕ) → bytes_of f ++ more ≡ header_bytes (length f.payload) f.kind f.version f.method f.conn f.number ++ (f.payload ++ more)
 in_front f more = append_assoc (header_bytes (length f.payload) f.kind f.version f.method f.conn f.number) f.payload more
 
@@ -69,7 +70,7 @@ none_in_frame place f more h =
     (subst (HasVersion (slice_index (bytes_of f ++ more) 4)) (sym version)
     (subst (λ (n : ℕ). HasVersion n f.version) (sym kind) h.version))
 
--- fewer bytes than the length in front of them asks for
+-- fewer bytes than the length at their start requires
 pub partial_of_short : (bs : List ℕ) → length bs < 16 + length_in bs → IsPartial bs
 partial_of_short bs short f more h e =
     let size : length_in bs ≡ length f.payload = ap length_in e ∙ length_in-frame f more h in
@@ -84,7 +85,7 @@ partial_of_fault place bs fault found f more h e =
 pub partial_of_nothing : IsPartial []
 partial_of_nothing = partial_of_short [] (omega arith)
 
--- the frame whose numbers are read at the front of the bytes
+-- the frame whose numbers are read at the start of the bytes
 abbrev pub frame_at : ℕ → List ℕ → Frame
 frame_at place bs = record {
   kind = slice_index bs 4;
@@ -96,7 +97,7 @@ frame_at place bs = record {
   place = place;
 }
 
--- two frames at the front of the same bytes, at one place, are one
+-- two frames at the start of the same bytes, at the same offset, are equal
 pub frame_unique : (f g : Frame) (a b : List ℕ) → IsFrame f → IsFrame g → bytes_of f ++ a ≡ bytes_of g ++ b → f.place ≡ g.place → (f ≡ g) × (a ≡ b)
 frame_unique f g a b hf hg e p =
     let size : length f.payload ≡ length g.payload = sym (length_in-frame f a hf) ∙ ap length_in e ∙ length_in-frame g b hg in
@@ -110,7 +111,7 @@ frame_unique f g a b hf hg e p =
     let behind : a ≡ b = sym (drop_at f.payload a (length f.payload) refl) ∙ ap (drop (length f.payload)) rest ∙ drop_at g.payload b (length f.payload) (sym size) in
     ((λ i. record { kind = kind i; version = version i; method = method i; conn = conn i; number = number i; payload = payload i; place = p i }), behind)
 
--- where the fields have no fault and all bytes are there, a whole frame stands at the front
+-- if the fields have no fault and all bytes are there, the bytes start with a whole frame
 pub frame_at_front : (place : ℕ) (bs : List ℕ) → AreBytes bs → HasFault place bs None → 16 + length_in bs ≤ length bs
     → IsFrame (frame_at place bs) × (bs ≡ bytes_of (frame_at place bs) ++ drop (16 + length_in bs) bs)
 frame_at_front place bs b none enough =
@@ -162,7 +163,7 @@ fault_stays place stream more frames rest fault s first =
       later,
     )
 
--- a stream ends in one way
+-- a stream ends in at most one way
 pub ends_once : (place : ℕ) (stream : List ℕ) (a b : Option FeedFault) → Ends place stream a → Ends place stream b → a ≡ b
 ends_once place stream a b x y =
     let same = splits_once place stream x.frames y.frames x.rest y.rest x.splits y.splits in
@@ -170,13 +171,13 @@ ends_once place stream a b x y =
     has_at (place + length (joined x.frames)) (place + length (joined y.frames)) x.rest y.rest a (ap (λ (fs : List Frame). place + length (joined fs)) same.0) same.1 x.first in
     one_or_none (place + length (joined y.frames)) y.rest a b first y.first
 
--- a fault that the stream has stays the first one
+-- the first fault of a stream stays the first one
 pub ends_stays : (place : ℕ) (stream more : List ℕ) (fault : FeedFault) → Ends place stream (Some fault) → Ends place (stream ++ more) (Some fault)
 ends_stays place stream more fault x =
     let later = fault_stays place stream more x.frames x.rest fault x.splits x.first in
     record { frames = x.frames; rest = x.rest ++ more; splits = later.0; first = later.1 }
 
--- frames stand behind others
+-- frames after others
 pub StandFrom-append : (place : ℕ) (fs gs : List Frame) → StandFrom place fs → StandFrom (place + length (joined fs)) gs → StandFrom place (fs ++ gs)
 StandFrom-append place [] gs a b = let e : place + length (joined []) ≡ place = omega arith in subst (λ (p : ℕ). StandFrom p gs) e b
 StandFrom-append place (f ∷ fs) gs a b =
@@ -186,7 +187,7 @@ StandFrom-append place (f ∷ fs) gs a b =
 pub length-joined : (fs gs : List Frame) → length (joined (fs ++ gs)) ≡ length (joined fs) + length (joined gs)
 length-joined fs gs = ap length (flat_map-append bytes_of fs gs) ∙ length-append (joined fs) (joined gs)
 
--- frames in front of a stream that splits
+-- frames before a stream that splits
 pub splits_behind : (place : ℕ) (fs gs : List Frame) (stream rest : List ℕ) → All IsFrame fs → StandFrom place fs
     → Splits (place + length (joined fs)) stream gs rest → Splits place (joined fs ++ stream) (fs ++ gs) rest
 splits_behind place fs gs stream rest each places s = record {
@@ -202,11 +203,11 @@ none_or : {A : Type 0} (o : Option A) → (o ≡ None) ⊎ ((x : A) × (o ≡ So
 none_or None = inl refl
 none_or (Some x) = inr (x, refl)
 
--- a stream that begins with no whole frame
+-- a stream that doesn't start with a whole frame
 splits_nowhere : (place : ℕ) (stream : List ℕ) → IsPartial stream → (frames : List Frame) × (rest : List ℕ) × Splits place stream frames rest
 splits_nowhere place stream partial = ([], stream, record { whole = refl; each = All-nil IsFrame; places = tt; partial = partial })
 
--- a frame in front of a stream that splits
+-- a frame before a stream that splits
 splits_next : (place : ℕ) (f : Frame) (stream more : List ℕ) → IsFrame f → f.place ≡ place → stream ≡ bytes_of f ++ more
     → (frames : List Frame) × (rest : List ℕ) × Splits (place + length (bytes_of f)) more frames rest
     → (frames : List Frame) × (rest : List ℕ) × Splits place stream frames rest
@@ -221,7 +222,7 @@ splits_next place f stream more is stands whole s = (
   },
 )
 
--- a stream of at most so many bytes
+-- a stream of at most this many bytes
 splits_within : (most place : ℕ) (stream : List ℕ) → length stream ≤ most → AreBytes stream → (frames : List Frame) × (rest : List ℕ) × Splits place stream frames rest
 splits_within zero place stream few b = splits_nowhere place stream (partial_of_short stream (omega (arith, few)))
 splits_within (suc most) place stream few b = elim (cases_lt (length stream) (16 + length_in stream)) [
@@ -253,7 +254,7 @@ always_ends place stream h =
     let first = fault_or_none (place + length (joined s.0)) s.1 in
     (first.0, record { frames = s.0; rest = s.1; splits = s.2; first = first.1 })
 
--- bytes of a frame that has begun and has no fault
+-- bytes of a partial frame without a fault
 pub stays_short : StaysShort
 stays_short place bs h partial none = elim (cases_lt (length bs) 16) [
   | inl less ↦ omega arith

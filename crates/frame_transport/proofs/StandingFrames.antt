@@ -1,4 +1,4 @@
--- What stands at the front of the bytes of a stream.
+-- What is at the start of the bytes of a stream.
 use Rattle.std.proofs.Common.{◌≡◌, ℕ, ◌+◌, ◌<◌, ◌≤◌, List, ◌++◌, length, take, drop, Some, None, refl, sym, ap, subst, ◌∙◌, arith}
 use Rattle.std.proofs.lemmas.List.{length-take, length-drop}
 use Rattle.frame_transport.specs.Frames.{IsFrame, bytes_of, length_in, IsFaultAt, HasFault}
@@ -18,7 +18,7 @@ none_at_fault place bs fault h = record { partial = partial_of_fault place bs fa
 pub none_in_header : (place : ℕ) (bs : List ℕ) → HasFault place bs None → length bs < 16 → HasNoFrame place bs None
 none_in_header place bs clean short = record { partial = partial_of_short bs (omega arith); first = clean }
 
--- less than the payload that the header asks for
+-- less than the payload that the header requires
 pub none_in_payload : (place : ℕ) (bs : List ℕ) (h : Header) → HasFault place bs None → IsHeaderOf bs h → length bs < 16 + h.length
     → HasNoFrame place bs None
 none_in_payload place bs h clean header short = record { partial = partial_of_short bs (omega (arith, header.size)); first = clean }

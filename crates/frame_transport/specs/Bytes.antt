@@ -8,7 +8,7 @@ unfoldable pub header_bytes : ℕ → ℕ → ℕ → ℕ → ℕ → ℕ → Li
 header_bytes len kind version method conn number =
     big_bytes 4 len ++ (kind ∷ version ∷ []) ++ big_bytes 2 method ++ big_bytes 4 conn ++ big_bytes 4 number
 
--- the header, and the payload behind it
+-- the header, followed by the payload
 abbrev pub frame_bytes : ℕ → ℕ → ℕ → ℕ → ℕ → List ℕ → List ℕ
 frame_bytes kind version method conn number payload =
     header_bytes (length payload) kind version method conn number ++ payload

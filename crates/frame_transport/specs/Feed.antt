@@ -1,20 +1,20 @@
--- What a feed stands for.
+-- The data of a feed.
 use Rattle.std.specs.Prelude.{◌≡◌, ℕ, ◌+◌, List, ◌++◌, length, Some}
 use Rattle.frame_transport.specs.Frames.{IsFrame, bytes_of, Ends}
 use Rattle.frame_transport.specs.declared.format.Frame.{Frame}
 use Rattle.frame_transport.specs.declared.fault.FeedFault.{FeedFault}
 
--- the part of a stream that was fed and lies in no frame taken
+-- the part of a stream that was fed and isn't in a frame that was taken
 pub record Fed : Type 0 where
-  pub place : ℕ  -- the place in the stream of its first byte
+  pub place : ℕ  -- the offset of its first byte in the stream
   pub bytes : List ℕ  -- its bytes, up to the first fault or further
-  pub behind : ℕ  -- how many bytes came behind these: they lie behind a fault and are not kept
+  pub behind : ℕ  -- how many bytes came after these: they are past a fault and not kept
 
 -- how many bytes were fed
 abbrev pub total : Fed → ℕ
 total fed = fed.place + length fed.bytes + fed.behind
 
--- old gave its first frame, and new is what is left
+-- old gave its first frame, and new is the remainder
 pub record Gives (old : Fed) (f : Frame) (new : Fed) : Type 0 where
   pub frame : IsFrame f
   pub first : old.bytes ≡ bytes_of f ++ new.bytes
@@ -30,7 +30,7 @@ pub record StopsAt (old : Fed) (piece : List ℕ) (fault : FeedFault) (new : Fed
   pub stream : old.bytes ++ piece ≡ new.bytes ++ dropped
   pub behind : new.behind ≡ old.behind + length dropped
 
--- new is old with this piece behind it
+-- new is old with this piece appended
 pub record GoesOn (old : Fed) (piece : List ℕ) (new : Fed) : Type 0 where
   pub place : new.place ≡ old.place
   pub bytes : new.bytes ≡ old.bytes ++ piece

@@ -1,5 +1,5 @@
--- The frames of a stream: the whole frames at its front, and what follows them, which begins with
--- no whole frame and may have a fault.
+-- The frames of a stream: the whole frames at its start, and the remainder after them, which doesn't start with a whole
+-- frame and may have a fault.
 use Rattle.std.specs.Prelude.{◌≡◌, ℕ, ◌+◌, ◌^◌, ◌<◌, ◌≤◌, ◌⊎◌, List, [], ◌∷◌, ◌++◌, length, All, slice_index, Option, Some, None}
 use Rattle.std.specs.List.{flat_map}
 use Rattle.byteorder.specs.Endian.{big_number}
@@ -9,15 +9,15 @@ use Rattle.frame_transport.specs.declared.format.TheConstants.{HEADER_LEN, MAX_P
 use Rattle.frame_transport.specs.declared.fault.FeedFault.{FeedFault}
 use Rattle.frame_transport.specs.declared.fault.FeedFault.TheVariants.{Version, Kind, TooLong}
 
--- the kinds of frames are those of a request, a reply and a hello
+-- the kinds of frames: a request, a reply and a hello
 abbrev pub IsKind : ℕ → Type 0
 IsKind kind = (REQUEST ≤ kind) × (kind ≤ HELLO)
 
--- each kind has the one version, and a hello also its own
+-- each kind has version 1, and a hello also version 2
 abbrev pub HasVersion : ℕ → ℕ → Type 0
 HasVersion kind version = (version ≡ VERSION) ⊎ ((kind ≡ HELLO) × (version ≡ HELLO_VERSION))
 
--- a payload isn't too long, and the numbers fit their bytes
+-- the payload isn't too long, and the numbers fit their fields
 pub record IsFrame (f : Frame) : Type 0 where
   pub kind : IsKind f.kind
   pub version : HasVersion f.kind f.version
@@ -30,20 +30,20 @@ pub record IsFrame (f : Frame) : Type 0 where
 abbrev pub bytes_of : Frame → List ℕ
 bytes_of f = frame_bytes f.kind f.version f.method f.conn f.number f.payload
 
--- the bytes of frames, one behind the other
+-- the bytes of frames, concatenated
 abbrev pub joined : List Frame → List ℕ
 joined frames = flat_map bytes_of frames
 
--- the first frame has this place, and each other one the place behind the one before
+-- the first frame is at this offset, and each other one at the end of the previous one
 abbrev pub StandFrom : ℕ → List Frame → Type 0
 StandFrom place [] = Unit {0}
 StandFrom place (f ∷ fs) = (f.place ≡ place) × StandFrom (place + length (bytes_of f)) fs
 
--- no whole frame stands at the front
+-- the bytes don't start with a whole frame
 abbrev pub IsPartial : List ℕ → Type 0
 IsPartial bytes = (f : Frame) (more : List ℕ) → IsFrame f → bytes ≡ bytes_of f ++ more → ⊥
 
--- the length, the kind and the version in front of a frame
+-- the length, the kind and the version in a header
 unfoldable pub length_in : List ℕ → ℕ
 length_in bytes = big_number 4 bytes
 
@@ -53,8 +53,8 @@ kind_in bytes = slice_index bytes 4
 abbrev pub version_in : List ℕ → ℕ
 version_in bytes = slice_index bytes 5
 
--- A frame that begins with these bytes at this place is at fault: its length is too long, or else its kind is none, or
--- else its kind hasn't its version. Each field counts as soon as it is there.
+-- A frame that starts with these bytes at this offset is at fault: its length is too long, or else its kind doesn't
+-- exist, or else its kind doesn't have its version. Each field counts as soon as it is complete.
 pub data IsFaultAt (place : ℕ) (bytes : List ℕ) (fault : FeedFault) : Type 0 where
   long : 4 ≤ length bytes → MAX_PAYLOAD < length_in bytes → fault ≡ TooLong place (length_in bytes)
       → IsFaultAt place bytes fault
@@ -64,24 +64,24 @@ pub data IsFaultAt (place : ℕ) (bytes : List ℕ) (fault : FeedFault) : Type 0
       → (HasVersion (kind_in bytes) (version_in bytes) → ⊥)
       → fault ≡ Version (place + 5) (version_in bytes) → IsFaultAt place bytes fault
 
--- the fault, or none so far
+-- the bytes have the fault, or none so far
 abbrev pub HasFault : ℕ → List ℕ → Option FeedFault → Type 0
 HasFault place bytes (Some fault) = IsFaultAt place bytes fault
 HasFault place bytes None = (fault : FeedFault) → IsFaultAt place bytes fault → ⊥
 
--- no whole frame stands at the front, and this fault, or none so far
+-- the stream doesn't start with a whole frame, and has this fault, or none so far
 pub record HasNoFrame (place : ℕ) (stream : List ℕ) (fault : Option FeedFault) : Type 0 where
   pub partial : IsPartial stream
   pub first : HasFault place stream fault
 
--- the stream, whose first byte has this place, is these frames and then this rest
+-- the stream, whose first byte is at this offset, is these frames followed by this remainder
 pub record Splits (place : ℕ) (stream : List ℕ) (frames : List Frame) (rest : List ℕ) : Type 0 where
   pub whole : stream ≡ joined frames ++ rest
   pub each : All IsFrame frames
   pub places : StandFrom place frames
   pub partial : IsPartial rest
 
--- behind its whole frames the stream has this fault, or none so far
+-- after its whole frames the stream has this fault, or none so far
 pub record Ends (place : ℕ) (stream : List ℕ) (fault : Option FeedFault) : Type 0 where
   pub frames : List Frame
   pub rest : List ℕ
@@ -93,12 +93,12 @@ abbrev pub AlwaysSplits : Type 0
 AlwaysSplits = (place : ℕ) (stream : List ℕ) → All (λ byte. byte < 256) stream
     → (frames : List Frame) × (rest : List ℕ) × Splits place stream frames rest
 
--- and in one way
+-- in at most one way
 abbrev pub SplitsOnce : Type 0
 SplitsOnce = (place : ℕ) (stream : List ℕ) (frames others : List Frame) (rest more : List ℕ)
     → Splits place stream frames rest → Splits place stream others more → (frames ≡ others) × (rest ≡ more)
 
--- a fault stays the first one, and the frames in front of it stay, however the stream goes on
+-- the first fault and the frames before it stay, whatever follows in the stream
 abbrev pub FaultStays : Type 0
 FaultStays = (place : ℕ) (stream more : List ℕ) (frames : List Frame) (rest : List ℕ) (fault : FeedFault)
     → Splits place stream frames rest → IsFaultAt (place + length (joined frames)) rest fault
@@ -110,7 +110,7 @@ abbrev pub AlwaysEnds : Type 0
 AlwaysEnds = (place : ℕ) (stream : List ℕ) → All (λ byte. byte < 256) stream
     → (fault : Option FeedFault) × Ends place stream fault
 
--- and no other
+-- in at most one way
 abbrev pub EndsOnce : Type 0
 EndsOnce = (place : ℕ) (stream : List ℕ) (fault other : Option FeedFault) → Ends place stream fault
     → Ends place stream other → fault ≡ other

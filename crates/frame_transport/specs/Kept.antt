@@ -1,17 +1,17 @@
--- The code's own: what a feed keeps, and what a piece makes of it.
+-- The code's own: what a feed keeps, and how a piece changes it.
 use Rattle.std.specs.Prelude.{◌≡◌, ℕ, ◌+◌, ◌<◌, ◌^◌, List, [], ◌++◌, length, All, Option, None}
 use Rattle.frame_transport.specs.Frames.{IsFrame, joined, StandFrom, IsPartial, Splits, HasFault}
 use Rattle.frame_transport.specs.declared.fault.FeedFault.{FeedFault}
 use Rattle.frame_transport.specs.declared.format.Frame.{Frame}
 
--- what a feed keeps of its stream: whole frames, and the bytes behind them
+-- what a feed keeps of its stream: whole frames, and the bytes after them
 pub record Kept : Type 0 where
-  pub waiting : List Frame  -- the whole frames that were not taken, the oldest first
-  pub end : ℕ  -- the place behind them in the stream
-  pub begun : List ℕ  -- the bytes from there on, up to the first fault or further
+  pub waiting : List Frame  -- the whole frames that were not taken yet, the oldest first
+  pub end : ℕ  -- the offset after them in the stream
+  pub begun : List ℕ  -- the bytes after them, up to the first fault or further
 
--- Frames stand from this place on, and less than a whole frame behind them. All bytes that were fed can be counted, with
--- those, so many, that came behind the ones that are kept.
+-- Whole frames follow each other from this offset on, and less than a whole frame after them. All bytes that were fed
+-- can be counted, including those that were fed after the kept ones.
 pub record IsKept (taken : ℕ) (waiting : List Frame) (end : ℕ) (begun : List ℕ) (behind : ℕ) : Type 0 where
   pub each : All IsFrame waiting
   pub places : StandFrom taken waiting
@@ -19,8 +19,8 @@ pub record IsKept (taken : ℕ) (waiting : List Frame) (end : ℕ) (begun : List
   pub partial : IsPartial begun
   pub room : end + length begun + behind < 2 ^ 63
 
--- A piece came behind what a feed kept before. The frames that it ended wait behind those that waited. Of the bytes
--- behind them all are kept, or, where they have a fault, a front that has this fault, and so many others are dropped.
+-- A piece came after what a feed kept. The frames that end in it are appended to the waiting ones. The bytes after them
+-- are all kept, or if they have a fault, a prefix with this fault is kept, and the others are dropped.
 pub record Advances (before : Kept) (piece : List ℕ) (after : Kept) (dropped : ℕ)
     (fault : Option FeedFault) : Type 0 where
   pub ended : List Frame

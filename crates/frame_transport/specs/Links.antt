@@ -1,4 +1,4 @@
--- What contracts see of a link over a sink.
+-- The data of a link over a sink, as contracts see it.
 use Rattle.std.specs.Prelude.{◌≡◌, ◌≤◌, ℕ, Bool, List, [], ◌++◌, Option, Some, None}
 use Rattle.std.specs.List.{flat_map}
 use Rattle.std.specs.Borrow.{GName}
@@ -13,15 +13,15 @@ use mathlib.Core.List.{append-nil}
 abbrev pub sink_of : {W : Type 0} → ByteLink W → W
 sink_of link = link.sink.now
 
--- the ghost name of the borrow of the sink: while it stays the same, the link is over that sink
+-- the ghost name of the borrow of the sink, which identifies the sink
 abbrev pub sink_name : {W : Type 0} → ByteLink W → GName
 sink_name link = link.sink.ghost_name
 
--- the frames that were handed over, in order
+-- the frames that were sent, in order
 abbrev pub frames_of : {W : Type 0} → ByteLink W → List (List ℕ)
 frames_of link = link.handed.frames
 
--- whether it has answered that the other side has finished
+-- whether a receive has returned `End`
 abbrev pub has_ended : {W : Type 0} → ByteLink W → Bool
 has_ended link = link.ended
 
@@ -29,8 +29,8 @@ has_ended link = link.ended
 abbrev pub failures_of : {W : Type 0} → ByteLink W → ℕ
 failures_of link = link.failures
 
--- the second link is the first, later on: it is over the same sink, and as long as no send has failed, the sink gained
--- exactly the frames that were handed over since, one behind another, and none of its writes failed
+-- the second link is a later state of the first: it is over the same sink, and as long as no send has failed, the sink
+-- gained exactly the frames sent since, concatenated, and none of its writes failed
 pub record IsLater {W : Type 0} (written : W → Option (List ℕ)) (faults : W → ℕ) (old new : ByteLink W) : Type 0 where
   pub same_sink : sink_name new ≡ sink_name old
   pub more : List (List ℕ)
@@ -42,7 +42,7 @@ appends-nothing : (bytes : Option (List ℕ)) → Appends bytes bytes []
 appends-nothing None = tt
 appends-nothing (Some bytes) = sym (append-nil bytes)
 
--- a link is itself, later on
+-- a link is a later state of itself
 pub link-itself : {W : Type 0} (written : W → Option (List ℕ)) (faults : W → ℕ) (link : ByteLink W)
     → IsLater written faults link link
 link-itself written faults link = record {
@@ -53,7 +53,7 @@ link-itself written faults link = record {
   same_faults = λ none. refl;
 }
 
--- a frame was refused: a front of it was written, and not all of it, since a write failed
+-- a send failed: a proper prefix of the frame was written, since a write failed
 pub record IsRefused {W : Type 0} (written : W → Option (List ℕ)) (faults : W → ℕ) (old : ByteLink W) (frame : List ℕ)
     (new : ByteLink W) : Type 0 where
   pub same_sink : sink_name new ≡ sink_name old

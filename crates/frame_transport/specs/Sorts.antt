@@ -1,4 +1,4 @@
--- Which frames are those of calls: a request and a reply have a kind each, and a hello is no call's.
+-- Which frames are those of calls: a request and a reply have a kind each, and a hello is no call.
 use Rattle.std.specs.Prelude.{ℕ, ◌==◌, if◌then◌else◌, Option, Some, None}
 use Rattle.mrpc_table.specs.declared.call.Sort.{Sort}
 use Rattle.mrpc_table.specs.declared.call.Sort.TheVariants.{Request, Reply}

@@ -1,11 +1,11 @@
--- Frames where they stand in the bytes of a stream.
+-- Frames in place in the bytes of a stream.
 use Rattle.std.specs.Prelude.{◌≡◌, ℕ, ◌+◌, List, ◌++◌, length, drop}
 use Rattle.frame_transport.specs.Frames.{IsFrame, bytes_of}
 use Rattle.frame_transport.specs.declared.format.TheConstants.{HEADER_LEN}
 use Rattle.frame_transport.specs.declared.format.Frame.{Frame}
 use Rattle.frame_transport.specs.declared.standing.FrameRef.{FrameRef}
 
--- the frame, with the payload that is borrowed
+-- the frame, with its borrowed payload
 abbrev pub frame_of : FrameRef → Frame
 frame_of f = record {
   kind = f.kind;
@@ -17,7 +17,7 @@ frame_of f = record {
   place = f.place;
 }
 
--- this frame stands at the front of the bytes of a stream from this place on
+-- this frame is at the start of the bytes of a stream, which are at this offset
 pub record StandsAt (place : ℕ) (bytes : List ℕ) (f : Frame) : Type 0 where
   pub frame : IsFrame f
   pub stands : f.place ≡ place

@@ -1,4 +1,4 @@
-//! How what a feed keeps goes on with a piece.
+//! How a feed advances with a further piece.
 
 ghost use Rattle.std.specs.Prelude.{◌≡◌, ◌+◌, ◌<◌, ◌^◌, ◌++◌, length, min, is_some, if◌then◌else◌, OnOk, OnErr, IfOk, None};
 ghost use Rattle.frame_transport.specs.Frames.{IsPartial};
@@ -12,19 +12,19 @@ use mrpc_table::Memory;
 use std::alloc::Global;
 use std::collections::VecDeque;
 
-// How far a piece brought a feed.
+// The progress that a piece made.
 #[derive(Drop)]
 pub(crate) struct Advance {
-    // The place behind the last whole frame.
+    // The offset after the last whole frame.
     pub end: u64,
-    // How many bytes of the piece lie so far behind a fault that they aren't kept.
+    // How many bytes of the piece aren't kept, because they are past a fault.
     pub dropped: usize,
-    // The fault behind the last whole frame.
+    // The fault after the last whole frame.
     pub fault: Option<FeedFault>,
 }
 
-// Goes on with a piece behind `begun`, whose first byte has the place `end`. Without memory
-// nothing changes.
+// Advances by a piece that follows `begun`, whose first byte is at offset `end`. If it is out of memory, nothing
+// changes.
 pub(crate) fn go_on(
     alloc: Global,
     end: u64,
@@ -51,8 +51,8 @@ pub(crate) fn go_on(
     })
 }
 
-// Adds the frames to those that wait, and the bytes behind them to the frame that has begun,
-// which is another one where there are frames.
+// Appends the frames to the waiting ones, and the bytes after them to those of the partial frame. If there are frames,
+// the partial frame is a new one.
 fn keep(
     alloc: Global,
     waiting: &mut VecDeque<Frame>,
@@ -75,8 +75,8 @@ fn keep(
     Ok(())
 }
 
-// How many of the bytes behind the last whole frame are kept: all of them, or up to their fault
-// and further by less than a header.
+// How many of the bytes after the last whole frame are kept: all of them, or with a fault at most as many as a header
+// has.
 fn kept_len(fault: Option<FeedFault>, left: usize) -> usize
     ensures { result ≡ (if is_some fault then min left HEADER_LEN else left) }
 {

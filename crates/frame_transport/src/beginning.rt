@@ -1,4 +1,4 @@
-//! The header at the front of bytes that come in two parts.
+//! The header at the start of bytes that come in two parts.
 
 ghost use Rattle.std.specs.Prelude.{◌<◌, ◌^◌, ◌++◌};
 ghost use Rattle.frame_transport.specs.Frames.{IsPartial};
@@ -7,18 +7,18 @@ ghost use Rattle.frame_transport.specs.Parts.{Begins};
 use crate::fault::FeedFault;
 use crate::header::{Header, HeaderPart, fault_in, read_header};
 
-// How a stream begins.
+// The header at the start of a stream.
 #[derive(Drop)]
 pub(crate) enum Beginning {
-    // A field has a fault.
+    // A field of the header is at fault.
     Fault(FeedFault),
-    // The header isn't whole yet, and has no fault so far.
+    // The header isn't complete yet, and has no fault so far.
     Short,
     // A header without a fault.
     Clear(Header),
 }
 
-// Reads the header at the front of `begun` and then `piece`, the first byte at this place.
+// Reads the header at the start of `begun` and then `piece`; the first byte is at offset `place`.
 pub(crate) fn read_beginning(place: u64, begun: &[u8], piece: &[u8]) -> Beginning
     requires partial { IsPartial begun.now }
     requires room { place < 2 ^ 63 }

@@ -1,4 +1,4 @@
-//! A link over a sink: the frames that are handed over are written, and nothing comes.
+//! A link over a sink: it writes the frames that are sent, and receives nothing.
 ghost use Rattle.std.specs.Prelude.{◌≡◌, ◌≢◌, ◌≤◌, [], ◌∷◌, ◌++◌, length, IsTrue, true, false};
 ghost use Rattle.std.specs.Io.KnownBytes.{Appends};
 ghost use Rattle.mrpc_base.specs.Faults.{HasCause};
@@ -8,19 +8,19 @@ ghost use Rattle.frame_transport.specs.Links.{sink_of, sink_name, frames_of, has
 use crate::handed::HandedFrames;
 use mrpc_base::{Came, Handed, Link, Sink, write_all};
 
-/// A link over a sink. Each of its writes is handed all that is left of the frame, until the frame is out. Its
-/// `receive` answers `End`, since nothing comes from a sink.
+/// A link over a sink. Each write passes all the remaining bytes of the frame, until the whole frame is written.
+/// `receive` returns `End`, since a sink gives no bytes.
 #[derive(Drop)]
 pub struct ByteLink<'a, W> {
     sink: &'a mut W,
     handed: HandedFrames,
-    // How many sends have failed; it stands still at 2^64 - 1.
+    // How many sends have failed. It saturates at 2^64 - 1.
     failures: u64,
     ended: bool,
 }
 
 impl<'a, W: Sink> ByteLink<'a, W> {
-    /// A link to which nothing was handed. Once it is gone, the sink is as it left it.
+    /// A link that has sent nothing. When it is dropped, the sink stays as the link left it.
     pub fn new(sink: &'a mut W) -> ByteLink<'a, W>
         ensures same_sink { sink_name result ≡ sink.entry.ghost_name }
         ensures untouched { sink_of result ≡ sink.old }
@@ -42,36 +42,36 @@ impl<W: Sink> Link for ByteLink<'_, W> {
 
     ghost handed = { frames_of };
 
-    // Nothing ever comes.
+    // No byte is ever received.
     ghost given = { λ _. Some [] };
 
     ghost ended = { has_ended };
 
-    // It never answers that nothing was ready, and says nothing of another side.
+    // It never returns `Idle`, and `End` implies nothing about a peer.
     ghost nothing_ready = { λ _ _. ⊥ };
 
     ghost peer_finished = { λ _ _. ⊤ };
 
     ghost faults = { failures_of };
 
-    // It writes into the same sink, which gained the frames that were handed over since, as long as no send failed.
+    // A later state writes to the same sink. The sink gained the frames sent since, as long as no send failed.
     ghost since = { IsLater W.written W.faults };
 
     ghost use Rattle.frame_transport.specs.Links.{link-itself};
 
     ghost itself = { link-itself W.written W.faults };
 
-    // A front of the frame is out, since a write failed.
+    // A proper prefix of the frame is written, since a write failed.
     ghost refused = { IsRefused W.written W.faults };
 
     fn send(&mut self, frame: &[u8]) -> Handed
-        // The frame is out whole, or a write failed and a front of it is out, and not all of it.
+        // The whole frame is written, or a write failed and a proper prefix of the frame is written.
         ensures done { result ≡ Handed.Done
             → Appends (W.written (sink_of self.old)) (W.written (sink_of self.new)) frame.now }
         ensures front { result ≡ Handed.Failed
             → AppendsFront (W.written (sink_of self.old)) (W.written (sink_of self.new)) frame.now }
         ensures memory { result ≢ Handed.Memory }
-        // An empty frame takes no write.
+        // An empty frame makes no write.
         ensures empty { length frame.now ≡ 0 → (result ≡ Handed.Done) × (sink_of self.new ≡ sink_of self.old) }
 
         ensures appended { result ≡ Handed.Done → frames_of self.new ≡ frames_of self.old ++ frame.now ∷ [] }
@@ -103,7 +103,7 @@ impl<W: Sink> Link for ByteLink<'_, W> {
         Came::End
     }
 
-    // A sink has no end that could be told.
+    // A sink has no sending side to close.
     fn finish(&mut self)
         ensures { self.new ≡ self.old }
     {}

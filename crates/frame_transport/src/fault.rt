@@ -1,4 +1,4 @@
-//! What is wrong with a stream of frames.
+//! The faults of a stream of frames.
 
 ghost use Rattle.std.specs.Prelude.{◌≡◌};
 ghost use Rattle.frame_transport.specs.declared.fault.FeedFault.TheVariants.{Memory as OutOfMemory};
@@ -6,20 +6,20 @@ ghost use Rattle.frame_transport.specs.declared.fault.FeedFault.TheVariants.{Mem
 use mrpc_table::Memory;
 use thiserror::Error;
 
-/// The first field of a stream that no frame can have, or running out of memory. A place counts bytes of
-/// the whole stream from 0.
+/// The first field of a stream that no frame can have, or out of memory. Offsets count the bytes of the whole stream
+/// from 0.
 #[derive(Clone, Copy, Debug, Error)]
 pub enum FeedFault {
-    /// A version other than 1, and in a hello other than 1 and 2, at the version's byte.
+    /// The version isn't 1, or in a hello neither 1 nor 2. The offset is that of the version.
     #[error("version {value} at byte {place}")]
     Version { place: u64, value: u8 },
-    /// A kind other than 1, 2 and 3, at the kind's byte.
+    /// The kind isn't 1, 2 or 3. The offset is that of the kind.
     #[error("kind {value} at byte {place}")]
     Kind { place: u64, value: u8 },
-    /// A payload of more than 262144 bytes, at the first byte of its length.
+    /// The payload has more than 262144 bytes. The offset is that of the length.
     #[error("payload of {value} bytes at byte {place}")]
     TooLong { place: u64, value: u32 },
-    /// No memory was found. The feed is as before.
+    /// Out of memory. The feed is unchanged.
     #[error("out of memory")]
     Memory,
 }

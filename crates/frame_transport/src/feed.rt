@@ -1,4 +1,4 @@
-//! A stream in pieces, and its frames.
+//! Splits a stream that comes in pieces into frames.
 
 ghost use Rattle.std.specs.Prelude.{◌≡◌, ◌+◌, ◌<◌, ◌^◌, ◌++◌, ◌↔◌, ◌⊎◌, [], length, IsNone, OnOk, IfErr, IfNone, IfSome, IsErrOf, List, Some, None, slice_get, ℕ};
 
@@ -10,24 +10,24 @@ use std::alloc::Global;
 use std::collections::VecDeque;
 use std::marker::Model;
 
-/// A stream that comes in pieces, and gives its frames one by one.
+/// Takes a stream in pieces, and gives its frames one by one.
 ///
-/// A clause sees the part of the stream that lies in no frame taken: its place, its bytes, and how
-/// many bytes came behind these, which happens only after a fault. Bytes behind the first fault
-/// never become frames, so they are counted and not kept. Each byte of a payload is copied at most
-/// twice, and the time goes with the bytes fed, however they are cut.
+/// Contracts see the part of the stream after the frames that were taken: its offset, its bytes, and how many more
+/// bytes were fed and not kept. Bytes are dropped only past the first fault, since they never become frames; they are
+/// just counted. Each byte of a payload is copied at most twice, and the time is linear in the bytes fed, however they
+/// are split into pieces.
 #[derive(Drop)]
 pub struct Feed {
     alloc: Global,
-    // The whole frames that weren't taken, the oldest first.
+    // The whole frames that weren't taken yet, the oldest first.
     waiting: VecDeque<Frame>,
-    // What has come of the frame behind them, up to its fault or further where it has one.
+    // The bytes of the partial frame after them; with a fault, at least the bytes up to it.
     begun: Vec<u8>,
-    // The place of the first byte that lies in no frame taken.
+    // The offset after the frames that were taken.
     taken: u64,
-    // The place of the first byte of `begun`.
+    // The offset of the first byte of `begun`.
     end: u64,
-    // How many bytes came behind those of `begun`, where it has a fault.
+    // How many bytes were fed after those of `begun`, if it has a fault.
     behind: u64,
 }
 
@@ -53,7 +53,7 @@ impl Feed {
     ghost use Rattle.frame_transport.specs.Frames.{Ends, IsPartial, Splits};
     ghost use Rattle.frame_transport.specs.declared.format.Frame.{Frame};
 
-    /// A stream of which nothing has come. It takes no memory.
+    /// An empty stream. It allocates nothing.
     pub fn new(alloc: Global) -> Feed
         ensures { result ≡ record { place = 0; bytes = []; behind = 0 } }
     {
@@ -67,17 +67,17 @@ impl Feed {
         }
     }
 
-    /// Takes the next piece of the stream, of which fewer than 2^63 bytes may come. It answers the
-    /// first fault of the stream so far as soon as its field is there, and again at each later
-    /// piece; the frames in front of it can still be taken. `Memory` leaves the feed as it was.
+    /// Feeds the next piece of the stream. A stream has fewer than 2^63 bytes. Returns the first fault of the stream as
+    /// soon as its field is complete, and again for each later piece. The frames before the fault can still be taken.
+    /// `Memory` leaves the feed unchanged.
     pub fn feed(&mut self, piece: &[u8]) -> Result<(), FeedFault>
         requires { total self.old + length piece.now < 2 ^ 63 }
 
-        // The stream goes on, and there is no fault in it so far.
+        // The piece is appended, and the stream has no fault so far.
         ensures ok { OnOk result (GoesOn self.old piece.now self.new) }
         ensures clean { OnOk result (Ends self.old.place (self.old.bytes ++ piece.now) None) }
 
-        // A fault is the first one of the stream with the piece.
+        // The fault is the first one of the stream with this piece.
         ensures fault { IfErr result (λ fault. (fault ≡ FeedFault.Memory)
             ⊎ Ends self.old.place (self.old.bytes ++ piece.now) (Some fault)) }
         ensures stops { IfErr result (λ fault. (fault ≡ FeedFault.Memory) ⊎ StopsAt self.old piece.now fault self.new) }
@@ -99,7 +99,7 @@ impl Feed {
         Ok(())
     }
 
-    /// The next frame of the stream, or None where no whole frame is left. It takes no memory.
+    /// Takes the next frame of the stream; `None` if no whole frame remains. It allocates nothing.
     pub fn next(&mut self) -> Option<Frame>
         ensures none { IsNone result ↔ IsPartial self.old.bytes }
         ensures same { IfNone result (self.new ≡ self.old) }
@@ -110,7 +110,7 @@ impl Feed {
         Some(frame)
     }
 
-    /// The whole frame behind `i` others that weren't taken, or None where no more are there. It stays where it is.
+    /// The frame at index `i` among those that weren't taken yet; `None` if there are fewer. It isn't taken.
     pub fn peek(&self, i: usize) -> Option<&Frame>
         ensures some { IfSome result (λ frame. (frames : List Frame) (rest : List ℕ)
             → Splits self.now.place self.now.bytes frames rest → slice_get frames i ≡ Some frame.now) }
@@ -120,7 +120,7 @@ impl Feed {
         self.waiting.get(i)
     }
 
-    /// How many bytes were fed behind the last whole frame.
+    /// How many bytes were fed after the last whole frame.
     pub fn left_over(&self) -> u64
         ensures { (frames : List Frame) (rest : List ℕ) → Splits self.now.place self.now.bytes frames rest
             → result ≡ length rest + self.now.behind }
@@ -128,7 +128,7 @@ impl Feed {
         self.begun.len() as u64 + self.behind
     }
 
-    /// How many bytes were fed that lie in no frame taken.
+    /// How many bytes were fed after the frames that were taken.
     pub fn rest(&self) -> u64
         ensures { result ≡ length self.now.bytes + self.now.behind }
     {

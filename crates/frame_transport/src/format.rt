@@ -5,19 +5,19 @@ ghost use Rattle.frame_transport.specs.Sorts.{kind_of, sort_of_kind};
 
 use mrpc_table::{Bytes, Sort};
 
-/// The bytes of a frame in front of its payload.
+/// The length of a frame's header, in bytes.
 pub const HEADER_LEN: usize = 16;
 
-/// Where the number of the method begins in a header.
+/// The offset of the method in a header.
 pub const METHOD_PLACE: u64 = 6;
 
-/// The most bytes that a payload has.
+/// The most bytes of a payload.
 pub const MAX_PAYLOAD: usize = 262144;
 
 /// The version of requests and replies. A hello may have it too.
 pub const VERSION: u8 = 1;
 
-/// The version that a hello alone may have.
+/// The version that only a hello may have.
 pub const HELLO_VERSION: u8 = 2;
 
 /// The kind of a request.
@@ -26,7 +26,7 @@ pub const REQUEST: u8 = 1;
 /// The kind of a reply.
 pub const REPLY: u8 = 2;
 
-/// The kind of a hello, which opens a connection. There is no greater one.
+/// The kind of a hello, which opens a connection. It is the greatest kind.
 pub const HELLO: u8 = 3;
 
 /// The kind of the frames of requests, or of replies.
@@ -41,7 +41,7 @@ pub fn kind_of(sort: Sort) -> u8
     }
 }
 
-// Whether the frames of a kind are those of requests or of replies; None for a hello.
+// Whether the frames of a kind are requests or replies; `None` for a hello.
 pub(crate) fn sort_of_kind(kind: u8) -> Option<Sort>
     ensures { result ≡ sort_of_kind kind }
 {
@@ -54,27 +54,28 @@ pub(crate) fn sort_of_kind(kind: u8) -> Option<Sort>
     }
 }
 
-/// A frame that came on a stream.
+/// A frame that was received from a stream.
 #[derive(Drop)]
 pub struct Frame {
     /// 1 for a request, 2 for a reply, 3 for a hello.
     pub kind: u8,
     /// 1, or in a hello also 2.
     pub version: u8,
-    /// The method's index; in a hello it says nothing.
+    /// The method's index; it has no meaning in a hello.
     pub method: u16,
     /// The sender's connection.
     pub conn: u32,
-    /// The sequence number of a request, the answered number of a reply; in a hello it says nothing.
+    /// The sequence number of a request, or the number of the request that a reply answers; it has no meaning in a
+    /// hello.
     pub number: u32,
     /// The payload, at most 262144 bytes.
     pub payload: Bytes,
-    /// The place of the frame's first byte in its stream, from 0.
+    /// The offset of the frame's first byte in its stream, from 0.
     pub place: u64,
 }
 
 impl Frame {
-    /// Whether it is the frame of a request or of a reply; None for a hello.
+    /// Whether it is a request or a reply; `None` for a hello.
     pub fn sort(&self) -> Option<Sort>
         ensures { result ≡ sort_of_kind self.now.kind }
     {

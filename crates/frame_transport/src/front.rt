@@ -1,4 +1,4 @@
-//! What stands at the front of bytes that come in two parts.
+//! The frame at the start of bytes that come in two parts.
 
 ghost use Rattle.std.specs.Prelude.{◌≡◌, ◌+◌, ◌<◌, ◌≤◌, ◌^◌, ◌++◌, length, take, drop, IfOk};
 ghost use Rattle.frame_transport.specs.Frames.{IsPartial};
@@ -10,7 +10,7 @@ use crate::format::{Frame, HEADER_LEN, MAX_PAYLOAD};
 use mrpc_table::{Bytes, Memory};
 use std::alloc::Global;
 
-// What stands at the front of a stream.
+// What is at the start of a stream: a whole frame, a part of one, or a fault.
 #[derive(Drop)]
 pub(crate) enum Front {
     Whole(Frame),
@@ -18,7 +18,7 @@ pub(crate) enum Front {
     Fault(FeedFault),
 }
 
-// What stands at the front of `begun` and then `piece`, the first byte at this place.
+// What is at the start of `begun` and then `piece`; the first byte is at offset `place`.
 pub(crate) fn front_of(
     alloc: Global,
     place: u64,
@@ -49,7 +49,7 @@ pub(crate) fn front_of(
     }))
 }
 
-// The payload of this length of the frame that `begun` begins and `piece` ends.
+// The payload, of this length, of the frame that starts in `begun` and ends in `piece`.
 fn payload_of(alloc: Global, begun: &[u8], piece: &[u8], size: usize) -> Result<Bytes, Memory>
     requires short { size ≤ MAX_PAYLOAD }
     requires begun { length begun.now < HEADER_LEN + size }

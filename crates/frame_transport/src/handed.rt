@@ -1,4 +1,4 @@
-//! The frames that a link was handed. Only contracts read the list, and it takes no bytes.
+//! The frames that a link has sent. Only contracts read the list, and it takes no memory.
 ghost use Rattle.std.specs.Prelude.{◌≡◌, List, [], ◌∷◌, ◌++◌, ℕ};
 ghost use Rattle.std.specs.Borrow.{ftrue};
 
@@ -20,7 +20,7 @@ impl HandedFrames {
         HandedFrames {}
     }
 
-    // The frames with one more behind them.
+    // The frames with one more at the end.
     pub(crate) fn with(_before: &HandedFrames, _frame: &[u8]) -> HandedFrames
         ensures { result.frames ≡ _before.now.frames ++ _frame.now ∷ [] }
     {

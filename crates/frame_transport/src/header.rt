@@ -1,4 +1,4 @@
-//! The header of a frame as far as it has come.
+//! The header of a frame, as far as it was received.
 
 ghost use Rattle.std.specs.Prelude.{◌≡◌, ◌<◌, ◌^◌, ◌++◌, ◌↔◌, length, take, IsNone, IfSome, IsTrue};
 ghost use Rattle.frame_transport.specs.Frames.{IsKind, HasVersion, HasFault};
@@ -11,14 +11,14 @@ use crate::format::{
 use byteorder::{BigEndian, ByteOrder};
 use std::marker::Model;
 
-// The first bytes of two that stand one behind the other: a header, or what has come of it.
+// A header, or as much of it as was received, from the first bytes of two consecutive slices.
 #[derive(Drop)]
 pub(crate) struct HeaderPart {
     bytes: [u8; HEADER_LEN],
     len: usize,
 }
 
-// The numbers of a whole header without a fault.
+// The numbers of a complete header without a fault.
 #[derive(Drop)]
 pub(crate) struct Header {
     pub kind: u8,
@@ -41,7 +41,7 @@ impl Model for HeaderPart {
 }
 
 impl HeaderPart {
-    // The first bytes of `begun` and then `piece`, or all where there are fewer.
+    // The first bytes of `begun` and then `piece`, as many as a header has, or all if there are fewer.
     pub(crate) fn of(begun: &[u8], piece: &[u8]) -> HeaderPart
         ensures { result ≡ take HEADER_LEN (begun.now ++ piece.now) }
     {
@@ -56,7 +56,7 @@ impl HeaderPart {
         }
     }
 
-    // The bytes of a header that are there.
+    // The bytes of the header so far.
     pub(crate) fn bytes(&self) -> &[u8]
         ensures { result.now ≡ self.now }
     {
@@ -64,8 +64,7 @@ impl HeaderPart {
     }
 }
 
-// The first fault of bytes that stand at this place. Each field is judged as soon as it is there,
-// in the order of their bytes.
+// The first fault of bytes at this offset. Each field is checked as soon as it is complete, in the order of the bytes.
 #[tactic(auto, unfolding(crate::specs::Frames::length_in))]
 pub(crate) fn fault_in(place: u64, bytes: &[u8]) -> Option<FeedFault>
     requires { place < 2 ^ 63 }
@@ -97,14 +96,14 @@ pub(crate) fn fault_in(place: u64, bytes: &[u8]) -> Option<FeedFault>
     })
 }
 
-// Whether frames have this kind.
+// Whether a frame can have this kind.
 fn is_kind(kind: u8) -> bool
     ensures { IsTrue result ↔ IsKind kind }
 {
     kind >= REQUEST && kind <= HELLO
 }
 
-// Whether frames of this kind have this version.
+// Whether a frame of this kind can have this version.
 fn has_version(kind: u8, version: u8) -> bool
     ensures { IsTrue result ↔ HasVersion kind version }
 {

@@ -1,4 +1,4 @@
-//! What holds of all streams.
+//! Laws of all streams.
 
 ghost use Rattle.std.specs.Prelude.{◌≡◌, ◌<◌, ◌+◌, ◌++◌, ℕ, List, [], length, All};
 ghost use Rattle.frame_transport.specs.Frames.{AlwaysSplits, SplitsOnce, FaultStays, AlwaysEnds, EndsOnce, StaysShort, IsFrame, bytes_of, joined, StandFrom, IsPartial, IsFaultAt, Splits};
@@ -6,9 +6,9 @@ ghost use Rattle.frame_transport.specs.declared.format.Frame.{Frame};
 ghost use Rattle.frame_transport.specs.declared.format.TheConstants.{HEADER_LEN};
 ghost use Rattle.frame_transport.specs.declared.fault.FeedFault.{FeedFault};
 
-/// A stream of bytes splits into its frames, and in one way, however it was cut into pieces. It has
-/// one first fault or none so far, and a fault stays, with the frames in front of it, however the
-/// stream goes on. The call does nothing.
+/// A stream of bytes splits into its frames in exactly one way, however it is split into pieces. It has exactly one
+/// first fault, or none so far. A fault stays, together with the frames before it, whatever follows in the stream. The
+/// call does nothing; its clauses are the laws.
 pub fn one_split()
     ensures splits { AlwaysSplits }
     ensures once { SplitsOnce }
@@ -17,8 +17,8 @@ pub fn one_split()
     ensures one_end { EndsOnce }
 {}
 
-/// The bytes of a frame in front of others determine it. It has a header of 16 bytes, and nothing is at fault before a
-/// length is there. A frame that has begun without a fault isn't longer than one with the largest payload.
+/// A frame is determined by the bytes that start with it. It has a header of 16 bytes, and no fault is found before its
+/// length is complete. A partial frame without a fault isn't longer than a frame with the largest payload.
 pub fn one_frame()
     ensures once { (f g : Frame) (more others : List ℕ) → IsFrame f → IsFrame g
         → bytes_of f ++ more ≡ bytes_of g ++ others
@@ -30,7 +30,7 @@ pub fn one_frame()
     ensures begun { StaysShort }
 {}
 
-/// Frames and those behind them are frames one behind another.
+/// Frames followed by further frames are a sequence of frames.
 pub fn frames_join()
     ensures places { (place : ℕ) (frames others : List Frame) → StandFrom place frames
         → StandFrom (place + length (joined frames)) others → StandFrom place (frames ++ others) }

@@ -1,15 +1,16 @@
-//! Frames: how calls and replies stand on a byte stream, and how they're found in it however it is cut.
+//! Frames: the format of calls and replies on a byte stream, and a reader that finds them however the stream is split
+//! into pieces.
 //!
-//! [`frame`] writes the bytes of a frame, a [`ByteLink`] sends them over a sink, and a [`Feed`] takes a
-//! stream in any pieces and gives its frames; [`frame_at`] reads the frame at the front of a stream that
-//! is there as a whole. The format is this project's own: a header of 16 bytes
-//! (the payload's length, the kind, the version, the method, the connection and the number, each
-//! number big-endian) and then the payload. It stands on `mrpc_base` for links and sinks, on
-//! `mrpc_table` for lists of bytes, on `byteorder` for the header's numbers and on `thiserror` for the
-//! faults of a stream. The layer above uses two contracts: the frames that a feed gives are those of the
-//! stream that it was fed, in order and each once, with the stream's first fault behind them; and a frame
-//! that a link over a sink was handed was written whole, or else a write failed and a front of it was
-//! written.
+//! [`frame`] writes the bytes of a frame, a [`ByteLink`] sends them over a sink, and a [`Feed`] takes a stream in any
+//! pieces and gives its frames. [`frame_at`] reads the first frame of a stream that is complete in memory. The format
+//! is this project's own: a header of 16 bytes, followed by the payload. The header is the payload's length, the kind,
+//! the version, the method, the connection and the number, each number big-endian.
+//!
+//! This crate depends on `mrpc_base` for links and sinks, on `mrpc_table` for lists of bytes, on `byteorder` for the
+//! header's numbers and on `thiserror` for the faults of a stream. The layer above uses two contracts. The frames that
+//! a feed gives are those of the stream that it was fed, in order and each once, followed by the stream's first fault.
+//! A frame that a link over a sink has sent was written whole; otherwise a write failed, and a proper prefix of the
+//! frame was written.
 #![tactic(auto)]
 
 mod advance;

@@ -1,4 +1,4 @@
-//! The whole frames at the front of a stream.
+//! The whole frames at the start of a stream.
 
 ghost use Rattle.std.specs.Prelude.{◌≡◌, ◌+◌, ◌<◌, ◌≤◌, ◌^◌, length, IfOk};
 ghost use Rattle.frame_transport.specs.Frames.{IsPartial};
@@ -11,20 +11,20 @@ use mrpc_table::Memory;
 use std::alloc::Global;
 use std::collections::VecDeque;
 
-// The frames that a piece ends, and what follows them.
+// The frames that end in a piece, and what follows them.
 #[derive(Drop)]
 pub(crate) struct Found<'a> {
     // The frames, in order.
     pub frames: VecDeque<Frame>,
-    // The place behind them.
+    // The offset after them.
     pub end: u64,
-    // The bytes of the piece that lie in none of them.
+    // The bytes of the piece that are in none of them.
     pub left: &'a [u8],
-    // The fault that stands behind them.
+    // The fault after them.
     pub fault: Option<FeedFault>,
 }
 
-// Splits `begun` and then `piece`, the first byte at this place.
+// Splits `begun` and then `piece` into frames; the first byte is at offset `place`.
 pub(crate) fn split<'a>(
     alloc: Global,
     place: u64,

@@ -1,4 +1,4 @@
-//! A frame where it stands in the bytes of a stream.
+//! Frames in place in the bytes of a stream.
 
 ghost use Rattle.std.specs.Prelude.{◌≡◌, ◌<◌, ◌^◌, IfOk, IfErr, IfSome, IfNone, Some, None, length};
 ghost use Rattle.mrpc_table.specs.Valid.{IsValid};
@@ -19,28 +19,29 @@ pub struct FrameRef<'a> {
     pub kind: u8,
     /// 1, or in a hello also 2.
     pub version: u8,
-    /// The method's index; in a hello it says nothing.
+    /// The method's index; it has no meaning in a hello.
     pub method: u16,
     /// The sender's connection.
     pub conn: u32,
-    /// The sequence number of a request, the answered number of a reply; in a hello it says nothing.
+    /// The sequence number of a request, or the number of the request that a reply answers; it has no meaning in a
+    /// hello.
     pub number: u32,
     /// The payload, at most 262144 bytes.
     pub payload: &'a [u8],
-    /// The place of the frame's first byte in its stream, from 0.
+    /// The offset of the frame's first byte in its stream, from 0.
     pub place: u64,
 }
 
 impl<'a> FrameRef<'a> {
-    /// Whether it is the frame of a request or of a reply; None for a hello.
+    /// Whether it is a request or a reply; `None` for a hello.
     pub fn sort(&self) -> Option<Sort>
         ensures { result ≡ sort_of_kind self.now.kind }
     {
         sort_of_kind(self.kind)
     }
 
-    /// The message that the payload of a request or a reply is of, by its place in the table: the method's input or its
-    /// output.
+    /// The message that the payload of a request or a reply encodes, by its index in the table: the method's input or
+    /// its output.
     pub fn payload_message(&self, table: &Table) -> u32
         requires valid { IsValid table.now }
         requires known { self.now.method < length table.now.methods }
@@ -52,8 +53,8 @@ impl<'a> FrameRef<'a> {
     }
 }
 
-/// The frame at the front of the bytes of a stream from this place on, or None where they end inside a frame that has
-/// no fault so far. The error is the first fault of its header. It takes no memory, and `Memory` never comes.
+/// Reads the first frame of the bytes of a stream, which are at this offset. `None` if they end inside a frame that has
+/// no fault so far. The error is the first fault of its header. It allocates nothing, and never returns `Memory`.
 pub fn frame_at<'a>(place: u64, bytes: &'a [u8]) -> Result<Option<FrameRef<'a>>, FeedFault>
     requires room { place < 2 ^ 63 }
     ensures frame { IfOk result (λ front. IfSome front (λ frame. StandsAt place bytes.now (frame_of frame))) }

@@ -1,4 +1,4 @@
-//! The bytes of a frame, to be sent.
+//! Writes the bytes of a frame.
 
 ghost use Rattle.std.specs.Prelude.{◌≡◌, ◌≤◌, ◌++◌, length, IfOk, OnOk};
 ghost use Rattle.frame_transport.specs.Bytes.{frame_bytes};
@@ -29,7 +29,7 @@ pub fn frame(
     Ok(bytes)
 }
 
-/// The same, written in place of what `out` has, whose room is used again.
+/// Like `frame`, but overwrites `out` and reuses its capacity.
 pub fn frame_into(
     out: &mut Bytes,
     kind: u8,

@@ -1,4 +1,4 @@
--- Frames that are shown one behind another.
+-- Views of consecutive frames.
 use Rattle.std.proofs.Common.{◌≡◌, ℕ, ◌+◌, ◌≤◌, List, [], ◌∷◌, ◌++◌, length, drop, refl, sym, ap, subst, ◌∙◌, append_assoc, append-nil}
 use Rattle.std.specs.Prelude.{Result, Ok, Err, IfErr}
 use Rattle.mrpc_table.specs.declared.table.Table.{Table}
@@ -15,19 +15,19 @@ use Rattle.frame_view.specs.Written.{OnStop}
 use Rattle.frame_view.specs.declared.views.Stop.{Stop}
 use Rattle.frame_view.specs.declared.views.Stop.TheVariants.{Read, Out}
 
--- what follows from a property of a fault, holds of it
+-- what follows from a property of a fault, holds for it
 pub on_fault : (P Q : ℕ → List ℕ → Type 0) (fault : ReadFault) → ((place : ℕ) (word : List ℕ) → P place word → Q place word) → OnFault P fault → OnFault Q fault
 on_fault P Q (At place word) then h = then place word.now h
 on_fault P Q Memory then h = tt
 
--- and holds of why no more frames are shown
+-- and holds for the reason why the view stops
 pub if_stop : (P Q : ℕ → List ℕ → Type 0) (r : Result (Unit {0}) Stop)
     → ((place : ℕ) (word : List ℕ) → P place word → Q place word) → IfErr r (OnStop P) → IfErr r (OnStop Q)
 if_stop P Q (Ok done) then h = tt
 if_stop P Q (Err (Read fault)) then h = on_fault P Q fault then h
 if_stop P Q (Err Out) then h = tt
 
--- the views of frames, and of those behind them
+-- the views of frames, followed by the views of the next frames
 views-append : (T : Table) (fs gs : List Frame) (a b : List ℕ) → AreViewsOf T fs a → AreViewsOf T gs b → AreViewsOf T (fs ++ gs) (a ++ b)
 views-append T [] gs a b p q = subst (λ (x : List ℕ). AreViewsOf T gs (x ++ b)) (sym p) q
 views-append T (f ∷ fs) gs a b p q = (p.0, p.1 ++ b, p.2, views-append T fs gs p.1 b p.3 q, ap (λ (x : List ℕ). x ++ b) p.4 ∙ append_assoc p.0 p.1 b)
@@ -35,7 +35,7 @@ views-append T (f ∷ fs) gs a b p q = (p.0, p.1 ++ b, p.2, views-append T fs gs
 view_alone : (T : Table) (f : Frame) (text : List ℕ) → IsViewOf T f text → AreViewsOf T (f ∷ []) text
 view_alone T f text h = (text, [], h, refl, sym (append-nil text))
 
--- what holds of frames that stand one behind another
+-- laws of consecutive frames
 pub record WalkLaw : Type 0 where
   pub none : (stream : List ℕ) (from : ℕ) → Stands stream from from []
   pub one : (stream : List ℕ) (from to : ℕ) (f : Frame) → StandsAt from (drop from stream) f → to ≡ from + (16 + length f.payload) → Stands stream from to (f ∷ [])

@@ -1,4 +1,4 @@
--- How frames are shown (this project's own, around the text format of Protocol Buffers).
+-- The view of frames (this project's own, around the text format of Protocol Buffers).
 use Rattle.std.specs.Prelude.{◌≡◌, ℕ, ◌==◌, List, [], ◌∷◌, ◌++◌, length, codes, option_map, slice_get, unwrap_or}
 use Rattle.std.specs.Prelude.{if◌then◌else◌}
 use Rattle.std.specs.Fmt.{decimal}
@@ -18,17 +18,17 @@ path_of T method = unwrap_or (option_map (λ m. m.service ++ (codes "/" ++ m.nam
 abbrev pub sort_word : ℕ → List ℕ
 sort_word kind = if kind == REQUEST then codes "request" else codes "reply"
 
--- the line of a hello: its connection, and how many bytes its payload has
+-- the line of a hello: its connection, and the length of its payload in bytes
 abbrev pub hello_head : Frame → List ℕ
 hello_head f = line (codes "#" ∷ codes "hello" ∷ codes "conn" ∷ decimal f.conn ∷ codes "bytes" ∷ decimal (length f.payload)
     ∷ [])
 
--- the line in front of a message: what it is, of which method, from which connection, and its number
+-- the line before a message: its kind, its method, its connection, and its number
 abbrev pub call_head : Table → Frame → List ℕ
 call_head T f = line (codes "#" ∷ sort_word f.kind ∷ path_of T f.method ∷ codes "conn" ∷ decimal f.conn ∷ codes "number"
     ∷ decimal f.number ∷ [])
 
--- how a frame is shown: a hello by a line, and a request or a reply by a line and the text of its message
+-- the view of a frame: a line for a hello, and a line and the text of the message for a request or a reply
 pub data IsViewOf (T : Table) (f : Frame) (text : List ℕ) : Type 0 where
   view_of_hello : f.kind ≡ HELLO → text ≡ hello_head f → IsViewOf T f text
   view_of_call : (t : Node) (shown : List ℕ) → IsMessageOf T f t → IsTextOf T (message_in T f) t shown

@@ -1,4 +1,4 @@
--- The code's own: frames of a stream that are shown, one behind another.
+-- The code's own: views of consecutive frames of a stream.
 use Rattle.std.specs.Prelude.{ℕ, List, Option}
 use Rattle.std.specs.Io.KnownBytes.{Appends}
 use Rattle.mrpc_table.specs.declared.table.Table.{Table}
@@ -6,13 +6,13 @@ use Rattle.frame_transport.specs.declared.format.Frame.{Frame}
 use Rattle.frame_reading.specs.Walks.{Stands}
 use Rattle.frame_view.specs.Views.{AreViewsOf}
 
--- the stream is frames from one place to another, and the text shows them
+-- the stream is frames from one offset to another, and the text is their view
 pub record Shows (T : Table) (stream : List ℕ) (from to : ℕ) (text : List ℕ) : Type 0 where
   pub frames : List Frame
   pub stands : Stands stream from to frames
   pub views : AreViewsOf T frames text
 
--- what was written shows the frames up to a place
+-- the view of the frames up to an offset was written
 pub record WritesShown (T : Table) (stream : List ℕ) (to : ℕ) (out out' : Option (List ℕ)) : Type 0 where
   pub text : List ℕ
   pub shows : Shows T stream 0 to text

@@ -1,4 +1,4 @@
--- What is written of an input.
+-- What is written for an input.
 use Rattle.std.specs.Prelude.{ℕ, List, [], drop, Option}
 use Rattle.std.specs.Io.KnownBytes.{Appends}
 use Rattle.mrpc_table.specs.declared.table.Table.{Table}
@@ -11,12 +11,12 @@ use Rattle.frame_view.specs.Views.{AreViewsOf}
 use Rattle.frame_view.specs.declared.views.Stop.{Stop}
 use Rattle.frame_view.specs.declared.views.Stop.TheVariants.{Read, Out}
 
--- P holds of the place and the word of a fault of the input
+-- P holds of the location and the word of a fault of the input
 abbrev pub OnStop : (ℕ → List ℕ → Type 0) → Stop → Type 0
 OnStop P (Read fault) = OnFault P fault
 OnStop P Out = Unit {0}
 
--- the input is a table's text and whole frames, and what was written shows them all
+-- the input is a table's text and whole frames, and the view of all of them was written
 pub record ViewsText (text : List ℕ) (out out' : Option (List ℕ)) : Type 0 where
   pub table : Table
   pub stream : List ℕ
@@ -27,8 +27,8 @@ pub record ViewsText (text : List ℕ) (out out' : Option (List ℕ)) : Type 0 w
   pub views : AreViewsOf table frames shown
   pub written : Appends out out' shown
 
--- The input has this first fault: of its text, and nothing was written, or of its frames, and what was written shows
--- those in front of it.
+-- The input has this first fault: in its text, and nothing was written; or in its frames, and the view of the
+-- frames before it was written.
 pub data CutsView (text : List ℕ) (out out' : Option (List ℕ)) (place : ℕ) (word : List ℕ) : Type 0 where
   in_text : IsTextFault text place word → Appends out out' [] → CutsView text out out' place word
   in_stream : (T : Table) (stream shown : List ℕ) (to : ℕ) (frames : List Frame) → Holds text T stream

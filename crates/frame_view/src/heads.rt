@@ -1,4 +1,4 @@
-//! The lines in front of messages.
+//! The lines before messages.
 
 ghost use Rattle.std.specs.Prelude.{◌≡◌, ◌<◌, ◌++◌, length, OnOk};
 ghost use Rattle.frame_transport.specs.Standing.{frame_of};
@@ -18,7 +18,7 @@ pub(crate) fn put_hello(out: &mut Bytes, frame: &FrameRef) -> Result<(), Memory>
     out.append(b"\n")
 }
 
-// Appends the line in front of the message of a request or a reply.
+// Appends the line before the message of a request or a reply.
 pub(crate) fn put_call(out: &mut Bytes, table: &Table, frame: &FrameRef) -> Result<(), Memory>
     requires { frame.now.method < length table.now.methods }
     ensures { OnOk result (out.new ≡ out.old ++ call_head table.now (frame_of frame.now)) }
@@ -34,7 +34,7 @@ pub(crate) fn put_call(out: &mut Bytes, table: &Table, frame: &FrameRef) -> Resu
     out.append(b"\n")
 }
 
-// Whether it is a request or a reply.
+// The word for a request or a reply.
 fn sort_word(kind: u8) -> &'static [u8]
     ensures { result.now ≡ sort_word kind }
 {
@@ -45,7 +45,7 @@ fn sort_word(kind: u8) -> &'static [u8]
     }
 }
 
-// Appends the names of a method's service and of the method.
+// Appends the name of a method's service and the name of the method.
 fn put_path(out: &mut Bytes, table: &Table, method: u16) -> Result<(), Memory>
     requires { method < length table.now.methods }
     ensures { OnOk result (out.new ≡ out.old ++ path_of table.now method) }

@@ -1,4 +1,4 @@
-//! The frames of an input, one behind another.
+//! The frames of an input, in order.
 
 ghost use Rattle.std.specs.Prelude.{◌≡◌, ◌<◌, ◌≤◌, ◌^◌, ◌++◌, ℕ, List, length, drop, OnOk, IfOk, IfErr, Err};
 ghost use Rattle.mrpc_base.specs.Faults.{HasCause};
@@ -19,13 +19,13 @@ use mrpc_table::{Bytes, Memory, Table};
 use spare_trees::Spare;
 use std::alloc::Global;
 
-// How many bytes of text are gathered at the least before they are written.
+// The fewest bytes of text that are gathered before a write.
 const PIECE: usize = 65_536;
 
-/// Why no more frames are shown.
+/// Why the view stops.
 #[derive(Drop, Clone, Copy)]
 pub enum Stop {
-    /// The input isn't read further.
+    /// The reading of the input stopped.
     Read(ReadFault),
     /// A write failed.
     Out,
@@ -78,7 +78,7 @@ fn view_stream<K: Sink>(
     while place < stream.len() {
         let mut lines = Bytes::new(alloc);
         let told = view_piece(alloc, table, stream, place, &mut spare, &mut lines);
-        // Without memory the lines may be cut anywhere, and none of them is written.
+        // After `Memory` the lines may be truncated anywhere, so none of them is written.
         if matches!(told, Err(ReadFault::Memory)) {
             return Err(Stop::Read(ReadFault::Memory));
         }
@@ -90,8 +90,8 @@ fn view_stream<K: Sink>(
     Ok(())
 }
 
-// Appends the frames of a stream from this place on, until they are a piece or the stream ends, and answers the place
-// behind them.
+// Appends the frames of a stream from this offset until `PIECE` bytes are gathered or the stream ends.
+// Returns the offset after them.
 fn view_piece(
     alloc: Global,
     table: &Table,
@@ -119,7 +119,7 @@ fn view_piece(
     }
 }
 
-// Appends the frame at this place of a stream, and answers the place behind it.
+// Appends the frame at this offset of a stream, and returns the offset after it.
 fn view_frame(
     alloc: Global,
     table: &Table,
@@ -144,7 +144,7 @@ fn view_frame(
     Ok(from + HEADER_LEN + frame.payload.len())
 }
 
-// Appends a frame with what it has, whose room is used again.
+// Appends a frame with its content, and recycles the content's tree.
 fn put_view(
     alloc: Global,
     table: &Table,

@@ -49,7 +49,7 @@ whole T H (e ∷ es) (x ∷ xs) h =
       loads_are = ap (λ ys. x ∷ ys) (rest.loads_are ∙ parts.loads_are);
     }
 
--- the last of some
+-- the last element of a list
 pub record HasLast {X : Type 0} (xs : List X) : Type 0 where
   pub front : List X
   pub last : X
@@ -72,7 +72,7 @@ LimitLaw = (T : Table) (H msg address limit : ℕ) (xs : List (ℕ × ℕ)) (x :
     → LiesIn H address (size_words T msg) → LeadsTo T H (node_words T msg 1 address) (xs ++ x ∷ []) (e ∷ rest)
     → length (xs ++ x ∷ []) ≡ limit → IsMalformed T H msg address limit (xs ++ x ∷ []) Loads x.0 x.1
 
--- the last load says where
+-- the last load is where it stops
 pub record Stopped (T : Table) (H msg address limit : ℕ) (own : List (ℕ × ℕ)) (reason : Reason) : Type 0 where
   pub front : List (ℕ × ℕ)
   pub last : ℕ × ℕ

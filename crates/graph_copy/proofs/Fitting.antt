@@ -1,4 +1,4 @@
--- What stands behind a word that is fine lies in the heap.
+-- The words that a valid word leads to are inside the heap.
 use Rattle.std.proofs.Common.{◌≡◌, ◌≢◌, ℕ, zero, suc, ◌+◌, ◌-◌, ◌*◌, ◌<◌, ◌≤◌, List, [], ◌∷◌, ◌++◌, length, Bool}
 use Rattle.std.proofs.Common.{true, false, refl, sym, subst, arith, ◌==◌, cond, inl, inr}
 use Rattle.std.specs.Prelude.{nat_le}

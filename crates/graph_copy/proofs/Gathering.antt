@@ -38,7 +38,7 @@ onto_none : (vs : List Value) → items_onto vs no_items ≡ items_of vs
 onto_none [] = refl
 onto_none (v ∷ vs) = ap (item (item_of v)) (onto_none vs)
 
--- so many elements are left, and those before were made
+-- `left` elements remain, and those before are made
 pub record ElementsLeft (T : Table) (H : ℕ) (k : Kind) (depth left : ℕ) (all : Placed) (rest now : List (ℕ × ℕ)) (made : List Value) : Type 0 where
   pub others : Placed
   pub place : ℕ

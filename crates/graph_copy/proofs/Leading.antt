@@ -1,4 +1,4 @@
--- One load more.
+-- One more load.
 use Rattle.std.proofs.Common.{◌≡◌, ℕ, ◌<◌, ◌^◌, List, [], ◌∷◌, ◌++◌, length, Option, Some, None, refl, sym, ap, subst, ◌∙◌}
 use Rattle.std.specs.Prelude.{MatchOption}
 use Rattle.mrpc_base.specs.Heap.{AfterLoads}
@@ -47,7 +47,7 @@ stops_at_word T H limit es now rest own all e place v before after found reason 
     let offends = subst (λ o. Follows T e v before after o) some follows in
     at_word own (place, v) e rest items few (subst (LeadsTo T H es own) word leads) at small (subst (λ h. OffendsFirst T h e.0 v reason) size offends)
 
--- one word more was loaded and followed
+-- one more word was loaded and followed
 pub record Goes (T : Table) (H : ℕ) (es now : Expected) (own : List (ℕ × ℕ)) : Type 0 where
   pub leads : LeadsTo T H es own now
   pub fits : AllFit H now

@@ -63,7 +63,7 @@ node_made T (OfMessage i) m place depth needed v room before after t shape some 
     (ap node (given.0 ∙ ap (λ j. tree_of T j content) (sym same)), given.1)
 node_made T _ m place depth needed v room before after t shape some deep there made = absurd (cc)
 
--- ---- a word and what stands behind it
+-- ---- a word and the words that it leads to
 
 pub item_made : (T : Table) (k : Kind) (place depth v : ℕ) (before mid after : List (ℕ × ℕ)) (i : Item) → Gives before v mid
     → TakesBehind T (plain_role k depth true, place) v mid after (λ P. i ≡ plain_item T k (word place v P))
@@ -85,7 +85,7 @@ slot_made T l k place depth v before mid after c Made gives some says made = λ 
     let m = made H content rest (subst (IsFine T H (slot_role l k depth)) (sym g.0) fine) (subst (λ n. AreSound T H (behind T (slot_role l k depth) place n) content) (sym g.0) sound) g.1 in
     (ap Some m.0 ∙ sym (says content ∙ ap (λ b. cond b None (Some (Made content))) (ne_eqb v 0 some)) ∙ ap (λ n. slot_content T l k (word place n content)) g.0, m.1)
 
--- what a slot says by its label
+-- the content of a slot, by its label
 pub plain_says : (T : Table) (k : Kind) (place v : ℕ) (P : Placed) → slot_content T Plain k (word place v P) ≡ (if v == 0 then None else Some (one (plain_item T k (word place v P))))
 plain_says T (OfMessage m) place v P = refl
 plain_says T _ place v P = refl
@@ -98,7 +98,7 @@ member_says T o _ place v P = refl
 
 -- ---- optional slots
 
--- a run behind its length and one more is a run behind its length
+-- a run after its length plus 1 is a run after its length
 less_one : (T : Table) (H : ℕ) (k : Kind) (place v n : ℕ) (P : Placed) → v ≢ 0 → n ≡ v - 1
     → AreSound T H (behind T (run_presence k) place v) P → AreSound T H (behind T (run_length k) place n) P
 less_one T H k place v n P some is_less sound =

@@ -1,4 +1,4 @@
--- What a valid table says of the message at a place.
+-- Properties of the message at an index of a valid table.
 use Rattle.std.proofs.Common.{◌≡◌, ◌≢◌, ℕ, ◌^◌, ◌≤◌, List, [], ◌∷◌, length, All, cond, Option, Some, None, refl, ap}
 use Rattle.std.proofs.Common.{subst, ◌∙◌, arith, slice_get, option_map, unwrap_or, inl, inr}
 use Rattle.std.proofs.lemmas.Option.{slice_get_cases}

@@ -12,7 +12,7 @@ use Rattle.graph_form.specs.Forgotten.{chain_bytes, run_at}
 use Rattle.graph_copy.specs.Makes.{TakesBehind}
 use Rattle.graph_copy.proofs.Taking.{sound_none, one_of}
 
--- the words of a run that are left, behind these bytes
+-- the remaining words of a run, after these bytes
 pub record RunLeft (T : Table) (H : ℕ) (k : Kind) (left : ℕ) (all : Placed) (done : List ℕ) (rest now : List (ℕ × ℕ)) : Type 0 where
   pub chain : Placed
   pub place : ℕ
@@ -21,7 +21,7 @@ pub record RunLeft (T : Table) (H : ℕ) (k : Kind) (left : ℕ) (all : Placed) 
   pub now_is : now ≡ loads chain ++ rest
   pub bytes : chain_bytes all ≡ done ++ chain_bytes chain
 
--- wherever the run stands in front
+-- wherever the run is a prefix of the loads
 abbrev pub RunsOn : List (ℕ × ℕ) → ℕ → ℕ → List (ℕ × ℕ) → List ℕ → Type 0
 RunsOn start bytes left now done =
     (T : Table) (H : ℕ) (k : Kind) (place : ℕ) (all : Placed) (rest : List (ℕ × ℕ)) → AreSound T H ((run_word k bytes [], place) ∷ []) all → start ≡ loads all ++ rest
@@ -64,7 +64,7 @@ run_more start bytes left v now next done on more gives = λ T H k place all res
           ∙ ap (λ n. (done ++ word_bytes n) ++ chain_bytes w.content) (sym g.0);
     }
 
--- what a run comes to
+-- the result of a run
 pub record RunDone (bytes : ℕ) (made : List ℕ) (rest after : List (ℕ × ℕ)) (all : Placed) : Type 0 where
   pub made_is : made ≡ take bytes (chain_bytes all)
   pub after_is : after ≡ rest
@@ -88,7 +88,7 @@ run_ends start bytes left v now next done made on le count gives is T H k place 
       after_is = g.1 ∙ ap (λ Q. loads Q ++ rest) none;
     }
 
--- ---- behind the length
+-- ---- after the length
 
 pub run_some : (T : Table) (H : ℕ) (k : Kind) (place bytes : ℕ) (P : Placed) → bytes ≢ 0
     → AreSound T H (behind T (run_length k) place bytes) P → AreSound T H ((run_address k bytes, place + 1) ∷ []) P

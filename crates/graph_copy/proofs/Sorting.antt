@@ -19,7 +19,7 @@ use Rattle.graph_copy.specs.Makes.{insert_all}
 abbrev Part : Type 0
 Part = ℕ × FieldValue
 
--- behind those of no greater number
+-- inserts after those with no greater number
 abbrev put_in : Part → List Part → List Part
 put_in x [] = x ∷ []
 put_in x (y ∷ ys) = cond (nat_lt x.0 y.0) (x ∷ y ∷ ys) (y ∷ put_in x ys)
@@ -42,7 +42,7 @@ inserted-put : (xs : List Part) → insert_all xs no_fields ≡ node_of (put_all
 inserted-put [] = refl
 inserted-put (x ∷ xs) = ap (insert_field x.0 (content_of x.1)) (inserted-put xs) ∙ sym (node-put x (put_all xs))
 
--- numbers never fall, from a least one
+-- numbers never fall, and the first is at least `least`
 abbrev NeverFall : ℕ → List Part → Type 0
 NeverFall least [] = Unit {0}
 NeverFall least (x ∷ xs) = (least ≤ x.0) × NeverFall x.0 xs
@@ -106,7 +106,7 @@ of-all n [] = refl
 of-all n (x ∷ xs) = of-put n 0 x (put_all xs) (fall-all xs) ∙ ap (λ zs. zs ++ alone n x) (of-all n xs)
     ∙ sym (of-append n (reverse xs) (x ∷ [])) ∙ ap (of_number n) (sym (reverse-append (x ∷ []) xs))
 
--- parts that never fall, of which each number has the same, are the same
+-- two lists that never fall, with the same parts for each number, are equal
 same-tail : (x y : Part) (xs ys : List Part) → x ≡ y → ((n : ℕ) → of_number n (x ∷ xs) ≡ of_number n (y ∷ ys)) → (n : ℕ) → of_number n xs ≡ of_number n ys
 same-tail x y xs ys head all n =
     let both : of_number n (x ∷ xs) ≡ of_number n (x ∷ ys) = all n ∙ ap (λ z. of_number n (z ∷ ys)) (sym head) in
@@ -138,7 +138,7 @@ unique (x ∷ xs) (y ∷ ys) a b hx hy all =
       ]
     ]
 
--- ---- what the sort says
+-- ---- properties of the sort
 
 fall-from : (least : ℕ) (xs : List Part) → ((d : Part) → 0 < length xs → least ≤ (get_or xs 0 d).0) → IsNonDecreasingBy (λ p. p.0) xs → NeverFall least xs
 fall-from least [] first h = tt

@@ -1,4 +1,4 @@
--- Frames on the stack of what is expected.
+-- Frames on the stack of expected words.
 use Rattle.std.proofs.Common.{◌≡◌, ℕ, List, [], ◌∷◌, ◌++◌, Option, Some, None, sym, ap, subst, ◌∙◌, append_assoc, append-nil}
 use Rattle.mrpc_table.specs.declared.table.Table.{Table}
 use Rattle.graph_form.specs.Roles.{Expected}
@@ -12,7 +12,7 @@ pub stack_push : (T : Table) (fs : List Frame) (f : Frame) → stack_words T (fs
 stack_push T [] f = sym (append-nil (frame_words T f))
 stack_push T (g ∷ fs) f = ap (λ es. es ++ frame_words T g) (stack_push T fs f) ∙ append_assoc (frame_words T f) (stack_words T fs) (frame_words T g)
 
--- the last frame was taken
+-- the last frame was popped
 pub stack_pop : (T : Table) (before after : List Frame) (f : Frame) (all : Expected) → before ≡ after ++ f ∷ []
     → stack_words T before ≡ all → frame_words T f ++ stack_words T after ≡ all
 stack_pop T before after f all popped is = sym (stack_push T after f) ∙ ap (stack_words T) (sym popped) ∙ is

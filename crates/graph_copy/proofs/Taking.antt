@@ -1,4 +1,4 @@
--- The first of some words, and the loads in front.
+-- The first of some words, and the loads at the start.
 use Rattle.std.proofs.Common.{◌≡◌, ℕ, ◌<◌, ◌^◌, List, [], ◌∷◌, ◌++◌, refl, ap, subst, ◌∙◌, append_assoc}
 use Rattle.mrpc_table.specs.declared.table.Table.{Table}
 use Rattle.graph_form.specs.Roles.{Role as Use, Expected, behind}

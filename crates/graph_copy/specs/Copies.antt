@@ -1,4 +1,4 @@
--- What the answers of a copy say of the loads that it made.
+-- What the result of a copy means for the loads that it made.
 use Rattle.std.specs.Prelude.{◌≡◌, ℕ, List, length, drop}
 use Rattle.mrpc_base.specs.Heap.{AfterLoads}
 use Rattle.mrpc_table.specs.Node.{Node}
@@ -6,11 +6,12 @@ use Rattle.mrpc_table.specs.declared.table.Table.{Table}
 use Rattle.graph_form.specs.Placed.{Placed, IsSound, loads}
 use Rattle.graph_form.specs.Forgotten.{tree_of}
 
--- the loads that were made since a moment, of all the loads before and now
+-- the loads that were made since an earlier state, given all loads then and now
 abbrev pub since : List (ℕ × ℕ) → List (ℕ × ℕ) → List (ℕ × ℕ)
 since before now = drop (length before) now
 
--- Room was made, and then these loads, one after the other, each with the change that a load makes; nothing else.
+-- Room was made, and then these loads, one after the other, each with the change that a load makes. Nothing else
+-- changed.
 pub record OnlyLoads {W : Type 0} (after_room : W → W → Type 0) (after_load : W → ℕ → ℕ → W → Type 0)
     (old : W) (own : List (ℕ × ℕ)) (new : W) : Type 0 where
   pub roomed : W

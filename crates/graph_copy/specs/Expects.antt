@@ -1,4 +1,4 @@
--- The code's own: what the reader expects of a graph, in the words of the layout.
+-- The code's own: what the reader expects of a graph, in terms of the layout.
 use Rattle.std.specs.Prelude.{ℕ, ◌+◌, ◌-◌, ◌≤◌, List, [], ◌∷◌, ◌++◌, drop, Option, Some, None}
 use Rattle.mrpc_table.specs.Normal.{fields_of}
 use Rattle.mrpc_table.specs.declared.table.Table.{Table}
@@ -12,7 +12,7 @@ use Rattle.graph_copy.specs.declared.walk.Next.{Next}
 use Rattle.graph_copy.specs.declared.walk.Next.TheVariants.{Word as NextWord, Run as NextRun}
 use Rattle.graph_copy.specs.declared.walk.Walk.{Walk}
 
--- the word of the layout that a role stands for
+-- the layout's role for a role of the code
 abbrev pub role_of : Table → Role → Use
 role_of T (Value k) = value k
 role_of T (Presence k) = presence k
@@ -34,12 +34,12 @@ frame_words T (Oneofs m oneof depth place) = cases_from (oneofs_of T m - oneof) 
 frame_words T (SomeElements k left depth place) = elements_from left k depth place
 frame_words T (SomeEntries key k left depth place) = entries_from left key k depth place
 
--- the words of frames, of which the last one comes first
+-- the words of frames, the last frame's first
 abbrev pub stack_words : Table → List Frame → Expected
 stack_words T [] = []
 stack_words T (f ∷ fs) = stack_words T fs ++ frame_words T f
 
--- the next word of a run, of which these bytes came before
+-- the next word of a run; the bytes of the run before it are given
 abbrev pub run_next : Option RunWord → List ℕ → Expected
 run_next None bytes = []
 run_next (Some r) bytes = (run_word r.kind r.left bytes, r.place) ∷ []
@@ -52,7 +52,7 @@ abbrev pub next_word : Table → List ℕ → Next → Use × ℕ
 next_word T bytes (NextWord role place) = (role_of T role, place)
 next_word T bytes (NextRun r) = (run_word r.kind r.left bytes, r.place)
 
--- how many words, from its own on, a word counts on
+-- how many words, its own included, a word relies on
 abbrev pub words_from : Use → ℕ
 words_from (value k) = 1
 words_from (presence k) = 2
@@ -67,13 +67,13 @@ words_from (entry_count key k depth) = 2
 words_from (entries_address key k n depth) = 1
 words_from (case_word fs oneof depth) = 3
 
--- a run that is loaded has a byte
+-- a run that is loaded has at least one byte
 abbrev pub IsSome : Use → Type 0
 IsSome (run_address k bytes) = 1 ≤ bytes
 IsSome (run_word k left bytes) = 1 ≤ left
 IsSome _ = Unit {0}
 
--- a word lies in a heap of H words, with those that it counts on
+-- a word is inside a heap of H words, with those that it relies on
 abbrev pub Fits : ℕ → Use × ℕ → Type 0
 Fits H e = IsSome e.0 × (e.1 + words_from e.0 ≤ H)
 

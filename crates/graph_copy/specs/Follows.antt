@@ -1,4 +1,4 @@
--- The code's own: what a word that was loaded leads to.
+-- The code's own: what a loaded word leads to.
 use Rattle.std.specs.Prelude.{◌≡◌, ℕ, ◌++◌, Option, MatchOption}
 use Rattle.mrpc_table.specs.declared.table.Table.{Table}
 use Rattle.graph_form.specs.declared.reason.Reason.{Reason}
@@ -12,7 +12,7 @@ use Rattle.graph_copy.specs.Expects.{expected}
 abbrev pub Leads : Table → Expected → Walk → Walk → Type 0
 Leads T words before after = expected T after ≡ words ++ expected T before
 
--- a word is fine and what stands behind it is expected, or it offends first for a reason
+-- a word is valid and the words that it leads to are expected, or it is invalid and this is the first reason
 abbrev pub Follows : Table → Use × ℕ → ℕ → Walk → Walk → Option Reason → Type 0
 Follows T e v before after found =
     MatchOption found (IsFine T before.size e.0 v × Leads T (behind T e.0 e.1 v) before after)

@@ -1,4 +1,4 @@
--- The code's own: what is found of a word that was loaded.
+-- The code's own: the judgement of a loaded word.
 use Rattle.std.specs.Prelude.{◌≡◌, ℕ, List, Option, Some, MatchOption}
 use Rattle.mrpc_table.specs.Normal.{field_at}
 use Rattle.mrpc_table.specs.declared.table.Field.{Field}
@@ -9,11 +9,11 @@ use Rattle.graph_form.specs.Roles.{Role as Use}
 use Rattle.graph_form.specs.Placed.{IsFine}
 use Rattle.graph_form.specs.Malformed.{OffendsFirst}
 
--- something holds, or else there is this reason
+-- the property holds, or the result is this reason
 abbrev pub Told : Type 0 → Reason → Option Reason → Type 0
 Told P reason found = MatchOption found P (λ r. (r ≡ reason) × (P → ⊥))
 
--- the word is fine, or offends first for the reason that was found
+-- the word is valid, or invalid with this first reason
 abbrev pub Judged : Table → ℕ → Use → ℕ → Option Reason → Type 0
 Judged T H role v found = MatchOption found (IsFine T H role v) (λ r. OffendsFirst T H role v r)
 

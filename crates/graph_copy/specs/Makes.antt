@@ -9,31 +9,31 @@ use Rattle.graph_form.specs.Roles.{Role as Use, Expected, behind, slots_from}
 use Rattle.graph_form.specs.Placed.{Placed, Word, word, loads, IsFine, AreSound}
 use Rattle.graph_form.specs.Forgotten.{insert_field, slots_tree}
 
--- fields with those of a list: its last one comes first
+-- the fields of a list added to a tree; the last one is added first
 abbrev pub insert_all : List (ℕ × FieldValue) → Node → Node
 insert_all [] t = t
 insert_all (f ∷ fs) t = insert_field f.0 (content_of f.1) (insert_all fs t)
 
--- from the loads in front of a list, where they are those of expected words, something is made of their placed tree
+-- if a list starts with the loads of expected words, something is made of their placed tree, and the suffix remains
 abbrev pub Takes : Table → Expected → List (ℕ × ℕ) → List (ℕ × ℕ) → (Placed → Type 0) → Type 0
 Takes T es before after Made =
     (H : ℕ) (P : Placed) (rest : List (ℕ × ℕ)) → AreSound T H es P → before ≡ loads P ++ rest → Made P × (after ≡ rest)
 
--- the same of one word
+-- like `Takes`, for one word
 abbrev pub TakesWord : Table → Use × ℕ → List (ℕ × ℕ) → List (ℕ × ℕ) → (Word → Type 0) → Type 0
 TakesWord T e before after Made =
     (H v : ℕ) (content : Placed) (rest : List (ℕ × ℕ)) → v < 2 ^ 64 → IsFine T H e.0 v
     → AreSound T H (behind T e.0 e.1 v) content
     → before ≡ (e.1, v) ∷ loads content ++ rest → Made (word e.1 v content) × (after ≡ rest)
 
--- the same of what stands behind a word that was taken
+-- like `Takes`, for what follows a word that was taken
 abbrev pub TakesBehind : Table → Use × ℕ → ℕ → List (ℕ × ℕ) → List (ℕ × ℕ) → (Placed → Type 0) → Type 0
 TakesBehind T e v before after Made =
     (H : ℕ) (content : Placed) (rest : List (ℕ × ℕ)) → IsFine T H e.0 v → AreSound T H (behind T e.0 e.1 v) content
     → before ≡ loads content ++ rest → Made content × (after ≡ rest)
 
--- the same of the slots of fields, where other words are expected behind: their placed tree is left, and the fields
--- come in front of what it has
+-- Like `Takes`, for the slots of fields, where other words are expected after them. The placed tree of those others
+-- remains, and the fields are put before what it has.
 pub record SlotsTaken (T : Table) (H : ℕ) (fs slots : List Field) (others : Expected) (P : Placed)
     (rest after : List (ℕ × ℕ)) (found more : List (ℕ × FieldValue)) : Type 0 where
   pub left : Placed

@@ -1,4 +1,4 @@
--- The code's own: where the loading of some expected words stops before their end.
+-- The code's own: where loading stops before the end of the expected words.
 use Rattle.std.specs.Prelude.{◌≡◌, ◌<◌, ◌^◌, ℕ, List, [], ◌∷◌, ◌++◌, length}
 use Rattle.mrpc_table.specs.declared.table.Table.{Table}
 use Rattle.graph_form.specs.declared.reason.Reason.{Reason}
@@ -8,13 +8,13 @@ use Rattle.graph_form.specs.Loading.{LeadsTo}
 use Rattle.graph_form.specs.Malformed.{OffendsFirst}
 
 pub data Stops (T : Table) (H limit : ℕ) (es : Expected) (own : List (ℕ × ℕ)) (reason : Reason) : Type 0 where
-  -- the last word offends
+  -- the last word is invalid
   at_word :
       (before : List (ℕ × ℕ)) (load : ℕ × ℕ) (e : Use × ℕ) (rest : Expected)
       → own ≡ before ++ load ∷ [] → length before < limit → LeadsTo T H es before (e ∷ rest)
       → load.0 ≡ e.1 → load.1 < 2 ^ 64 → OffendsFirst T H e.0 load.1 reason
       → Stops T H limit es own reason
-  -- as many loads as the limit were made, and a word is expected
+  -- the limit is reached, and a word is expected
   at_limit :
       (e : Use × ℕ) (rest : Expected)
       → length own ≡ limit → LeadsTo T H es own (e ∷ rest) → reason ≡ Loads

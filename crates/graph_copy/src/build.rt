@@ -1,4 +1,4 @@
-//! The tree of a graph, from the words that were loaded of it.
+//! Builds the tree of a graph from the words that were loaded.
 
 ghost use Rattle.std.specs.Prelude.{◌≡◌, ◌≢◌, ◌⊎◌, ◌+◌, ℕ, Bool, true, List, [], ◌∷◌, IfOk, OnOk, IsTrue};
 ghost use Rattle.std.specs.Option.{option_map};
@@ -25,7 +25,7 @@ use mrpc_table::{
 };
 use std::alloc::Global;
 
-// The loads that are left, each a place and a value.
+// The remaining loads, each a place and a value.
 #[derive(Drop)]
 struct Tape<'a> {
     loads: &'a [(u64, u64)],
@@ -47,7 +47,7 @@ impl Tape<'_> {
     }
 }
 
-// The tree of the message at a place of the table whose words these are.
+// The tree of the message at an index of the table, from its words.
 pub(crate) fn make_tree(
     alloc: Global,
     table: &Table,
@@ -64,7 +64,7 @@ pub(crate) fn make_tree(
     Ok(tree)
 }
 
-// A node. So many more messages may stand in one another inside.
+// A node. At most `room` further levels of messages may be nested in it.
 #[cycle(build)]
 fn node(
     alloc: Global,
@@ -85,7 +85,7 @@ fn node(
     Ok(Tree { fields })
 }
 
-// The slots of the fields that are no members.
+// The slots of the fields that aren't oneof members.
 #[cycle(build)]
 fn slots(
     alloc: Global,
@@ -165,7 +165,7 @@ fn member(
     }
 }
 
-// Appends what a field has, if it has something.
+// Appends the content of a field, if it has any.
 fn keep(found: &mut Numbered, number: u32, content: Option<FieldValue>) -> Result<(), Memory>
     ensures { OnOk result ((t : Node) → insert_all found.new.items t
         ≡ insert_all found.old.items (with_field number (option_map content_of content) t)) }
@@ -176,7 +176,7 @@ fn keep(found: &mut Numbered, number: u32, content: Option<FieldValue>) -> Resul
     Ok(())
 }
 
-// What a field has by its slot.
+// The content of a field, by its slot.
 #[cycle(build)]
 fn slot(
     alloc: Global,
@@ -215,7 +215,7 @@ fn slot(
     }
 }
 
-// The value behind its presence.
+// The value after its presence word.
 fn optional(alloc: Global, tape: &mut Tape<'_>, kind: Kind, first: u64) -> Result<Value, Memory>
     requires { first ≢ 0 }
     ensures { IfOk result (λ v. (T : Table) (place : ℕ)
@@ -228,7 +228,7 @@ fn optional(alloc: Global, tape: &mut Tape<'_>, kind: Kind, first: u64) -> Resul
     }
 }
 
-// The elements behind their count.
+// The elements after their count.
 #[cycle(build)]
 fn elements(
     alloc: Global,
@@ -251,7 +251,7 @@ fn elements(
     Ok(values)
 }
 
-// The entries behind their count, each key once.
+// The entries after their count, one for each key.
 #[cycle(build)]
 fn entries(
     alloc: Global,
@@ -278,7 +278,7 @@ fn entries(
     Ok(kept)
 }
 
-// The value of a plain slot that must be there.
+// The value of a plain slot that must be present.
 #[cycle(build)]
 fn item(
     alloc: Global,
@@ -297,7 +297,7 @@ fn item(
     Ok(item)
 }
 
-// The value of a plain slot behind its first word.
+// The value of a plain slot after its first word.
 #[cycle(build)]
 fn value(
     alloc: Global,
@@ -327,7 +327,7 @@ fn value(
     }
 }
 
-// So many bytes behind their length.
+// The `bytes` bytes of a run, after its length.
 fn run(alloc: Global, tape: &mut Tape<'_>, bytes: u64) -> Result<Bytes, Memory>
     ensures { IfOk result (λ bs. (T : Table) (kind : Kind) (place : ℕ)
         → TakesBehind T (run_length kind, place) bytes tape.old.loads.now tape.new.loads.now

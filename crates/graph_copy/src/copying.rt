@@ -1,4 +1,4 @@
-//! The copy of a message.
+//! Copies a message out of a heap.
 
 ghost use Rattle.std.specs.Prelude.{◌≡◌, ◌≤◌, ◌<◌, ◌+◌, List, [], ◌∷◌, ◌++◌, ℕ, length, IfOk};
 ghost use Rattle.mrpc_base.specs.Heap.{AfterLoads};
@@ -17,16 +17,16 @@ use mrpc_base::{Room, Words};
 use mrpc_table::{Memory, Table, Tree};
 use std::alloc::Global;
 
-/// What a copy comes to.
+/// The result of a copy.
 #[derive(Drop)]
 pub enum CopyResult {
-    /// The tree of a sound graph, with the number of loads that it took.
+    /// The tree of a sound graph, and the number of loads.
     Copied {
         tree: Tree,
         loads: u64,
     },
-    /// The graph is malformed: for which reason, at the place and with the value of the last load, and how many loads
-    /// were made. Where the root doesn't lie in the heap, there is no load, the place is 0 and the value the address.
+    /// The graph is malformed: the reason, the place and value of the last load, and the number of loads. If the root
+    /// isn't inside the heap, there is no load, `place` is 0 and `value` is the address.
     Malformed {
         reason: Reason,
         place: u64,
@@ -35,10 +35,12 @@ pub enum CopyResult {
     },
 }
 
-/// Copies the message of a type, by its place in the table, at an address of a heap: a tree of its own, from at most
-/// `limit` loads, each of a word that is loaded once for its place in the graph. `Reason::NoMethod` never comes. Room
-/// for `limit` loads is made before the first one. After `Memory` the loads that were made stand in the heap's list;
-/// where it was that room that no memory was found for, the heap's reader is as it was.
+/// Copies the message of type `msg` (its index in the table) at the address `addr` of a heap into a tree of its own.
+/// It makes at most `limit` loads. Each word is loaded once for each place that it has in the graph.
+/// `Reason::NoMethod` is never the reason.
+///
+/// Room for `limit` loads is made before the first load. After `Memory`, the heap's list of loads holds those that
+/// were made. If making that room was what ran out of memory, the heap's reader is unchanged.
 pub fn copy<W: Words>(
     alloc: Global,
     words: &mut W,
@@ -54,14 +56,14 @@ pub fn copy<W: Words>(
     requires least_limit { 1 ≤ limit }
     requires greatest_limit { limit ≤ MAX_LOADS }
 
-    // Whatever the answer is, the heap has room made and these loads more, and nothing else.
+    // For each result: the heap made room and has these additional loads, and nothing else changed.
     ensures size { W.size words.new ≡ W.size words.old }
     ensures adds { W.loads words.new ≡ W.loads words.old ++ since (W.loads words.old) (W.loads words.new) }
     ensures only_loads { OnlyLoads W.after_room W.after_load words.old
         (since (W.loads words.old) (W.loads words.new)) words.new }
     ensures few { length (since (W.loads words.old) (W.loads words.new)) ≤ limit }
 
-    // Where no room for `limit` loads was made, it stays as it was.
+    // If no room for `limit` loads was made, nothing changed.
     ensures unroomed { W.room words.new + length (since (W.loads words.old) (W.loads words.new)) < limit
         → words.new ≡ words.old }
 
@@ -81,7 +83,7 @@ pub fn copy<W: Words>(
     }
 }
 
-// The copy, where there is room for the loads. They are noted.
+// The copy, once there is room for the loads. It notes them in `loads`.
 fn copy_graph<W: Words>(
     alloc: Global,
     words: &mut W,
@@ -132,7 +134,7 @@ fn copy_graph<W: Words>(
     }
 }
 
-// The last load says where the graph is malformed.
+// The last load is where the graph is malformed.
 fn malformed(reason: Reason, loads: &[(u64, u64)]) -> CopyResult
     ensures { (front : List (ℕ × ℕ)) (last : ℕ × ℕ) → loads.now ≡ front ++ last ∷ []
         → result ≡ CopyResult.Malformed reason last.0 last.1 (length loads.now) }

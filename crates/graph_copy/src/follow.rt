@@ -1,4 +1,4 @@
-//! What a word that was loaded leads to: it is judged, and what stands behind it is expected next.
+//! What a loaded word leads to: it is judged, and the words that it leads to are expected next.
 
 ghost use Rattle.std.specs.Prelude.{◌≡◌, ◌≤◌, ◌<◌, ◌+◌, ◌*◌, ◌^◌, ◌↔◌, [], ◌∷◌, IfOk, OnOk, IsTrue, if◌then◌else◌};
 ghost use Rattle.std.specs.Str.{IsUtf8};
@@ -20,7 +20,7 @@ use graph_form::{Reason, size_words};
 use mrpc_table::{Kind, Memory, Table};
 
 impl Walk {
-    // Goes on behind a word with this value; or why it offends, first.
+    // Advances past a word with this value. If the word is invalid, returns the first reason.
     pub(crate) fn follow(
         &mut self,
         table: &Table,
@@ -62,7 +62,7 @@ impl Walk {
         Ok(None)
     }
 
-    // What stands behind a word that doesn't offend is expected.
+    // Expects the words that a valid word leads to.
     fn lead(&mut self, table: &Table, role: Role, place: u64, value: u64) -> Result<(), Memory>
         requires valid { IsValid table.now }
         requires size { self.old.size ≤ MAX_HEAP }
@@ -113,7 +113,7 @@ impl Walk {
         }
     }
 
-    // Expects a word right behind a place, or nothing.
+    // Expects the word after a place, or nothing.
     fn expect_if(&mut self, is_there: bool, role: Role, place: u64) -> Result<(), Memory>
         requires room { place + 1 < 2 ^ 64 }
         requires no_run { self.old.run ≡ None }
@@ -274,7 +274,7 @@ impl Walk {
         }
     }
 
-    // A word of a run: spare bytes are 0, and the bytes of a string are judged with its last word.
+    // A word of a run: padding bytes must be 0. The bytes of a string are judged at its last word.
     fn follow_run(&mut self, run: RunWord, value: u64) -> Result<Option<Reason>, Memory>
         requires no_run { self.old.run ≡ None }
         requires room { run.place + 1 < 2 ^ 64 }
@@ -300,14 +300,14 @@ impl Walk {
     }
 }
 
-// Whether a byte of the word isn't 0 past the bytes that are left of a run.
+// Whether a byte of the word past the remaining bytes of a run isn't 0.
 fn has_spare_bytes(left: u64, value: u64) -> bool
     ensures { IsTrue result ↔ ((left < 8) × (2 ^ (8 * left) ≤ value)) }
 {
     left < 8 && value >= 1 << (8 * left)
 }
 
-// A string is UTF-8.
+// A string must be UTF-8.
 fn judge_run(kind: Kind, bytes: &[u8]) -> Option<Reason>
     ensures { Told (kind ≡ Kind.Text → IsUtf8 bytes.now) Reason.Utf8 result }
 {

@@ -1,4 +1,4 @@
-//! The tree of a message that stands in a heap.
+//! The tree of a message in a heap.
 
 ghost use Rattle.std.specs.Prelude.{◌≡◌, ℕ, IfOk};
 ghost use Rattle.mrpc_table.specs.Valid.{IsValid};
@@ -11,8 +11,9 @@ use graph_form::Placed;
 use mrpc_table::{Memory, Table, Tree};
 use std::alloc::Global;
 
-/// The tree of a placed message of a type, by its place in the table: its values without their places, in normal form.
-/// The words are those of a sound placed tree of that message, whatever the heap's size. The only error is `Memory`.
+/// The tree of a placed message of type `msg` (its index in the table): its values without their places, in normal
+/// form. The words must be those of a sound placed tree of that message, in a heap of any size. The only error is
+/// `Memory`.
 pub fn forget(alloc: Global, placed: &Placed, table: &Table, msg: u32) -> Result<Tree, Memory>
     requires valid { IsValid table.now }
     requires sound { (H : ℕ) × (P : PlacedTree) × AreWordsOf table.now H msg P placed.now }

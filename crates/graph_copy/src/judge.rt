@@ -1,4 +1,4 @@
-//! Which words offend, and first for which reason.
+//! Which words are invalid, and the first reason.
 
 ghost use Rattle.std.specs.Prelude.{◌≡◌, ◌≤◌, ◌↔◌, ℕ, IsTrue};
 ghost use Rattle.mrpc_table.specs.Normal.{fields_of};
@@ -16,14 +16,14 @@ use crate::role::Role;
 use graph_form::{Reason, element_words, run_words, size_words};
 use mrpc_table::{Kind, Label, MAX_DEPTH, Table};
 
-// Whether a span of words lies in a heap, whose word 0 belongs to nobody.
+// Whether a span of words is inside a heap. Word 0 belongs to no message.
 pub(crate) fn lies_in(size: u64, place: u64, words: u64) -> bool
     ensures { IsTrue result ↔ LiesIn size place words }
 {
     place >= 1 && place <= size && words <= size - place
 }
 
-// Why a word of the role offends in a heap of a size, first; none where it doesn't.
+// The first reason why a word of the role is invalid in a heap of this size; `None` if it is valid.
 pub(crate) fn offence(table: &Table, size: u64, role: Role, value: u64) -> Option<Reason>
     requires valid { IsValid table.now }
     requires least { 1 ≤ size }

@@ -1,12 +1,12 @@
-//! The bounded reader of graphs: a message that an application goes on writing to is copied, word by word, into a
-//! private tree, or refused by its first offending word.
+//! The bounded reader of graphs. It copies a message, word by word, into a private tree while an application may
+//! still write to it, or rejects the message at its first invalid word.
 //!
-//! Each word is loaded once for each place of the graph that it has, in the order of the layout, and judged as it comes;
-//! the tree is then made from the private words alone. Both take time in proportion to the words, but for sorting a map's
-//! entries and a message's fields. What is expected next stands on a stack of its own, so nothing in a heap makes the
-//! reader go deeper than the 32 messages that may stand in one another. It stands on `mrpc_base`, `mrpc_table` and
-//! `graph_form`. The layers above use one contract: the answer is the tree of a sound graph or what makes it malformed,
-//! over exactly the loads that were made.
+//! Each word is loaded once for each place that it has in the graph, in layout order, and judged as it comes. The
+//! tree is then made from the private words alone. Both steps take time in proportion to the words, except for
+//! sorting a map's entries and a message's fields. The expected words are kept on an explicit stack, so nothing in a
+//! heap makes the reader recurse deeper than 32 nested messages. The crate depends on `mrpc_base`, `mrpc_table` and
+//! `graph_form`. The layers above use one contract: the result is the tree of a sound graph or the reason why the
+//! graph is malformed, over exactly the loads that were made.
 #![tactic(auto)]
 
 mod build;

@@ -1,4 +1,4 @@
-//! What a table says of a message.
+//! Look-ups of a message in a table.
 
 ghost use Rattle.std.specs.Prelude.{◌≡◌, ◌<◌, ◌≤◌, ◌+◌, [], ◌∷◌, length, drop, IfNone, IfSome, Some, None, slice_index_or};
 ghost use Rattle.std.specs.Option.{option_copied};
@@ -10,7 +10,7 @@ ghost use Rattle.graph_form.specs.Roles.{own_slots, is_member};
 use graph_form::is_member;
 use mrpc_table::{Field, Table};
 
-// The field of a number in the message at a place of the table.
+// The field with a number, in the message at an index of the table.
 pub(crate) fn field_of(table: &Table, message: u32, number: u64) -> Option<&Field>
     requires { IsValid table.now }
     ensures { option_copied result ≡ field_at (fields_of table.now message) number }
@@ -21,7 +21,7 @@ pub(crate) fn field_of(table: &Table, message: u32, number: u64) -> Option<&Fiel
     }
 }
 
-// The place of the next field with a slot of its own, from a place on.
+// The index of the next field with a slot of its own, at `from` or after it.
 pub(crate) fn next_slot(fields: &[Field], from: usize) -> Option<usize>
     ensures none { IfNone result (own_slots (drop from fields.now) ≡ []) }
     ensures ahead { IfSome result (λ place. from ≤ place) }

@@ -1,4 +1,4 @@
-//! Fields by ascending number.
+//! Sorts fields by number.
 
 ghost use Rattle.std.specs.Prelude.{◌≡◌, IfOk, IsTrue};
 ghost use Rattle.mrpc_table.specs.Node.{no_fields};
@@ -7,7 +7,7 @@ ghost use Rattle.graph_copy.specs.Makes.{insert_all};
 
 use mrpc_table::{Memory, Numbered};
 
-// The fields by ascending number. Only those of oneofs can be out of order.
+// The fields by ascending number. Only oneof members can be out of order.
 pub(crate) fn in_order(fields: Numbered) -> Result<Numbered, Memory>
     ensures { IfOk result (λ sorted. node_of sorted.items ≡ insert_all fields.items no_fields) }
 {

@@ -1,4 +1,4 @@
-//! What a word of a graph is for.
+//! The roles of the words of a graph.
 
 ghost use Rattle.std.specs.Prelude.{◌≡◌};
 ghost use Rattle.mrpc_table.specs.declared.table.Table.{Table};
@@ -8,23 +8,23 @@ ghost use Rattle.graph_copy.specs.Expects.{role_of};
 
 use mrpc_table::{Kind, Label};
 
-// What a word is for. A depth is that of the message in which the word stands, the root counting 1.
+// The role of a word. A depth is that of the message that contains the word; the root has depth 1.
 #[derive(Clone, Copy)]
 pub(crate) enum Role {
     // A number of the kind.
     Value(Kind),
-    // 0, or 1 where the number follows.
+    // A presence word: 0, or 1 if the number follows.
     Presence(Kind),
     // The length of a run.
     RunLength(Kind),
-    // 0 where the run is absent, else its length plus 1.
+    // 0 if the run is absent, otherwise its length plus 1.
     RunPresence(Kind),
-    // The address of a run of so many bytes.
+    // The address of a run of `bytes` bytes.
     RunAddress {
         kind: Kind,
         bytes: u64,
     },
-    // The address of a message; 0 is one that is absent, unless it must be there.
+    // The address of a message; 0 means absent, unless the message is needed.
     Link {
         message: u32,
         depth: u32,
@@ -35,7 +35,7 @@ pub(crate) enum Role {
         kind: Kind,
         depth: u32,
     },
-    // The address of so many elements.
+    // The address of `count` elements.
     Elements {
         kind: Kind,
         count: u64,
@@ -47,7 +47,7 @@ pub(crate) enum Role {
         kind: Kind,
         depth: u32,
     },
-    // The address of so many entries.
+    // The address of `count` entries.
     Entries {
         key: Kind,
         kind: Kind,
@@ -69,7 +69,7 @@ pub(crate) enum Shape {
     Number,
     // In a run of bytes.
     Run,
-    // In the node of the message at this place of the table.
+    // In the node of the message at this index of the table.
     Message(u32),
 }
 

@@ -1,4 +1,4 @@
-//! A stack of frames whose last one stands apart, so that a message without parts takes no memory for it.
+//! A stack of frames. The top frame is stored apart, so that a message without nested parts allocates nothing for it.
 
 ghost use Rattle.std.specs.Prelude.{◌≡◌, [], ◌∷◌, ◌++◌, OnOk, IfNone, IfSome};
 
@@ -7,7 +7,7 @@ use mrpc_table::Memory;
 use std::alloc::Global;
 use std::marker::Model;
 
-// Some frames. Contracts see them as a list, of which the last one is taken first.
+// Frames. Contracts see them as a list; the last one is popped first.
 #[derive(Drop)]
 pub(crate) struct Stack {
     below: Vec<Frame>,
@@ -25,7 +25,7 @@ impl Model for Stack {
 }
 
 impl Stack {
-    // No frames. It takes no memory.
+    // No frames. It allocates nothing.
     pub(crate) fn new(alloc: Global) -> Stack
         ensures { result ≡ [] }
     {
@@ -35,7 +35,7 @@ impl Stack {
         }
     }
 
-    // Puts a frame behind the others.
+    // Pushes a frame.
     pub(crate) fn push(&mut self, frame: Frame) -> Result<(), Memory>
         ensures { OnOk result (self.new ≡ self.old ++ frame ∷ []) }
     {
@@ -46,7 +46,7 @@ impl Stack {
         Ok(())
     }
 
-    // Takes the last frame.
+    // Pops the last frame.
     pub(crate) fn pop(&mut self) -> Option<Frame>
         ensures some { IfSome result (λ frame. self.old ≡ self.new ++ frame ∷ []) }
         ensures none { IfNone result (self.old ≡ []) }

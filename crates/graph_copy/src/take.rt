@@ -1,4 +1,4 @@
-//! Loading: each word that is expected, once and in order, up to the first that offends or the limit.
+//! Loads each expected word once and in order, up to the first invalid word or the limit.
 
 ghost use Rattle.std.specs.Prelude.{◌≡◌, ◌≤◌, ◌+◌, [], ◌++◌, length, IfOk, MatchOption};
 ghost use Rattle.mrpc_base.specs.Heap.{AfterLoads};
@@ -16,7 +16,7 @@ use mrpc_table::{Memory, Table};
 // The loads that were made, each a place and a value.
 pub(crate) type Loads = Vec<(u64, u64)>;
 
-// Loads what is expected, and what that leads to; or why it stops.
+// Loads the expected words, and the words that they lead to. Returns the reason if it stops early.
 pub(crate) fn take_words<W: Words>(
     words: &mut W,
     table: &Table,

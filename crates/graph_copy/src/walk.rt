@@ -1,4 +1,4 @@
-//! What is expected of a graph next: the words that weren't loaded yet, each with what it is for.
+//! The words of a graph that are expected but not loaded yet, each with its role.
 
 ghost use Rattle.std.specs.Prelude.{◌≡◌, ◌≤◌, ◌+◌, ℕ, List, [], ◌∷◌, ◌++◌, IfOk, OnOk, MatchOption};
 ghost use Rattle.mrpc_table.specs.Valid.{IsValid};
@@ -15,7 +15,7 @@ use graph_form::{element_words, oneofs_of};
 use mrpc_table::{Kind, Memory, Table};
 use std::alloc::Global;
 
-// Some words that are expected, one behind another.
+// A sequence of expected words.
 #[derive(Clone, Copy)]
 pub(crate) enum Frame {
     // One word.
@@ -23,28 +23,28 @@ pub(crate) enum Frame {
         role: Role,
         place: u64,
     },
-    // The slots of a message's fields from a place in its list on.
+    // The slots of a message's fields, from an index in its list.
     Slots {
         message: u32,
         field: usize,
         depth: u32,
         place: u64,
     },
-    // The slots of a message's oneofs from one on.
+    // The slots of a message's oneofs, from an index.
     Oneofs {
         message: u32,
         oneof: u32,
         depth: u32,
         place: u64,
     },
-    // So many elements.
+    // The remaining elements.
     Elements {
         kind: Kind,
         left: u64,
         depth: u32,
         place: u64,
     },
-    // So many entries.
+    // The remaining entries.
     Entries {
         key: Kind,
         kind: Kind,
@@ -54,7 +54,7 @@ pub(crate) enum Frame {
     },
 }
 
-// The next word of a run: so many bytes are left with it.
+// The next word of a run; `left` bytes remain, this word's included.
 #[derive(Clone, Copy)]
 pub(crate) struct RunWord {
     pub kind: Kind,
@@ -70,7 +70,7 @@ pub(crate) enum Next {
 }
 
 impl Next {
-    // Where the word stands.
+    // The place of the word.
     pub(crate) fn place(self) -> u64
         ensures { (T : Table) (bytes : List ℕ) → result ≡ (next_word T bytes self).1 }
     {
@@ -81,8 +81,8 @@ impl Next {
     }
 }
 
-// The words that are expected of a graph, in a heap of a size: those of the run that is being loaded, and then
-// those of the frames, the last one first.
+// The expected words of a graph, in a heap of `size` words: first those of the run that is being loaded, then those
+// of the frames, the last frame first.
 #[derive(Drop)]
 pub(crate) struct Walk {
     pub size: u64,
@@ -107,7 +107,7 @@ impl Walk {
         }
     }
 
-    // The words of a frame are expected before those of the others.
+    // Expects the words of a frame before all others.
     pub(crate) fn push(&mut self, frame: Frame) -> Result<(), Memory>
         ensures frames { OnOk result ((T : Table)
             → stack_words T self.new.frames ≡ frame_words T frame ++ stack_words T self.old.frames) }
@@ -119,7 +119,7 @@ impl Walk {
         Ok(())
     }
 
-    // The words of a node of the message at a place of the table are expected before all others.
+    // Expects the words of a node before all others. The message has this index in the table.
     pub(crate) fn expect_node(
         &mut self,
         table: &Table,
@@ -156,7 +156,7 @@ impl Walk {
         Ok(())
     }
 
-    // Takes the word that is loaded next; none where no more is expected.
+    // Takes the word to load next; `None` if no word is expected.
     pub(crate) fn next(&mut self, table: &Table) -> Result<Option<Next>, Memory>
         requires valid { IsValid table.now }
         requires fits { AllFit self.old.size (expected table.now self.old) }
@@ -179,7 +179,7 @@ impl Walk {
         Ok(None)
     }
 
-    // The first word of a frame, whose others are expected before all else.
+    // The first word of a frame. The frame's other words are expected next.
     fn open(&mut self, table: &Table, frame: Frame) -> Result<Option<(Role, u64)>, Memory>
         requires valid { IsValid table.now }
         requires fits { AllFit self.old.size (frame_words table.now frame) }

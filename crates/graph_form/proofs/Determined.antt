@@ -1,4 +1,4 @@
--- What was read of a graph determines what its loads come to.
+-- What was read of a graph determines the outcome of its loads.
 use Rattle.std.proofs.Common.{◌≡◌, ⊎_elim, ℕ, ◌+◌, ◌<◌, ◌≤◌, List, [], ◌∷◌, ◌++◌, length, get_or, refl, sym, ap}
 use Rattle.std.proofs.Common.{subst, ◌∙◌, arith, length-append, append-nil}
 use Rattle.std.proofs.lemmas.Bool.{cases_lt}
@@ -16,7 +16,7 @@ use Rattle.graph_form.specs.Malformed.{is_malformed, ReadsBy}
 use Rattle.graph_form.specs.Loading.{LeadsTo}
 use Rattle.graph_form.proofs.Joined.{join, placed-join, loaded_words-join, placed-sound, sound-leads, loads-same}
 
--- ---- the first words of a placed tree, none of which offends, lead to the next
+-- ---- the first words of a placed tree, if all are valid, lead to the next
 
 record LeadsToWord (T : Table) (H : ℕ) (es : Expected) (before : List Loaded) (next : Loaded) : Type 0 where
   role : Role
@@ -54,7 +54,7 @@ leads-to-word T H (f ∷ es) (first (word p v c) P) (b ∷ bs) next after h e fi
       is = rest.is;
     }
 
--- ---- of two readings of one graph the shorter is the front of the longer
+-- ---- of two readings of one graph the shorter is a prefix of the longer
 
 record GoesOn (T : Table) (H : ℕ) (reading : ℕ → ℕ → ℕ) (k : ℕ) (from to : Expected) (xs ys : List (ℕ × ℕ)) : Type 0 where
   more : List (ℕ × ℕ)
@@ -105,7 +105,7 @@ reads-front reading k (x ∷ xs) ys r =
     let rest = reads-front reading (k + 1) xs ys r.1 in
     ((r.0, rest.0), subst (λ n. ReadsBy reading n ys) (omega arith) rest.1)
 
--- nothing leads on from where nothing is expected
+-- if nothing is expected, no loads lead further
 nothing-more : (T : Table) (H : ℕ) (more : List (ℕ × ℕ)) (e : Role × ℕ) (rest : Expected) → LeadsTo T H [] more (e ∷ rest) → ⊥
 nothing-more T H [] e rest h = cc
 nothing-more T H (x ∷ more) e rest h = h
@@ -114,7 +114,7 @@ none-left : (T : Table) (H : ℕ) (more : List (ℕ × ℕ)) → LeadsTo T H [] 
 none-left T H [] h = refl
 none-left T H (x ∷ more) h = absurd h
 
--- no load goes on at a word that offends
+-- no load follows an invalid word
 stops : (T : Table) (H : ℕ) (reading : ℕ → ℕ → ℕ) (k : ℕ) (e : Role × ℕ) (rest to : Expected) (x : ℕ × ℕ)
     (more : List (ℕ × ℕ)) (v : ℕ) (reason : Reason) → LeadsTo T H (e ∷ rest) (x ∷ more) to
     → ReadsBy reading k (x ∷ more) → v ≡ reading k e.1 → OffendsFirst T H e.0 v reason → ⊥
@@ -170,7 +170,7 @@ ends T H msg address limit xs o (is_copied P h l few is) =
     (sound-leads T H (node_words T msg 1 address) [] P h.words))) l few is
 ends T H msg address limit xs o (is_malformed reason place v h is) = ends-malformed T H msg address limit xs o reason place v h is
 
--- ---- two ends of one reading are one
+-- ---- two ends of one reading are equal
 
 abbrev at-order : ℕ → Reason
 at-order n = get_or (NoMethod ∷ Presence ∷ Case ∷ Length ∷ Narrow ∷ Utf8 ∷ Address ∷ Depth ∷ Loads ∷ []) n NoMethod
@@ -202,8 +202,8 @@ same-sound T H msg address P Q h g e =
     (placed-sound T H (node_words T msg 1 address) Q g.words)
     (append-nil (loads P) ∙ e ∙ sym (append-nil (loads Q)))).0
 
--- a sound tree's loads and those that lead to a further word are not those of one reading, unless the latter go past
--- the limit
+-- one reading doesn't give both the loads of a sound tree and loads that lead to a further word, unless the latter
+-- exceed the limit
 sound-not_led : (T : Table) (H : ℕ) (reading : ℕ → ℕ → ℕ) (es : Expected) (xs ys : List (ℕ × ℕ)) (e : Role × ℕ)
     (rest : Expected) → LeadsTo T H es xs [] → LeadsTo T H es ys (e ∷ rest) → ReadsBy reading 1 xs
     → ReadsBy reading 1 ys → length xs ≤ length ys → ⊥
@@ -211,7 +211,7 @@ sound-not_led T H reading es xs ys e rest h g r s le =
     let on = goes-on T H reading 1 es [] (e ∷ rest) xs ys h g r s le in
     nothing-more T H on.more e rest on.leads
 
--- loads that end at an offence aren't the front of further ones
+-- loads that end at an invalid word aren't a prefix of longer ones
 offence-last : (T : Table) (H : ℕ) (reading : ℕ → ℕ → ℕ) (es to : Expected) (ys zs : List (ℕ × ℕ)) (e : Role × ℕ)
     (rest : Expected) (v : ℕ) (reason : Reason) → LeadsTo T H es ys (e ∷ rest) → OffendsFirst T H e.0 v reason
     → ReadsBy reading 1 (ys ++ (e.1, v) ∷ []) → LeadsTo T H es zs to → ReadsBy reading 1 zs → length ys < length zs
@@ -222,7 +222,7 @@ offence-last T H reading es to ys zs e rest v reason h bad r g s less =
     let long : length zs ≡ length ys + length on.more = ap length on.is ∙ length-append ys on.more in
     offence-more T H reading (1 + length ys) e rest to on.more v reason on.leads on.reads front.1.0 bad (omega (arith, long, less))
 
--- two offences of one reading, the second no earlier
+-- two invalid words of one reading, the second no earlier
 same-offence : (T : Table) (H : ℕ) (reading : ℕ → ℕ → ℕ) (es : Expected) (ys zs : List (ℕ × ℕ)) (e f : Role × ℕ)
     (rest more : Expected) (v u : ℕ) (r q : Reason) → LeadsTo T H es ys (e ∷ rest) → OffendsFirst T H e.0 v r
     → ReadsBy reading 1 (ys ++ (e.1, v) ∷ []) → LeadsTo T H es zs (f ∷ more) → OffendsFirst T H f.0 u q
@@ -265,7 +265,7 @@ swapped xs ys o q h = (sym h.0, sym h.1)
 abbrev Expecting : Table → ℕ → ℕ → Expected
 Expecting T msg address = node_words T msg 1 address
 
--- a sound tree and a malformed graph aren't one reading
+-- one reading doesn't give both a sound tree and a malformed graph
 sound-offence : (T : Table) (H : ℕ) (reading : ℕ → ℕ → ℕ) (es : Expected) (xs ys : List (ℕ × ℕ)) (e : Role × ℕ)
     (rest : Expected) (v : ℕ) (reason : Reason) → LeadsTo T H es xs [] → ReadsBy reading 1 xs
     → LeadsTo T H es ys (e ∷ rest) → OffendsFirst T H e.0 v reason → ReadsBy reading 1 (ys ++ (e.1, v) ∷ []) → ⊥

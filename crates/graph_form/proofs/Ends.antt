@@ -1,4 +1,4 @@
--- What loads come to that end at a word that offends, or at the limit: a malformed graph.
+-- The outcome of loads that end at an invalid word, or at the limit: a malformed graph.
 use Rattle.std.proofs.Common.{◌≡◌, ◌⊎◌, inl, inr, ⊎_elim, ℕ, zero, suc, ◌+◌, ◌-◌, ◌*◌, ◌/◌, ◌<◌, ◌≤◌, ◌^◌, Bool, true}
 use Rattle.std.proofs.Common.{false, nat_le, cond, List, [], ◌∷◌, ◌++◌, length, take, refl, sym, ap, subst, ◌∙◌}
 use Rattle.std.proofs.Common.{arith, length-append}
@@ -25,7 +25,7 @@ use Rattle.graph_form.specs.Malformed.{Loaded, loaded_words, loads_of, AreFine, 
 use Rattle.graph_form.specs.Loading.{LeadsTo}
 use Rattle.graph_form.proofs.Joined.{placed-parts, loaded_words-join}
 
--- ---- some placed tree stands wherever words are expected: one of zeros
+-- ---- for any expected words there is a placed tree: one of zeros
 
 abbrev IsEither : Table → ℕ → Role → ℕ → Type 0
 IsEither T H role v = IsFine T H role v ⊎ IsFaulty T H role v
@@ -64,7 +64,7 @@ number-zero T H TheBool = inl (fine-number T H TheBool 0 (omega arith))
 nowhere : (H words : ℕ) → LiesIn H 0 words → ⊥
 nowhere H words h = let a = h.from_one in omega (arith, a)
 
--- no word of a run offends as a number, or is text that isn't UTF-8
+-- a zero word of a run is valid as a number; in a text it may be invalid UTF-8
 run-fine : (T : Table) (H : ℕ) (k : Kind) (left : ℕ) (before : List ℕ)
     → (k ≡ Text → left ≤ 8 → IsUtf8 (before ++ take left (word_bytes 0))) → IsFine T H (run_word k left before) 0
 run-fine T H k left before text Narrow bad = let a = pow_pos (8 * left) in let b = bad.1 in omega (arith, a, b)
@@ -84,7 +84,7 @@ text-zero T H left before true is s = inl (run-fine T H Text left before (λ t l
 text-zero T H left before false is (inl few) = inr (Utf8, (few, λ good. (let bad : true ≡ false = sym (is_utf8-from_IsUtf8 (before ++ take left (word_bytes 0)) good) ∙ is in cc)))
 text-zero T H left before false is (inr more) = inl (run-fine T H Text left before (λ t l. absurd (omega (arith, more, l))))
 
--- a word of zero, and whether it offends; nothing is expected behind it but the next word of a run
+-- a zero word, valid or not; it leads to nothing but the next word of a run
 run-zero : (T : Table) (H : ℕ) (k : Kind) (left : ℕ) (before : List ℕ) → IsEither T H (run_word k left before) 0
 run-zero T H Text left before = text-zero T H left before (is_utf8 (before ++ take left (word_bytes 0))) refl
     (elim (nat_le left 8) as (λ b. nat_le left 8 ≡ b
@@ -95,7 +95,7 @@ run-zero T H Text left before = text-zero T H left before (is_utf8 (before ++ ta
     ] refl)
 run-zero T H k left before = inl (run-fine T H k left before (λ e l. absurd (cc)))
 
--- nothing stands behind a word of this role, where it is fine
+-- a valid word of this role leads to nothing
 abbrev HasNoneBehind : Table → Role → ℕ → Type 0
 HasNoneBehind T role p = behind T role p 0 ≡ []
 
@@ -147,7 +147,7 @@ run-behind : (T : Table) (H : ℕ) (k : Kind) (left : ℕ) (before : List ℕ) (
 run-behind T H k left before p true next = (nothing, tt)
 run-behind T H k left before p false next = (first (word (p + 1) 0 next.content) nothing, (refl, pow_pos 64, next.stands, tt))
 
--- so many bytes are left of a run, in so many words at most
+-- a run with `left` bytes in at most `steps` more words
 zero-run : (T : Table) (H : ℕ) (k : Kind) (steps left : ℕ) (before : List ℕ) (p : ℕ) → left ≤ 8 * steps → Zeroed T H (run_word k left before) p
 zero-run T H k zero left before p few =
     ⊎_elim
@@ -234,7 +234,7 @@ none-behind T (e ∷ es) = refl
 loads-last : (before : List Loaded) (w : Loaded) → loads_of (before ++ w ∷ []) ≡ loads_of before ++ (w.place, w.number) ∷ []
 loads-last before w = map-append (λ (u : Loaded). (u.place, u.number)) before (w ∷ [])
 
--- the loads lead to a word that offends, and it is loaded
+-- the loads lead to an invalid word, and it is loaded
 pub ends-at-offence : (T : Table) (H msg address limit : ℕ) (xs : List (ℕ × ℕ)) (e : Role × ℕ) (rest : Expected)
     (v : ℕ) (reason : Reason) → LiesIn H address (size_words T msg)
     → LeadsTo T H (node_words T msg 1 address) xs (e ∷ rest) → length xs < limit → v < 2 ^ 64
@@ -254,7 +254,7 @@ ends-at-offence T H msg address limit xs e rest v reason root leads within small
     b.fine bad (let n = length-append xs ((e.1, v) ∷ []) in omega (arith, n, within))
     (ap (λ ys. ys ++ (e.1, v) ∷ []) b.loads ∙ sym (loads-last b.before w)) refl refl
 
--- the last of some loads and the last of the words that were loaded
+-- the last of some loads, and the last of the loaded words
 record EndsWith (before : List Loaded) (xs : List (ℕ × ℕ)) (x : ℕ × ℕ) : Type 0 where
   front : List Loaded
   last : Loaded
@@ -274,7 +274,7 @@ ends-with (w ∷ ws) (y ∷ xs) x h =
     let rest = ends-with ws xs x t in
     record { front = w ∷ rest.front; last = rest.last; is = ap (λ z. w ∷ z) rest.is; place = rest.place; number = rest.number }
 
--- as many loads as the limit lead to a word that is still expected
+-- loads up to the limit lead to a word that is still expected
 pub ends-at-limit : (T : Table) (H msg address limit : ℕ) (xs : List (ℕ × ℕ)) (x : ℕ × ℕ) (e : Role × ℕ)
     (rest : Expected) → LiesIn H address (size_words T msg)
     → LeadsTo T H (node_words T msg 1 address) (xs ++ x ∷ []) (e ∷ rest) → length (xs ++ x ∷ []) ≡ limit

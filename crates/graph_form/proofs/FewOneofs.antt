@@ -1,4 +1,4 @@
--- How many oneofs a message has: in a valid table no more than fields.
+-- The number of oneofs of a message: in a valid table no more than its fields.
 use Rattle.std.proofs.Common.{◌≡◌, ℕ, suc, ◌+◌, ◌≤◌, List, [], ◌∷◌, length, All, Some, subst, arith, Option, None, ap, option_map, unwrap_or, slice_get, inl, inr}
 use Rattle.std.proofs.lemmas.Option.{slice_get_cases}
 use Rattle.mrpc_table.specs.Valid.{IsValid, IsMessage, Joins, OneofsFollow}

@@ -1,5 +1,5 @@
--- What of a valid table the normal form of a graph's tree rests on: in each message the numbers rise, no key is a
--- message, and the slots stand by ascending number.
+-- The properties of a valid table on which the normal form of a graph's tree rests: in each message the numbers rise,
+-- no key is a message, and the slots are in ascending order of numbers.
 use Rattle.std.proofs.Common.{◌≡◌, ◌≢◌, ℕ, zero, suc, ◌<◌, Bool, List, [], ◌∷◌, length, get_or, All, Some, true}
 use Rattle.std.proofs.Common.{false, cond, if◌then◌else◌, refl, ap, subst, ◌∙◌, arith, slice_get, option_map}
 use Rattle.std.proofs.Common.{unwrap_or}
@@ -23,7 +23,7 @@ IsNoMessage k = (i : ℕ) → k ≢ OfMessage i
 abbrev pub HasPlainKey : Label → Type 0
 HasPlainKey label = (key : Kind) → label ≡ Map key → IsNoMessage key
 
--- fields with numbers that rise from above `last`
+-- fields with rising numbers, all above `last`
 abbrev pub RiseFrom : ℕ → List Field → Type 0
 RiseFrom last [] = Unit {0}
 RiseFrom last (f ∷ fs) = (last < f.number) × HasPlainKey f.label × RiseFrom f.number fs
@@ -72,7 +72,7 @@ field-here f fs = ap (λ b. cond b (Some f) (field_at fs f.number)) (eq-eqb f.nu
 field-later : (f : Field) (fs : List Field) (n : ℕ) → f.number ≢ n → field_at (f ∷ fs) n ≡ field_at fs n
 field-later f fs n other = ap (λ b. cond b (Some f) (field_at fs n)) (ne_eqb f.number n other)
 
--- the fields are all those of a message with numbers above `last`
+-- `fs` are all fields of a message with numbers above `last`
 abbrev AreRest : List Field → ℕ → List Field → Type 0
 AreRest all last fs = (n : ℕ) → last < n → field_at all n ≡ field_at fs n
 

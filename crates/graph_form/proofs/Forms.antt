@@ -1,4 +1,4 @@
--- What stands under words that don't offend: numbers of their kinds, and runs of bytes.
+-- The contents of valid words: numbers of their kinds, and runs of bytes.
 use Rattle.std.proofs.Common.{◌≡◌, ◌⊎◌, inl, inr, ⊎_elim, ℕ, zero, suc, ◌+◌, ◌-◌, ◌<◌, ◌≤◌, ◌^◌, Bool, true, false}
 use Rattle.std.proofs.Common.{nat_le, cond, List, [], ◌∷◌, ◌++◌, length, take, get_or, All, refl, sym, ap, subst, ◌∙◌}
 use Rattle.std.proofs.Common.{arith, length-append}
@@ -62,7 +62,7 @@ number-form T H k v small fine = small
 
 -- ---- runs
 
--- the words of a run, from one on, which don't offend
+-- the valid words of a run, from one of them
 pub record IsRunFrom (k : Kind) (left : ℕ) (before : List ℕ) (P : Placed) : Type 0 where
   pub long : left ≤ length (chain_bytes P)
   pub bytes : All (λ b. b < 256) (chain_bytes P)
@@ -85,7 +85,7 @@ byte-at v (suc (suc (suc (suc (suc (suc (suc (suc i)))))))) h = absurd (omega (a
 word-bytes : (v : ℕ) → All IsByte (word_bytes v)
 word-bytes v = All-from_get_or IsByte (word_bytes v) 0 (byte-at v)
 
--- the next word of a run behind one with this number, if so many bytes are left that there is one
+-- the next word of a run after one with this number, if enough bytes remain for one
 abbrev NextOfRun : Kind → ℕ → List ℕ → ℕ → ℕ → Bool → Expected
 NextOfRun k left before q v b = cond b [] ((run_word k (left - 8) (before ++ word_bytes v), q + 1) ∷ [])
 
@@ -122,14 +122,14 @@ run-go T H k left before q v nothing true e fine h next = last-word T H k left b
 run-go T H k left before q v (first w P) true e fine h next = absurd h
 run-go T H k left before q v P false e fine h next = more-words k left before q v P (grind (arith, nat_tests)) (next h)
 
--- the words of a run, with so many bytes left and those before
+-- the words of a run, with `left` bytes remaining after those before
 pub run-from : (T : Table) (H : ℕ) (k : Kind) (left : ℕ) (before : List ℕ) (q : ℕ) (P : Placed) → AreSound T H ((run_word k left before, q) ∷ []) P → IsRunFrom k left before P
 run-from T H k left before q nothing h = absurd h
 run-from T H k left before q (first (word p v c) (first w P)) h = absurd h.4
 run-from T H k left before q (first (word p v c) nothing) h =
     run-go T H k left before p v c (nat_le left 8) refl h.2 h.3 (λ sound. run-from T H k (left - 8) (before ++ word_bytes v) (p + 1) c sound)
 
--- the run whose address stands there: so many bytes, and UTF-8 where it is a string
+-- the run at an address word: `count` bytes, and UTF-8 if it is a string
 pub record IsRunAt (k : Kind) (count : ℕ) (P : Placed) : Type 0 where
   pub long : length (run_at count P) ≡ count
   pub bytes : All (λ b. b < 256) (run_at count P)

@@ -1,4 +1,4 @@
--- A tree in normal form with one more field at its place.
+-- A tree in normal form with one more field, in order.
 use Rattle.std.proofs.Common.{◌≡◌, ◌≢◌, ℕ, ◌+◌, ◌<◌, ◌≤◌, Bool, true, false, nat_lt, cond, List, refl, arith, max}
 use Rattle.std.specs.Prelude.{option_map, unwrap_or}
 use Rattle.std.proofs.lemmas.Bool.Decides.{nat_tests}
@@ -8,7 +8,7 @@ use Rattle.mrpc_table.specs.declared.table.Field.{Field}
 use Rattle.mrpc_table.specs.declared.table.Table.{Table}
 use Rattle.graph_form.specs.Forgotten.{insert_field}
 
--- each number of the tree is one of those
+-- each number of the tree has the property
 abbrev pub NumbersAre : (ℕ → Type 0) → Node → Type 0
 NumbersAre Q no_fields = Unit {0}
 NumbersAre Q (field n c t) = Q n × NumbersAre Q t
@@ -51,7 +51,7 @@ pub depth-insert : (room n : ℕ) (c : Content) (t : Node) → content_depth c �
 depth-insert room n c no_fields one h = omega (arith, one, h)
 depth-insert room n c (field m d t) one h = depth-go room n c m d t (nat_lt n m) one h (depth-insert room n c t one (omega (arith, h)))
 
--- how many members of a oneof the field of a number is
+-- the number of oneof members with a field number: 0 or 1
 abbrev pub members_at : List Field → ℕ → ℕ → ℕ
 members_at fs o n = unwrap_or (option_map (λ f. membership f.label o) (field_at fs n)) 0
 

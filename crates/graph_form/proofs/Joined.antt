@@ -7,7 +7,7 @@ use Rattle.graph_form.specs.Placed.{Placed, nothing, first, word, loads, IsFine,
 use Rattle.graph_form.specs.Malformed.{Loaded, loaded_words}
 use Rattle.graph_form.specs.Loading.{LeadsTo}
 
--- the words of one placed tree, and then those of another
+-- the words of one placed tree, followed by those of another
 abbrev pub join : Placed → Placed → Placed
 join nothing Q = Q
 join (first w P) Q = first w (join P Q)
@@ -89,7 +89,7 @@ loads-same T H (f ∷ es) (first (word p v c) P) (first (word q u d) Q) xs ys h 
     let rest = loads-same T H es P Q xs ys h.3 k.3 inner.1 in
     (ap (λ z. first (word z v c) P) same.0 ∙ ap (λ z. first (word q z c) P) same.1 ∙ ap (λ z. first (word q u z) P) inner.0 ∙ ap (first (word q u d)) rest.0, rest.1)
 
--- ---- a sound placed tree, and what its loads lead to
+-- ---- a sound placed tree, and the words that its loads lead to
 
 pub placed-sound : (T : Table) (H : ℕ) (es : Expected) (P : Placed) → AreSound T H es P → IsPlaced T H es P
 placed-sound T H [] nothing h = tt

@@ -1,4 +1,4 @@
--- Of a malformed graph: how many words were loaded, and which reasons it has.
+-- For a malformed graph: the number of loaded words, and the possible reasons.
 use Rattle.std.proofs.Common.{◌≡◌, ℕ, ◌≤◌, List, length, subst, ap, arith}
 use Rattle.mrpc_table.specs.declared.table.Kind.TheVariants.{Text}
 use Rattle.mrpc_table.specs.declared.table.Table.{Table}
@@ -14,7 +14,7 @@ few_loads T H msg address limit xs reason place value (no_root outside none is a
 few_loads T H msg address limit xs reason place value (offends before after last begins fine first few are at v) = few
 few_loads T H msg address limit xs reason place value (too_many before after last next begins fine full are is at v) = omega (arith, full)
 
--- no word offends for lack of a method
+-- no word is invalid for lack of a method
 has_method : (T : Table) (H : ℕ) (role : Role) (v : ℕ) → Offends T H role v NoMethod → ⊥
 has_method T H role v = elim role as (λ r. Offends T H r v NoMethod → ⊥) [
   | run_word k left before ↦ elim k as (λ k. Offends T H (run_word k left before) v NoMethod → ⊥) [ Text ↦ λ bad. bad | _ ↦ λ bad. bad ]

@@ -31,7 +31,7 @@ use Rattle.graph_form.proofs.FieldOrder.{IsNoMessage, HasPlainKey, AllRise, all-
 use Rattle.graph_form.proofs.Forms.{number-form, IsRunAt, run-at, no-run}
 use Rattle.graph_form.proofs.Inserting.{NumbersAre, numbers-weaker, numbers-insert, fields-insert, depth-insert, members_at, members-insert}
 
--- what is kept of a map's entries is in normal form: the law of those entries
+-- the entries that are kept of a map are in normal form: the law of those entries
 abbrev pub KeptAreNormal : Type 0
 KeptAreNormal =
     ((T : Table) (key k : Kind) (es : List (Item × Item)) → AllByRecursion (λ e. IsItem T key e.0 × IsItem T k e.1) es → ArePairs T key k (last_of_each key es))
@@ -42,19 +42,19 @@ KeptAreNormal =
     → pairs_depth (last_of_each key es) ≤ room)
     × ((key : Kind) (e : Item × Item) (es : List (Item × Item)) → last_of_each key (e ∷ es) ≢ no_pairs)
 
--- a value in a message that has so many messages below it yet, itself included
+-- a value in a message under which `room` levels of messages fit, its own included
 record GoodItem (T : Table) (k : Kind) (room : ℕ) (i : Item) : Type 0 where
   is : IsItem T k i
   depth : item_depth i ≤ room
 
--- a node that has so many messages below it yet, itself included
+-- a node under which `room` levels of messages fit, its own included
 record GoodNode (T : Table) (fs : List Field) (room : ℕ) (Q : ℕ → Type 0) (t : Node) : Type 0 where
   fields : HasFields T fs 0 t
   depth : depth t ≤ room
   numbers : NumbersAre Q t
   members : OneMemberEach fs t
 
--- one field more, at a number that isn't there
+-- one more field, with a new number
 insert-good : (T : Table) (fs : List Field) (room : ℕ) (Q R : ℕ → Type 0) (n : ℕ) (c : Content) (t : Node)
     → ((m : ℕ) → Q m → R m) → R n → 0 < n → HasContent T fs n c → content_depth c ≤ room → NumbersAre (λ m. m ≢ n) t
     → ((o : ℕ) → members_at fs o n + members_in fs o t ≤ 1) → GoodNode T fs room Q t
@@ -71,7 +71,7 @@ weaker-good T fs room Q R t weaker h = record { fields = h.fields; depth = h.dep
 
 -- ---- numbers of members and of slots
 
--- the number is that of a member of a oneof, of one from a place on
+-- the number is that of a member of a oneof, of the given one or a later one
 record IsMemberFrom (fs : List Field) (o n : ℕ) : Type 0 where
   field : Field
   oneof : ℕ
@@ -105,7 +105,7 @@ membership-few : (l : Label) (o : ℕ) → membership l o ≤ 1
 membership-few (Member p) o = elim (p == o) as (λ b. cond b 1 0 ≤ 1) [ true ↦ omega arith | false ↦ omega arith ]
 membership-few _ o = omega arith
 
--- where all numbers are of members of oneofs behind this one, none is of this one
+-- if all numbers are of members of later oneofs, none is of this one
 none-of : (fs : List Field) (o from : ℕ) (t : Node) → o < from → NumbersAre (IsMemberFrom fs from) t → members_in fs o t ≡ 0
 none-of fs o from no_fields less h = refl
 none-of fs o from (field n c t) less h =
@@ -128,7 +128,7 @@ run-item T Text room bytes P kind h = record { is = h.text refl; depth = omega a
 run-item T Octets room bytes P kind h = record { is = h.bytes; depth = omega arith }
 run-item T k room bytes P kind h = absurd (⊎_elim (λ e. cc) (λ e. cc) kind)
 
--- what the words behind an address are, where they are a node
+-- a property of the words at an address, if they are a node
 abbrev NodeFact : Table → ℕ → Placed → Type 0
 NodeFact T H P = (m d q : ℕ) → d ≤ 32 → AreSound T H (node_words T m d q) P
     → GoodNode T (fields_of T m) (33 - d) (IsMemberOrAbove (fields_of T m) 0)
@@ -143,14 +143,14 @@ zero-of v e = grind (arith, nat_tests)
 not-zero-of : (v : ℕ) → (v == 0) ≡ false → v ≢ 0
 not-zero-of v e = eqb-false v 0 e
 
--- a run of a length whose address, where there is one, stands behind it
+-- a run with a length; the address, if there is one, follows it
 length-go : (T : Table) (H : ℕ) (k : Kind) (room v q : ℕ) (c : Placed) (b : Bool) → (v == 0) ≡ b → IsRunKind k
     → AreSound T H (cond b [] ((run_address k v, q + 1) ∷ [])) c → GoodItem T k room (run (run_at v c))
 length-go T H k room v q nothing true e kind h = run-item T k room v nothing kind (subst (λ n. IsRunAt k n nothing) (sym (zero-of v e)) (no-run k))
 length-go T H k room v q (first w c) true e kind h = absurd h
 length-go T H k room v q c false e kind h = run-item T k room v c kind (run-at T H k v (q + 1) [] c h)
 
--- a message behind its address
+-- a message at its address
 message-go : (T : Table) (H m d : ℕ) (needed : Bool) (q v : ℕ) (c : Placed) (b : Bool) → (v == 0) ≡ b → d ≤ 32
     → IsFine T H (link m d needed) v → (v ≡ 0 → needed ≡ true) → AreSound T H (cond b [] (node_words T m (d + 1) v)) c
     → NodeFact T H c → GoodItem T (OfMessage m) (33 - d)
@@ -164,7 +164,7 @@ message-go T H m d needed q v c false e low fine there h fact =
     let deep = good.depth in
     record { is = (m, refl, good.fields, good.members); depth = omega (arith, deep, room) }
 
--- the value of a plain slot whose first word doesn't offend
+-- the value of a plain slot with a valid first word
 plain-good : (T : Table) (H : ℕ) (k : Kind) (d : ℕ) (needed : Bool) (q v : ℕ) (c : Placed) → d ≤ 32 → v < 2 ^ 64
     → IsFine T H (plain_role k d needed) v → (v ≡ 0 → needed ≡ true)
     → AreSound T H (behind T (plain_role k d needed) q v) c → NodeFact T H c
@@ -174,7 +174,7 @@ plain-good T H Octets d needed q v c low small fine there h fact = length-go T H
 plain-good T H (OfMessage m) d needed q v c low small fine there h fact = message-go T H m d needed q v c (v == 0) refl low fine there h fact
 plain-good T H k d needed q v c low small fine there h fact = number-item T H k (33 - d) v small fine
 
--- ---- what a field has
+-- ---- the content of a field
 
 record GoodElements (T : Table) (k : Kind) (room n : ℕ) (is : Items) : Type 0 where
   all : AreItems T k is
@@ -194,7 +194,7 @@ abbrev SecondGood : Table → Kind → Kind → ℕ → ℕ → Placed → Type 
 SecondGood T key k room n nothing = ⊥
 SecondGood T key k room n (first w others) = GoodItem T k room (plain_item T k w) × GoodEntries T key k room n (entries_in T key k others)
 
--- what some words are, whatever they were loaded for
+-- properties of some words, whatever they were loaded for
 record Facts (T : Table) (H : ℕ) (P : Placed) : Type 0 where
   slots : (fs slots : List Field) (last k o d q r : ℕ) → d ≤ 32 → SlotsFrom fs last slots
       → AreSound T H (slots_from slots d q ++ cases_from k fs o d r) P
@@ -241,7 +241,7 @@ plain-content : (T : Table) (k : Kind) (q v : ℕ) (c : Placed) → slot_content
 plain-content T (OfMessage m) q v c = refl
 plain-content T k q v c = refl
 
--- an optional run: its length and one more stand in front
+-- an optional run: it starts with its length plus 1
 optional-go : (T : Table) (H : ℕ) (k : Kind) (room v q : ℕ) (c : Placed) (b : Bool) → nat_le v 1 ≡ b
     → (v == 0) ≡ false → IsRunKind k → AreSound T H (cond b [] ((run_address k (v - 1), q + 1) ∷ [])) c
     → GoodItem T k room (run (run_at (v - 1) c))
@@ -297,7 +297,7 @@ map-good law T H key k d q v c plain e low h facts =
       law.2 key (33 - d) es good.depth,
     )
 
--- what a field has by a slot whose first word doesn't offend
+-- the content of a field, by a slot with a valid first word
 content-good : (law : KeptAreNormal) (T : Table) (H : ℕ) (l : Label) (k : Kind) (d q v : ℕ) (c : Placed) → AllRise T
     → d ≤ 32 → is_member l ≡ false → HasPlainKey l → v < 2 ^ 64 → IsFine T H (slot_role l k d) v
     → AreSound T H (behind T (slot_role l k d) q v) c → Facts T H c
@@ -324,7 +324,7 @@ content-has T fs f room (one i) at h = ((f, at, h.0, h.1.is), h.1.depth)
 content-has T fs f room (many is) at h = ((f, at, h.0, h.1, h.2), h.3)
 content-has T fs f room (pairs ps) at h = ((f, h.0, at, h.1, h.2, h.3, h.4), h.5)
 
--- no number of the fields behind a slot is the slot's
+-- no number of the fields after a slot is the slot's
 slot-apart : (fs : List Field) (f : Field) (t : Node) → field_at fs f.number ≡ Some f → is_member f.label ≡ false
     → NumbersAre (IsMemberOrAbove fs f.number) t → NumbersAre (λ m. m ≢ f.number) t
 slot-apart fs f t at own h =
@@ -352,7 +352,7 @@ with-slot T fs last room f (Some c) t less at own h good =
 
 -- ---- the member of a oneof
 
--- a case word that doesn't offend and isn't 0 is the number of a member
+-- a valid case word that isn't 0 is the number of a member
 record IsCaseOf (fs : List Field) (o n : ℕ) : Type 0 where
   field : Field
   at : field_at fs n ≡ Some field
@@ -388,7 +388,7 @@ case-go T H fs o d v (Some f) false at e some fine =
 case-of : (T : Table) (H : ℕ) (fs : List Field) (o d v : ℕ) → v ≢ 0 → IsFine T H (case_word fs o d) v → IsCaseOf fs o v
 case-of T H fs o d v some fine = case-go T H fs o d v (field_at fs v) (is-case (field_at fs v) o) refl refl some fine
 
--- the fields with one member more
+-- the fields with one more member
 member-good : (T : Table) (fs : List Field) (room o v : ℕ) (i : Item) (t : Node) → v ≢ 0 → IsCaseOf fs o v
     → GoodItem T (kind_at fs v) room i → GoodNode T fs room (IsMemberFrom fs (o + 1)) t
     → GoodNode T fs room (IsMemberFrom fs o) (insert_field v (one i) t)
@@ -477,7 +477,7 @@ elements-step T H p v c P rise inside behind k (suc n) d q low h =
     let rest = behind.elements k n d (q + element_words k) low h.4 in
     record { all = (i.is, rest.all); depth = let a = i.depth in let b = rest.depth in omega (arith, a, b); some = λ nz e. cc }
 
--- a value, and the entries behind it
+-- a value, and the entries after it
 second-step : (T : Table) (H p v : ℕ) (c P : Placed) → AllRise T → Facts T H c → Facts T H P
     → (key k : Kind) (n d at q : ℕ) → d ≤ 32
     → AreSound T H ((plain_role k d true, at) ∷ entries_from n key k d q) (first (word p v c) P)

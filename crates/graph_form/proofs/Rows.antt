@@ -25,7 +25,7 @@ table_of fields oneofs = record {
 abbrev one_field : ℕ → Label → Kind → Field
 one_field n l k = record { number = n; name = codes "f"; kind = k; label = l }
 
--- a word with nothing behind it, and then those
+-- a word without content, followed by others
 abbrev alone : ℕ → ℕ → Placed → Placed
 alone place v others = first (word place v nothing) others
 
@@ -57,7 +57,7 @@ three-loads = refl
 three-tree : tree_of packed 0 three ≡ field 6 (many (item (number 3) (item (number 270) (item (number 86942) no_items)))) no_fields
 three-tree = refl
 
--- ---- a plain number, an optional one and a oneof, whose slot is the last and whose member stands by its number
+-- ---- a plain number, an optional one, and a oneof, whose slot is the last and whose member is ordered by its number
 
 abbrev mixed : Table
 mixed = table_of (one_field 1 Plain Uint64 ∷ one_field 2 Optional Uint64 ∷ one_field 3 (Member 0) Uint64 ∷ one_field 4 (Member 0) Text ∷ []) (codes "c" ∷ [])
@@ -99,7 +99,7 @@ entries-tree = refl
 abbrev numbers : Table
 numbers = table_of (one_field 1 Plain Int32 ∷ one_field 2 Plain Sint32 ∷ one_field 3 Plain Uint64 ∷ []) []
 
--- the root's last word would lie behind the heap's
+-- the root's last word would be past the end of the heap
 outside : IsMalformed (table_of (one_field 1 Plain Uint64 ∷ []) []) 16 0 15 1024 [] Address 0 15
 outside = no_root (λ lies. (let a = lies.to_end in omega (arith, a))) refl refl refl refl
 

@@ -26,41 +26,41 @@ abbrev pub chain_bytes : Placed → List ℕ
 chain_bytes nothing = []
 chain_bytes (first (word place v content) others) = word_bytes v ++ chain_bytes content
 
--- so many bytes of the run whose address stands there
+-- the first `bytes` bytes of the run at an address word
 abbrev pub run_at : ℕ → Placed → List ℕ
 run_at bytes nothing = []
 run_at bytes (first (word place v content) others) = take bytes (chain_bytes content)
 
--- the number of a word that stands alone
+-- the number in a single word
 abbrev pub number_at : Placed → ℕ
 number_at nothing = 0
 number_at (first (word place v content) others) = v
 
--- nothing where the first word of a slot is 0
+-- nothing if the first word of a slot is 0
 abbrev pub unless_zero : ℕ → Content → Option Content
 unless_zero v c = if v == 0 then None else Some c
 
--- the value of a plain slot that is no message: a number is the word itself, a run has its bytes behind its length
+-- the value of a plain slot that is no message: a number is the word itself, a run has its length and then its bytes
 abbrev pub scalar_item : Kind → ℕ → Placed → Item
 scalar_item Text v content = run (run_at v content)
 scalar_item Octets v content = run (run_at v content)
 scalar_item k v content = number v
 
--- the value of an optional slot: a number stands behind its presence, a run behind its length and one more
+-- the value of an optional slot: a presence word and then the number, or the length plus 1 and then the run
 abbrev pub optional_item : Kind → ℕ → Placed → Item
 optional_item Text v content = run (run_at (v - 1) content)
 optional_item Octets v content = run (run_at (v - 1) content)
 optional_item k v content = number (number_at content)
 
 abbrev mutual
-  -- the fields of these slots, and then the members of the oneofs of the fields fs
+  -- the fields of these slots, then the members of the oneofs of the fields `fs`
   pub slots_tree : Table → List Field → List Field → Placed → Node
   slots_tree T fs slots nothing = no_fields
   slots_tree T fs [] (first w others) = with_member T fs w (slots_tree T fs [] others)
   slots_tree T fs (f ∷ slots) (first w others) =
       with_field f.number (slot_content T f.label f.kind w) (slots_tree T fs slots others)
 
-  -- what a field has by its slot: nothing where the first word is 0
+  -- the content of a field by its slot: nothing if the first word is 0
   pub slot_content : Table → Label → Kind → Word → Option Content
   slot_content T Optional k (word place v content) = unless_zero v (one (optional_item k v content))
   slot_content T Repeated k (word place v content) = unless_zero v (many (elements_at T k content))
@@ -71,18 +71,18 @@ abbrev mutual
       unless_zero v (one (node (slots_tree T (fields_of T m) (own_slots (fields_of T m)) content)))
   slot_content T _ k (word place v content) = unless_zero v (one (scalar_item k v content))
 
-  -- the fields with the member that a oneof's slot has, if its case isn't 0
+  -- the fields with the member in a oneof's slot, if its case isn't 0
   pub with_member : Table → List Field → Word → Node → Node
   with_member T fs (word place v nothing) t = t
   with_member T fs (word place v (first w others)) t = insert_field v (one (plain_item T (kind_at fs v) w)) t
 
-  -- the value of a plain slot: that of a message is the tree of the node behind its address
+  -- the value of a plain slot; for a message, the tree of the node at its address
   pub plain_item : Table → Kind → Word → Item
   plain_item T (OfMessage m) (word place v content) =
       node (slots_tree T (fields_of T m) (own_slots (fields_of T m)) content)
   plain_item T k (word place v content) = scalar_item k v content
 
-  -- the elements whose address stands there
+  -- the elements at an address word
   pub elements_at : Table → Kind → Placed → Items
   elements_at T k nothing = no_items
   elements_at T k (first (word place v content) others) = elements_in T k content
@@ -91,7 +91,7 @@ abbrev mutual
   elements_in T k nothing = no_items
   elements_in T k (first w others) = item (plain_item T k w) (elements_in T k others)
 
-  -- the entries whose address stands there, each a key and a value
+  -- the entries at an address word, each a key and a value
   pub entries_at : Table → Kind → Kind → Placed → List (Item × Item)
   entries_at T key k nothing = []
   entries_at T key k (first (word place v content) others) = entries_in T key k content
@@ -100,6 +100,6 @@ abbrev mutual
   entries_in T key k (first x (first y others)) = (plain_item T key x, plain_item T k y) ∷ entries_in T key k others
   entries_in T key k _ = []
 
--- the tree of a placed tree of the message at a place of the table
+-- the tree of a placed tree of the message at an index of the table
 abbrev pub tree_of : Table → ℕ → Placed → Node
 tree_of T msg P = slots_tree T (fields_of T msg) (own_slots (fields_of T msg)) P

@@ -1,11 +1,11 @@
--- Which word of a graph is loaded next: the first of those that are expected, and behind a word come first those that
--- it leads to.
+-- Which word of a graph is loaded next. It is the first of the expected words; the words that a loaded word leads to
+-- come before all others.
 use Rattle.std.specs.Prelude.{◌≡◌, ℕ, ◌<◌, ◌^◌, List, [], ◌∷◌, ◌++◌}
 use Rattle.mrpc_table.specs.declared.table.Table.{Table}
 use Rattle.graph_form.specs.Roles.{Expected, behind}
 use Rattle.graph_form.specs.Placed.{IsFine}
 
--- where some words are expected and these loads are made, none of which offends, the words that are expected then
+-- Under these expected words, the loads were made and all are valid. Now the words `next` are expected.
 abbrev pub LeadsTo : Table → ℕ → Expected → List (ℕ × ℕ) → Expected → Type 0
 LeadsTo T H es [] next = es ≡ next
 LeadsTo T H [] (load ∷ loads) next = ⊥

@@ -1,4 +1,4 @@
--- Which graphs are malformed: the loads that were made of one, up to the word that ends them, and for which reason.
+-- Which graphs are malformed: the loads up to the word that ends them, and the reason.
 use Rattle.std.specs.Prelude.{◌≡◌, ◌+◌, ◌≤◌, ℕ, List, [], ◌∷◌, ◌++◌, length, map, All}
 use Rattle.mrpc_table.specs.Node.{Node}
 use Rattle.mrpc_table.specs.declared.table.Table.{Table}
@@ -8,13 +8,13 @@ use Rattle.graph_form.specs.Roles.{Role, Expected, behind, node_words, size_word
 use Rattle.graph_form.specs.Placed.{Placed, nothing, first, word, loads as loads_in, LiesIn, Offends, IsFine, IsPlaced, IsSound}
 use Rattle.graph_form.specs.Forgotten.{tree_of}
 
--- a word that was loaded: what it is for, its place and its value
+-- a word that was loaded: its role, its place and its value
 pub record Loaded : Type 0 where
   pub role : Role
   pub place : ℕ
   pub number : ℕ
 
--- the words of a placed tree in the order of loading, each under the role that is expected of it
+-- the words of a placed tree in load order, each with its expected role
 abbrev pub loaded_words : Table → Expected → Placed → List Loaded
 loaded_words T [] P = []
 loaded_words T (e ∷ es) nothing = []
@@ -27,7 +27,7 @@ loads_of words = map (λ w. (w.place, w.number)) words
 abbrev pub AreFine : Table → ℕ → List Loaded → Type 0
 AreFine T H words = All (λ w. IsFine T H w.role w.number) words
 
--- the order of the reasons: of one word the first counts
+-- The order of the reasons. If a word has several, the first one counts.
 abbrev pub order_of : Reason → ℕ
 order_of Presence = 1
 order_of Case = 2
@@ -39,34 +39,34 @@ order_of Depth = 7
 order_of Loads = 8
 order_of NoMethod = 9
 
--- a word of the role with this number offends, and first for this reason
+-- a word of the role with this number is invalid, and this is the first reason
 pub record OffendsFirst (T : Table) (H : ℕ) (role : Role) (v : ℕ) (reason : Reason) : Type 0 where
   pub offends : Offends T H role v reason
   pub first : (other : Reason) → Offends T H role v other → order_of reason ≤ order_of other
 
--- of a placed tree of the message at this address these words were loaded, and then those would come
+-- of a placed tree of the message at this address, `before` was loaded and `after` would come next
 pub record Begins (T : Table) (H msg address : ℕ) (before after : List Loaded) : Type 0 where
   pub root : LiesIn H address (size_words T msg)
   pub placed : Placed
   pub words : IsPlaced T H (node_words T msg 1 address) placed
   pub order : loaded_words T (node_words T msg 1 address) placed ≡ before ++ after
 
--- The graph at an address is malformed by these loads, for a reason, at the place and value of the last of them.
+-- The graph at an address is malformed by these loads, for a reason, at the place and value of the last load.
 pub data IsMalformed (T : Table) (H msg address limit : ℕ) (loads : List (ℕ × ℕ)) (reason : Reason)
     (place value : ℕ) : Type 0 where
-  -- the root doesn't lie in the heap, and nothing was loaded
+  -- the root isn't inside the heap, and nothing was loaded
   no_root :
       (LiesIn H address (size_words T msg) → ⊥)
       → loads ≡ [] → reason ≡ Address → place ≡ 0 → value ≡ address
       → IsMalformed T H msg address limit loads reason place value
-  -- the last word is the first that offends, within the limit
+  -- the last word is the first invalid one, within the limit
   offends :
       (before after : List Loaded) (last : Loaded)
       → Begins T H msg address (before ++ last ∷ []) after
       → AreFine T H before → OffendsFirst T H last.role last.number reason → length loads ≤ limit
       → loads ≡ loads_of (before ++ last ∷ []) → place ≡ last.place → value ≡ last.number
       → IsMalformed T H msg address limit loads reason place value
-  -- as many words as the limit were loaded, none of them offends, and one more is needed
+  -- the limit is reached, all loaded words are valid, and one more is needed
   too_many :
       (before after : List Loaded) (last next : Loaded)
       → Begins T H msg address (before ++ last ∷ []) (next ∷ after)
@@ -74,13 +74,14 @@ pub data IsMalformed (T : Table) (H msg address limit : ℕ) (loads : List (ℕ 
       → loads ≡ loads_of (before ++ last ∷ []) → reason ≡ Loads → place ≡ last.place → value ≡ last.number
       → IsMalformed T H msg address limit loads reason place value
 
--- ---- what the loads of a graph come to
+-- ---- the outcome of the loads of a graph
 
 pub data Outcome : Type 0 where
   copied : Node → Outcome
   malformed : Reason → (place value : ℕ) → Outcome
 
--- the loads are those of a sound placed tree, no more than the limit, and this is its tree; or they make it malformed
+-- The loads are those of a sound placed tree, at most `limit`, and the outcome is its tree. Or the loads make the
+-- graph malformed.
 pub data ComesTo (T : Table) (H msg address limit : ℕ) (loads : List (ℕ × ℕ)) (outcome : Outcome) : Type 0 where
   is_copied :
       (P : Placed) → IsSound T H msg address P
@@ -91,7 +92,7 @@ pub data ComesTo (T : Table) (H msg address limit : ℕ) (loads : List (ℕ × �
       → IsMalformed T H msg address limit loads reason place value → outcome ≡ malformed reason place value
       → ComesTo T H msg address limit loads outcome
 
--- load after load, from a number on, gives the value that a reading of places says for it
+-- each load has the value that a reading gives for its place and its number; numbers count from `k`
 abbrev pub ReadsBy : (ℕ → ℕ → ℕ) → ℕ → List (ℕ × ℕ) → Type 0
 ReadsBy reading k [] = Unit {0}
 ReadsBy reading k (load ∷ loads) = (load.1 ≡ reading k load.0) × ReadsBy reading (k + 1) loads

@@ -1,5 +1,5 @@
--- A placed tree: a finite tree of words, each with its place and value, under the roles that a table,
--- a type and an address give them; its loads in order; which of its words offend.
+-- A placed tree: a finite tree of words, each with its place and value. A table, a type and an address give the words
+-- their roles. Also: its loads in order, and which words are invalid.
 use Rattle.std.specs.Prelude.{◌≡◌, ◌≢◌, ◌⊎◌, ℕ, ◌+◌, ◌*◌, ◌/◌, ◌<◌, ◌≤◌, ◌^◌, IsTrue, List, [], ◌∷◌, ◌++◌, take, Some}
 use Rattle.std.specs.Str.{IsUtf8}
 use Rattle.mrpc_table.specs.Normal.{field_at}
@@ -14,26 +14,26 @@ use Rattle.graph_form.specs.declared.reason.Reason.TheVariants.{Address, Presenc
 use Rattle.graph_form.specs.Roles.{Role, value, presence, run_length, run_presence, run_address, run_word, link, count, elements_address, entry_count, entries_address, case_word, Expected, behind, element_words, node_words, run_words, size_words, word_bytes}
 
 mutual
-  -- words in the order in which they stand
+  -- words side by side, in order
   pub data Placed : Type 0 where
     nothing : Placed
     first : Word → Placed → Placed
 
-  -- a word at a place, with the words that are loaded behind it
+  -- a word at a place, with the words that are loaded because of it
   pub data Word : Type 0 where
     word : (place number : ℕ) → (content : Placed) → Word
 
--- places and values in the order of loading: depth first
+-- places and values in load order, depth first
 abbrev pub loads : Placed → List (ℕ × ℕ)
 loads nothing = []
 loads (first (word place number content) others) = (place, number) ∷ loads content ++ loads others
 
--- a span of words lies in a heap of H words, whose word 0 belongs to nobody
+-- a span of words is inside a heap of H words; word 0 belongs to no message
 pub record LiesIn (H place words : ℕ) : Type 0 where
   pub from_one : 1 ≤ place
   pub to_end : place + words ≤ H
 
--- a word of the role with this number offends, for the reason
+-- a word of the role with this number is invalid for the reason
 abbrev pub Offends : Table → ℕ → Role → ℕ → Reason → Type 0
 Offends T H (value k) v Narrow = IsWordForm k v → ⊥
 Offends T H (presence k) v Presence = 1 < v
@@ -58,7 +58,7 @@ IsFine T H role v = (reason : Reason) → Offends T H role v reason → ⊥
 abbrev pub IsFaulty : Table → ℕ → Role → ℕ → Type 0
 IsFaulty T H role v = (reason : Reason) × Offends T H role v reason
 
--- the words are those expected; a word that offends has nothing behind it
+-- the words are the expected ones; an invalid word has no content
 abbrev pub IsPlaced : Table → ℕ → Expected → Placed → Type 0
 IsPlaced T H [] nothing = Unit {0}
 IsPlaced T H (e ∷ es) (first (word place v content) others) =
@@ -67,7 +67,7 @@ IsPlaced T H (e ∷ es) (first (word place v content) others) =
     ⊎ (IsFaulty T H e.0 v × (content ≡ nothing))) × IsPlaced T H es others
 IsPlaced T H _ _ = ⊥
 
--- the words are those expected, and none offends
+-- the words are the expected ones, and all are valid
 abbrev pub AreSound : Table → ℕ → Expected → Placed → Type 0
 AreSound T H [] nothing = Unit {0}
 AreSound T H (e ∷ es) (first (word place v content) others) =
@@ -75,7 +75,7 @@ AreSound T H (e ∷ es) (first (word place v content) others) =
     × AreSound T H es others
 AreSound T H _ _ = ⊥
 
--- a sound placed tree of the message at a place of the table, at an address of a heap of H words
+-- a sound placed tree of the message at an index of the table, at an address of a heap of H words
 pub record IsSound (T : Table) (H msg address : ℕ) (P : Placed) : Type 0 where
   pub root : LiesIn H address (size_words T msg)
   pub words : AreSound T H (node_words T msg 1 address) P

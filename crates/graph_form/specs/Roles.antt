@@ -1,4 +1,4 @@
--- How a message lies in a heap of words: what each loaded word is for, and which words are loaded behind it.
+-- How a message lies in a heap of words: the role of each loaded word, and which words are loaded after it.
 use Rattle.std.specs.Prelude.{ℕ, zero, suc, ◌+◌, ◌-◌, ◌*◌, ◌/◌, Bool, true, false, List, [], ◌∷◌, ◌++◌, length, filter, slice_get, option_map, unwrap_or, if◌then◌else◌, ◌==◌, nat_le}
 use Rattle.std.specs.Int.{w64, to_le_bytes}
 use Rattle.mrpc_table.specs.Normal.{fields_of, field_at, kind_at}
@@ -9,21 +9,21 @@ use Rattle.mrpc_table.specs.declared.table.Label.TheVariants.{Optional, Repeated
 use Rattle.mrpc_table.specs.declared.table.Field.{Field}
 use Rattle.mrpc_table.specs.declared.table.Table.{Table}
 
--- what a word is for; a depth is that of the message in which the word stands, the root counting 1
+-- the role of a word; a depth is that of the message that contains the word, and the root has depth 1
 pub data Role : Type 0 where
   -- a number of the kind
   value : Kind → Role
-  -- 0, or 1 where the number follows
+  -- a presence word: 0, or 1 if the number follows
   presence : Kind → Role
-  -- the length of a run, which has an address where it isn't 0
+  -- the length of a run; the address follows unless it is 0
   run_length : Kind → Role
-  -- 0 where the run is absent, else its length plus 1
+  -- 0 if the run is absent, otherwise its length plus 1
   run_presence : Kind → Role
-  -- the address of a run of so many bytes
+  -- the address of a run of `bytes` bytes
   run_address : Kind → (bytes : ℕ) → Role
-  -- a word of a run: so many bytes are left with it, and those came before
+  -- a word of a run: `left` bytes remain, this word's included, and the bytes `before` were loaded
   run_word : Kind → (left : ℕ) → (before : List ℕ) → Role
-  -- the address of a message; 0 is one that is absent, unless it must be there
+  -- the address of a message; 0 means absent, unless the message is needed
   link : (message depth : ℕ) → (needed : Bool) → Role
   -- the number of elements, and their address
   count : Kind → (depth : ℕ) → Role
@@ -34,7 +34,7 @@ pub data Role : Type 0 where
   -- the number of the member that a oneof has, or 0
   case_word : List Field → (oneof depth : ℕ) → Role
 
--- a word of this role is expected at this place
+-- the expected words: each a role and a place
 abbrev pub Expected : Type 0
 Expected = List (Role × ℕ)
 
@@ -58,7 +58,7 @@ slot_role Packed k depth = count k depth
 slot_role (Map key) k depth = entry_count key k depth
 slot_role _ k depth = plain_role k depth false
 
--- the fields with a slot of their own, and those that aren't members of a oneof
+-- the fields with a slot of their own: all but the members of oneofs
 abbrev pub is_member : Label → Bool
 is_member (Member o) = true
 is_member _ = false
@@ -69,21 +69,21 @@ has_own_slot f = if is_member f.label then false else true
 abbrev pub own_slots : List Field → List Field
 own_slots fs = filter has_own_slot fs
 
--- the number of oneofs of the message at a place
+-- the number of oneofs of the message at an index
 abbrev pub oneofs_of : Table → ℕ → ℕ
 oneofs_of T m = unwrap_or (option_map (λ d. length d.oneofs) (slice_get T.messages m)) 0
 
--- slots of two words by ascending number, from a place on
+-- slots of two words by ascending number, starting at a place
 abbrev pub slots_from : List Field → ℕ → ℕ → Expected
 slots_from [] depth at = []
 slots_from (f ∷ fs) depth at = (slot_role f.label f.kind depth, at) ∷ slots_from fs depth (at + 2)
 
--- slots of three words for so many oneofs, the first of the given place
+-- slots of three words for a number of oneofs, the first one at the given place
 abbrev pub cases_from : ℕ → List Field → ℕ → ℕ → ℕ → Expected
 cases_from zero fs oneof depth at = []
 cases_from (suc more) fs oneof depth at = (case_word fs oneof depth, at) ∷ cases_from more fs (oneof + 1) depth (at + 3)
 
--- the words of a node: the slots of its fields, and then those of its oneofs
+-- the words of a node: the slots of its fields, then those of its oneofs
 abbrev pub node_words : Table → ℕ → ℕ → ℕ → Expected
 node_words T m depth at =
     slots_from (own_slots (fields_of T m)) depth at
@@ -92,12 +92,12 @@ node_words T m depth at =
 abbrev pub size_words : Table → ℕ → ℕ
 size_words T m = 2 * length (own_slots (fields_of T m)) + 3 * oneofs_of T m
 
--- how many fields before the one of a number have slots of their own
+-- the number of fields before a field number that have slots of their own
 abbrev pub slots_before : List Field → ℕ → ℕ
 slots_before [] n = 0
 slots_before (f ∷ fs) n = if f.number == n then 0 else length (own_slots (f ∷ [])) + slots_before fs n
 
--- the first word of the slot of a field, or of its oneof, in the node
+-- the offset of the slot of a field, or of its oneof, in the node
 abbrev pub slot_with : List Field → Label → ℕ → ℕ
 slot_with fs (Member o) n = 2 * length (own_slots fs) + 3 * o
 slot_with fs _ n = 2 * slots_before fs n
@@ -105,7 +105,7 @@ slot_with fs _ n = 2 * slots_before fs n
 abbrev pub slot_of : Table → ℕ → ℕ → ℕ
 slot_of T m n = unwrap_or (option_map (λ f. slot_with (fields_of T m) f.label n) (field_at (fields_of T m) n)) 0
 
--- how many words an element takes
+-- the number of words of an element
 abbrev pub element_words : Kind → ℕ
 element_words Text = 2
 element_words Octets = 2
@@ -121,15 +121,15 @@ entries_from zero key k depth at = []
 entries_from (suc more) key k depth at =
     (plain_role key depth true, at) ∷ (plain_role k depth true, at + 2) ∷ entries_from more key k depth (at + 4)
 
--- the eight bytes of a word, byte 0 in its low bits
+-- the eight bytes of a word; byte 0 is the lowest
 abbrev pub word_bytes : ℕ → List ℕ
 word_bytes v = to_le_bytes w64 v
 
--- the words of a run of so many bytes
+-- the number of words of a run of `bytes` bytes
 abbrev pub run_words : ℕ → ℕ
 run_words bytes = (bytes + 7) / 8
 
--- the words that are loaded right behind a word of a role, at a place, with a value
+-- the words that a word of a role leads to, by its place and value; they are loaded right after it
 abbrev pub behind : Table → Role → ℕ → ℕ → Expected
 behind T (value k) p v = []
 behind T (presence k) p v = if v == 0 then [] else (value k, p + 1) ∷ []

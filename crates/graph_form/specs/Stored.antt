@@ -1,4 +1,4 @@
--- Which words of a heap are those of a message.
+-- Which words of a heap belong to a message.
 use Rattle.std.specs.Prelude.{◌≡◌, ℕ}
 use Rattle.mrpc_table.specs.declared.table.Table.{Table}
 use Rattle.graph_form.specs.Placed.{Placed, loads, IsSound}

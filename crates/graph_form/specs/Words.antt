@@ -1,4 +1,4 @@
--- The words that name the reasons in printed lines.
+-- The words for the reasons in lines that the program prints.
 use Rattle.std.specs.Prelude.{ℕ, List, codes}
 use Rattle.graph_form.specs.declared.reason.Reason.{Reason}
 use Rattle.graph_form.specs.declared.reason.Reason.TheVariants.{Address, Presence, Case, Length, Utf8, Narrow, Depth, Loads, NoMethod}

@@ -1,4 +1,4 @@
-//! Laws of graphs in words. These functions do nothing; their clauses hold.
+//! Laws of graphs in words. The functions have no effect: each clause is a law.
 
 ghost use Rattle.std.specs.Prelude.{◌≡◌, ◌≢◌, ◌<◌, ◌≤◌, ◌^◌, ℕ, List, [], ◌∷◌, ◌++◌, length};
 ghost use Rattle.mrpc_table.specs.Normal.{IsNormal};
@@ -20,13 +20,14 @@ pub fn loads_determine_placed_tree()
         → IsPlaced T H (node_words T msg 1 address) Q → loads P ≡ loads Q → P ≡ Q }
 {}
 
-/// The loads of sound words lead through all that is expected of them.
+/// The loads of sound words lead through all of their expected words.
 pub fn sound_words_are_loaded()
     ensures { (T : Table) (H : ℕ) (es next : Expected) (P : Placed) → AreSound T H es P
         → LeadsTo T H (es ++ next) (loads P) next }
 {}
 
-/// Loads that lead to a word that offends, or as many as the limit where one more is expected, make a graph malformed.
+/// A graph is malformed in two cases. Either its loads lead to an invalid word, or the limit is reached and one more
+/// word is expected.
 pub fn loads_end_malformed()
     ensures offence { (T : Table) (H msg address limit : ℕ) (xs : List (ℕ × ℕ)) (e : Role × ℕ) (rest : Expected)
         (v : ℕ) (reason : Reason)
@@ -39,7 +40,7 @@ pub fn loads_end_malformed()
         → length (xs ++ x ∷ []) ≡ limit → IsMalformed T H msg address limit (xs ++ x ∷ []) Loads x.0 x.1 }
 {}
 
-/// No more words than the limit were loaded of a malformed graph, and it isn't malformed for lack of a method.
+/// At most `limit` words of a malformed graph were loaded, and the reason is never `NoMethod`.
 pub fn malformed_graphs_keep_the_limit()
     ensures loads { (T : Table) (H msg address limit : ℕ) (xs : List (ℕ × ℕ)) (reason : Reason) (place value : ℕ)
         → IsMalformed T H msg address limit xs reason place value → length xs ≤ limit }
@@ -47,8 +48,8 @@ pub fn malformed_graphs_keep_the_limit()
         → IsMalformed T H msg address limit xs reason place value → reason ≢ NoMethod }
 {}
 
-/// What is read of a graph determines which words are loaded of it, and what they come to: its tree, or why it is
-/// refused.
+/// The values that are read determine which words of a graph are loaded, and the outcome: its tree, or the reason why
+/// the graph is malformed.
 pub fn reading_determines_outcome()
     ensures { (T : Table) (H msg address limit : ℕ) (reading : ℕ → ℕ → ℕ) (xs ys : List (ℕ × ℕ)) (o q : Outcome)
         → ReadsBy reading 1 xs → ReadsBy reading 1 ys → ComesTo T H msg address limit xs o

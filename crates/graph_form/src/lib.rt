@@ -1,8 +1,8 @@
-//! Graphs in words: how an unmarshalled message lies in a heap of 64-bit words, which words are
-//! loaded for it and in which order, which of them offend, and which tree they are.
+//! Graphs in words: how an unmarshalled message lies in a heap of 64-bit words, which words are loaded for it and in
+//! which order, which of them are invalid, and which tree they form.
 //!
-//! The layout is this project's own. It stands on `mrpc_table`; its one contract for the layers
-//! above: a type, an address and the loads determine the placed tree.
+//! The layout is this project's own. The crate depends on `mrpc_table`. Its one contract for the layers above: a
+//! type, an address and the loads determine the placed tree.
 #![tactic(auto)]
 
 mod laws;

@@ -2,11 +2,11 @@
 
 use mrpc_table::Sequence;
 
-/// Words in the order in which they are loaded, each a place and a value.
+/// Words in load order, each a place and a value.
 pub type Loads = Sequence<(u64, u64)>;
 
-/// A message that stands in a heap: where its node begins, and all the words that are loaded of it. Its type, the
-/// address and these words determine the placed tree ([`crate::loads_determine_placed_tree`]), so nothing else is kept.
+/// A message in a heap: the place of its node, and all words that are loaded for it. Its type, the address and these
+/// words determine the placed tree ([`crate::loads_determine_placed_tree`]), so nothing else is kept.
 #[derive(Drop)]
 pub struct Placed {
     /// The place of the node's first word.

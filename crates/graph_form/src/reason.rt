@@ -1,23 +1,23 @@
-//! Why a graph is refused.
+//! Why a graph is malformed.
 
-/// Why a graph is malformed: of most reasons, what is wrong with the last word that was loaded of it.
+/// Why a graph is malformed. Most reasons are about the last word that was loaded.
 #[derive(Clone, Copy, PartialEq, Eq)]
 pub enum Reason {
-    /// An address whose span doesn't lie in the heap.
+    /// An address whose span isn't inside the heap.
     Address,
     /// A presence word that is neither 0 nor 1.
     Presence,
     /// A case word that is neither 0 nor the number of a member.
     Case,
-    /// A length or a count whose span has as many words as the heap, or more.
+    /// A length or a count whose span needs at least as many words as the heap has.
     Length,
-    /// A string whose bytes aren't UTF-8, at its last word.
+    /// A string whose bytes aren't UTF-8, reported at its last word.
     Utf8,
-    /// A word that isn't a word form of its kind, or a spare byte of a run that isn't 0.
+    /// A word that isn't a word form of its kind, or a run with a padding byte that isn't 0.
     Narrow,
-    /// The address of a message that would be the 33rd in depth.
+    /// The address of a message at depth 33.
     Depth,
-    /// A further load is needed, and as many as the limit were made.
+    /// One more load is needed, and the limit is reached.
     Loads,
     /// The table has no such method.
     NoMethod,
@@ -27,7 +27,7 @@ impl Reason {
     ghost use Rattle.std.specs.Prelude.{◌≡◌};
     ghost use Rattle.graph_form.specs.Words.{reason_word};
 
-    /// The word that names the reason in a printed line.
+    /// The reason as a word of a line that the program prints.
     pub fn word(self) -> &'static str
         ensures { result.now ≡ reason_word self }
     {

@@ -1,4 +1,4 @@
-//! How many words a message takes in a heap, and where its fields stand among them.
+//! How many words a message takes in a heap, and where its fields lie among them.
 
 ghost use Rattle.std.specs.Prelude.{◌≡◌, ◌<◌, ◌≤◌, ◌+◌, ◌*◌, length, IfNone, IfSome, IsSome, None, Some, slice_get};
 ghost use Rattle.mrpc_table.specs.Valid.{IsValid};
@@ -8,8 +8,8 @@ ghost use Rattle.graph_form.specs.Roles.{element_words, has_own_slot, is_member,
 
 use mrpc_table::{Field, Kind, Label, Message, Table};
 
-/// The number of words of a message's node: two for each field that is no member of a oneof, and
-/// three for each oneof. A message that the table lacks has none.
+/// The number of words of a message's node: two for each field outside oneofs, and three for each oneof. Returns 0 if
+/// the table has no such message.
 pub fn size_words(table: &Table, msg: u32) -> u64
     requires { IsValid table.now }
     ensures { result ≡ size_words table.now msg }
@@ -17,7 +17,7 @@ pub fn size_words(table: &Table, msg: u32) -> u64
     2 * own_slots(table.fields(msg)) + 3 * u64::from(oneofs_of(table, msg))
 }
 
-/// The number of oneofs of a message; 0 where the table lacks it.
+/// The number of oneofs of a message; 0 if the table has no such message.
 pub fn oneofs_of(table: &Table, msg: u32) -> u32
     requires { IsValid table.now }
     ensures number { result ≡ oneofs_of table.now msg }
@@ -29,7 +29,7 @@ pub fn oneofs_of(table: &Table, msg: u32) -> u32
     }
 }
 
-// The message at a place of the table.
+// The message at an index of the table.
 fn message_at(table: &Table, msg: u32) -> Option<&Message>
     ensures some { IfSome result (λ m. slice_get table.now.messages msg ≡ Some m.now) }
     ensures none { IfNone result (slice_get table.now.messages msg ≡ None) }
@@ -37,14 +37,14 @@ fn message_at(table: &Table, msg: u32) -> Option<&Message>
     table.messages.as_slice().get(msg as usize)
 }
 
-/// Whether the label is that of a member of a oneof, which has no slot of its own.
+/// Returns true for the label of a oneof member, which has no slot of its own.
 pub fn is_member(label: Label) -> bool
     ensures { result ≡ is_member label }
 {
     matches!(label, Label::Member(_))
 }
 
-/// The first word of the slot of a field of the message, or of its oneof's slot, counted from the node's first word.
+/// The offset of a field's slot, or of its oneof's slot, in words from the start of the node.
 pub fn slot_of(table: &Table, msg: u32, field: u32) -> u64
     requires valid { IsValid table.now }
     requires known { msg < length table.now.messages }
@@ -62,14 +62,14 @@ pub fn slot_of(table: &Table, msg: u32, field: u32) -> u64
     }
 }
 
-// Whether a field has a slot of its own, and none of a oneof.
+// Whether a field has a slot of its own, instead of the slot of a oneof.
 fn has_own_slot(field: &Field) -> bool
     ensures { result ≡ has_own_slot field.now }
 {
     !is_member(field.label)
 }
 
-// How many fields before the one of this number have slots of their own.
+// The number of fields before this field number that have slots of their own.
 fn slots_before(fields: &[Field], number: u32) -> u64
     ensures count { result ≡ slots_before fields.now number }
     ensures few { result ≤ length fields.now }
@@ -86,7 +86,7 @@ fn slots_before(fields: &[Field], number: u32) -> u64
     count
 }
 
-// How many fields are no members.
+// The number of fields that aren't oneof members.
 fn own_slots(fields: &[Field]) -> u64
     ensures count { result ≡ length (own_slots fields.now) }
     ensures few { result ≤ length fields.now }
@@ -100,7 +100,7 @@ fn own_slots(fields: &[Field]) -> u64
     count
 }
 
-/// How many words an element of a repeated field takes.
+/// The number of words of an element of a repeated field: 1 or 2.
 pub fn element_words(kind: Kind) -> u64
     ensures value { result ≡ element_words kind }
     ensures least { 1 ≤ result }
@@ -112,7 +112,7 @@ pub fn element_words(kind: Kind) -> u64
     }
 }
 
-/// How many words a run of so many bytes takes.
+/// The number of words of a run of `bytes` bytes.
 pub fn run_words(bytes: u64) -> u64
     ensures { result ≡ run_words bytes }
 {

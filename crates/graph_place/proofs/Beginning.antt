@@ -1,4 +1,4 @@
--- Words that are put one behind another.
+-- Words that are appended one after another.
 use Rattle.std.proofs.Common.{◌≡◌, ℕ, ◌+◌, ◌<◌, ◌≤◌, ◌^◌, List, [], ◌∷◌, ◌++◌, refl, sym, ap, subst, ◌∙◌, arith, append_assoc, append-nil}
 use Rattle.mrpc_table.specs.declared.table.Table.{Table}
 use Rattle.graph_form.specs.Roles.{Role, Expected, behind}
@@ -73,7 +73,7 @@ begun_join T H all rest a b b2 c d d2 before now next Made Rest ab bb bc cd dd b
       made = done.made;
     }
 
--- a word, and then what stands behind it
+-- a word, and then the words that it leads to
 pub word_put : (T : Table) (H : ℕ) (r : Role) (p v b2 c d : ℕ) (before mid next : Loads) (Made : Placed → Type 0) (Here : Word → Type 0)
     → p + 1 ≤ b2 → b2 ≤ c → c ≤ d → v < 2 ^ 64 → IsFine T H r v
     → mid ≡ before ++ (p, v) ∷ []
@@ -92,7 +92,7 @@ word_put T H r p v b2 c d before mid next Made Here pb bc cd small fine put puts
   made = says puts.placed puts.made;
 }
 
--- nothing is expected and nothing is put
+-- nothing is expected and nothing is appended
 pub nothing_put : (T : Table) (H b b2 c : ℕ) (before : Loads) (Made : Placed → Type 0) → b ≤ b2 → Made nothing → PutsAt T H [] b b2 c c before before Made
 nothing_put T H b b2 c before Made bb made = record {
   placed = nothing;
@@ -129,7 +129,7 @@ word_wide T H e b b2 c d before next Here There bb puts says = record {
   made = says (word e.1 puts.value puts.content) puts.made;
 }
 
--- words at the front of what is free are content of what stands before
+-- words at the start of the free places are content of the slots before them
 pub content_put : (T : Table) (H : ℕ) (es : Expected) (b c e d : ℕ) (before next : Loads) (Made More : Placed → Type 0)
     → b ≤ c → PutsAt T H es c e e d before next Made → ((P : Placed) → Made P → More P) → PutsAt T H es b b c d before next More
 content_put T H es b c e d before next Made More bc puts says = record {

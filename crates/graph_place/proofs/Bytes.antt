@@ -15,7 +15,7 @@ pub are_bytes : (bs : List ℕ) → ((i : ℕ) → get_or bs i 0 < 256) → AreB
 are_bytes [] h = tt
 are_bytes (b ∷ bs) h = (h 0, are_bytes bs (λ i. h (suc i)))
 
--- so many zeros
+-- a number of zeros
 abbrev pub zeros : ℕ → List ℕ
 zeros zero = []
 zeros (suc n) = 0 ∷ zeros n

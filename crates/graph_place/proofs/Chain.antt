@@ -19,7 +19,7 @@ use Rattle.graph_place.proofs.Fine.{fine_run_address, fine_run_word}
 abbrev pub HasAll : List ℕ → Placed → Type 0
 HasAll bytes P = take (length bytes) (chain_bytes P) ≡ bytes
 
--- some bytes are put, and these are left
+-- some bytes are laid out, and these remain
 pub record RunOn (all : List ℕ) (c : ℕ) (start : Loads) (rest : List ℕ) (free : ℕ) (now : Loads) : Type 0 where
   pub done : List ℕ
   pub whole : done ++ rest ≡ all

@@ -1,4 +1,4 @@
--- What the slot of a field puts, by what its calls put.
+-- The effect of a field's slot, by the effects of its calls.
 use Rattle.std.proofs.Common.{◌≡◌, ◌≢◌, ℕ, ◌+◌, ◌<◌, ◌≤◌, ◌^◌, false, List, [], ◌∷◌, ◌++◌, length, Some, None, refl, sym, ap, subst, arith}
 use Rattle.mrpc_table.specs.Node.{Node, Content, one, many, pairs, Item, number, run, node, no_pairs, content_at}
 use Rattle.mrpc_table.specs.Normal.{field_at, HasFields, IsItem, ArePairs, KeysAscend, content_depth, items_depth, pairs_depth}
@@ -44,7 +44,7 @@ SlotPut T l k content place c before d next =
     → PutsWordAt T H (slot_role l k level, place) (place + 2) c d before next
     (λ w. slot_content T l k w ≡ Some content)
 
--- ---- what a value is
+-- ---- properties of values
 
 pub run_words_less : (T : Table) (k : Kind) (i : Item) → run_words_of i ≤ item_words T k i
 run_words_less T k (number n) = omega arith
@@ -72,7 +72,7 @@ pub holds_pairs : (T : Table) (l : Label) (k : Kind) (fv : FieldValue) (es : Vec
     → HoldsContent T l k (content_of fv) → HoldsContent T l k (pairs (pairs_of es.items))
 holds_pairs T l k fv es is holds = subst (λ (x : FieldValue). HoldsContent T l k (content_of x)) is holds
 
--- ---- the slot of a field that is there
+-- ---- the slot of a field that is present
 
 pub slot_optional_put : (T : Table) (l : Label) (k : Kind) (fv : FieldValue) (v : Value) (place c d : ℕ)
     (before next : Loads) → fv ≡ One v → l ≡ Optional → HoldsContent T l k (content_of fv)
@@ -105,7 +105,7 @@ slot_many_put T l k fv vs place c mid_free d before mid next is holds small slot
     subst (λ (x : FieldValue). SlotPut T l k (content_of x) place c before d next) (sym is)
     (λ H level within deep. slot_many T H l k level place vs.items c d before mid next h.0 h.1 small slot whole within put (there H level within deep))
 
--- the key that a map has
+-- the key of a map
 pub key_given : (T : Table) (l : Label) (k key : Kind) (fv : FieldValue) (es : Vec (Value × Value)) → fv ≡ ThePairs es
     → HoldsContent T l k (content_of fv) → ((x : Kind) → l ≡ Map x → key ≡ x)
     → (l ≡ Map key) × ((m : ℕ) → key ≢ OfMessage m) × (pairs_of es.items ≢ no_pairs) × ArePairs T key k (pairs_of es.items) × KeysAscend key (pairs_of es.items)
@@ -159,7 +159,7 @@ found_there T k n t content found = ap (found_words T k) found
 pub found_none : (T : Table) (k : Kind) (n : ℕ) (t : Node) → content_at t n ≡ None → found_words T k (content_at t n) ≡ 0
 found_none T k n t none = ap (found_words T k) none
 
--- what the field has in the tree
+-- the content that the tree has for the field
 pub field_holds : (T : Table) (fs : List Field) (oneofs : ℕ) (f : Field) (t : Node) (content : Content)
     → HasFields T fs 0 t → field_at fs f.number ≡ Some f → IsField T oneofs f → content_at t f.number ≡ Some content
     → HoldsContent T f.label f.kind content

@@ -1,4 +1,4 @@
--- What a normal tree has under a number, and which fields of its message have slots of their own.
+-- The content of a normal tree at a number, and the fields of its message that have slots of their own.
 use Rattle.std.proofs.Common.{◌≡◌, ℕ, zero, suc, ◌+◌, ◌<◌, ◌≤◌, Bool, true, false, cond, ◌||◌, ◌==◌, List, [], ◌∷◌}
 use Rattle.std.proofs.Common.{length, Option, Some, None, refl, sym, ap, subst, ◌∙◌, arith, inl, inr}
 use Rattle.std.specs.Prelude.{option_map, unwrap_or, slice_get, All}
@@ -125,13 +125,13 @@ known_left (g ∷ fs) n f at =
           ap (λ b. b || has_number (own_slots (g ∷ fs)) n) is ∙ ap (λ b. is_member_at fs n || b) there ∙ rest
     ]
 
--- before the first slot all is left
+-- before the first slot all fields remain
 pub all_left : (T : Table) (fs : List Field) (t : Node) → HasFields T fs 0 t → keep (is_left fs (own_slots fs)) t ≡ t
 all_left T fs t h =
     keep_all (is_left fs (own_slots fs)) t (each_weaker (IsKnownAt fs) (λ n. is_left fs (own_slots fs) n ≡ true) t
     (λ n k. known_left fs n k.0 k.1) (fields_known T fs 0 t h))
 
--- behind the last one the members are left
+-- after the last slot the members remain
 pub members_left : (fs : List Field) (t : Node) → keep (is_left fs []) t ≡ members fs t
 members_left fs t = keep_same (is_left fs []) (is_member_at fs) t (each_always (λ n. is_left fs [] n ≡ is_member_at fs n) t (λ n. or_none (is_member_at fs n)))
 
@@ -211,7 +211,7 @@ field_is T oneofs (g ∷ fs) n f each at =
 
 -- ---- oneofs
 
--- whether a number is that of a member of one of so many oneofs, from a place on
+-- whether a number is that of a member of one of the oneofs in a range
 abbrev pub in_oneofs : List Field → ℕ → ℕ → ℕ → Bool
 in_oneofs fs o zero n = false
 in_oneofs fs o (suc k) n = is_member_of fs o n || in_oneofs fs (o + 1) k n
@@ -281,7 +281,7 @@ of_found o (Some f) holds = (f, refl, label_of o f.label holds)
 pub member_found : (fs : List Field) (o n : ℕ) → is_member_of fs o n ≡ true → (f : Field) × (field_at fs n ≡ Some f) × (f.label ≡ Member o)
 member_found fs o n holds = of_found o (field_at fs n) holds
 
--- a member of one oneof is none of those behind it
+-- a member of one oneof is none of a later oneof
 pub not_behind : (fs : List Field) (o k n : ℕ) → is_member_of fs o n ≡ true → in_oneofs fs (o + 1) k n ≡ false
 not_behind fs o k n holds =
     let m = member_found fs o n holds in
@@ -296,7 +296,7 @@ few_at T i valid =
       | inr out ↦ omega (arith, no_oneofs_at T i out.1)
     ]
 
--- a member is of one of the places that are noted
+-- the oneof of a member is inside the array
 pub member_within : (T : Table) (i n o : ℕ) (f : Field) → IsValid T → field_at (fields_of T i) n ≡ Some f → f.label ≡ Member o → o < 128
 member_within T i n o f valid at label =
     let is = field_is T (oneofs_of T i) (fields_of T i) n f (are_fields T i valid).each at in

@@ -1,4 +1,4 @@
--- Which words are fine.
+-- Which words are valid.
 use Rattle.std.proofs.Common.{◌≡◌, ◌≢◌, ℕ, ◌+◌, ◌*◌, ◌/◌, ◌<◌, ◌≤◌, ◌^◌, Bool, false, List, ◌++◌, take, Some, arith, inl, inr}
 use Rattle.std.specs.Str.{IsUtf8}
 use Rattle.mrpc_table.specs.Normal.{field_at}

@@ -1,4 +1,4 @@
--- What the parts of a value put, by what their calls put.
+-- The effects of the parts of a value, by the effects of their calls.
 use Rattle.std.proofs.Common.{inl, inr, ◌≡◌, ◌≢◌, ℕ, ◌+◌, ◌*◌, ◌<◌, ◌≤◌, ◌^◌, Bool, true, List, [], ◌∷◌, ◌++◌, length}
 use Rattle.std.proofs.Common.{drop, get_or, Some, sym, ap, subst, ◌∙◌, arith}
 use Rattle.mrpc_table.specs.Node.{Node, one, Item, number, node}
@@ -94,7 +94,7 @@ item_node T k v t m place c mid_free d before mid next is item message from slot
     let kind : k ≡ OfMessage m = node_is.1 ∙ ap OfMessage (sym (message ∙ ap nested_message node_is.1)) in
     node_item T H k m level needed place t c d before mid next kind from slot small whole within deep put (λ l low. there H l within low)) item
 
--- the message that a value must be
+-- the message of a value
 pub node_fields : (T : Table) (k : Kind) (v : Value) (t : Node) (m : ℕ) → v ≡ TheNode t → IsItem T k (item_of v) → m ≡ nested_message k → HasFields T (fields_of T m) 0 t
 node_fields T k v t m is item message =
     let node_is : IsItem T k (node t) = subst (λ (x : Value). IsItem T k (item_of x)) is item in
@@ -136,7 +136,7 @@ optional_run_put v bytes place c mid_free d before mid next is small slot same s
 
 -- ---- elements
 
--- what the next element may be given
+-- the conditions on the next element
 pub record ElementFits (T : Table) (k : Kind) (v : Value) (next free : ℕ) : Type 0 where
   pub item : IsItem T k (item_of v)
   pub from : 1 ≤ next
@@ -206,7 +206,7 @@ entries_next T key k all at c before xs i e next next2 free mid free2 now then n
     (keyed ∙ ap (λ n. free + n) same) sized (λ H level low deep. keys H level true low deep)
     (λ H level low deep. values H level true low deep))
 
--- ---- where elements and entries stand
+-- ---- where elements and entries lie
 
 pub elements_size : (k : Kind) (vs : List Value) (f at f1 f2 len width : ℕ) → at ≡ f → f1 ≡ f + len * width → f2 ≡ f1
     → len ≡ length vs → width ≡ element_words k → at + element_words k * length vs ≡ f2

@@ -1,4 +1,4 @@
--- A tree is what it has under one number, put to the fields of the others.
+-- A tree is its content at one number, added to its other fields.
 use Rattle.std.proofs.Common.{◌≡◌, ◌⊎◌, ℕ, ◌+◌, ◌<◌, ◌≤◌, Bool, true, false, cond, ◌||◌, ◌==◌, List, Option, Some}
 use Rattle.std.proofs.Common.{None, refl, sym, ap, subst, ◌∙◌, arith, inl, inr}
 use Rattle.std.proofs.lemmas.Bool.{eq-eqb, ne_eqb, lt-ltb, le-ltb, cases_Bool, cases_lt, or_right}
@@ -11,7 +11,7 @@ use Rattle.graph_form.specs.Forgotten.{insert_field, with_field}
 use Rattle.graph_place.specs.Laid.{keep, found_words}
 use Rattle.graph_place.specs.Size.{fields_words, content_words}
 
--- something holds of each number of a tree
+-- each number of a tree has a property
 abbrev pub Each : (ℕ → Type 0) → Node → Type 0
 Each P no_fields = Unit {0}
 Each P (field n c t) = P n × Each P t

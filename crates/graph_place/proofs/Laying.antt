@@ -176,7 +176,7 @@ optional_number T H k place n c before mid next form small slot put is =
     (λ P made. optional_says T k place 1 P (λ e. omega (arith, e)) ∙ ap (λ i. Some (one i)) (numeric_given k n 1 P form ∙ ap number made)) in
     subst (λ r. PutsWordAt T H (r, place) (place + 2) c c before next (λ w. slot_content T Optional k w ≡ Some (one (number n)))) (sym (numeric_optional k n form)) whole
 
--- behind a length and one more stands what stands behind the length
+-- a length plus 1 leads to the same words as the length
 presence_behind : (T : Table) (k : Kind) (p n : ℕ) → behind T (run_presence k) p (n + 1) ≡ run_expected k n (p + 1)
 presence_behind T k p n =
     let less : n + 1 - 1 ≡ n = omega arith in

@@ -1,4 +1,4 @@
--- Elements and entries, one behind another.
+-- Elements and entries, one after another.
 use Rattle.std.proofs.Common.{◌≡◌, ◌≢◌, ℕ, ◌+◌, ◌*◌, ◌<◌, ◌≤◌, ◌^◌, true, List, [], ◌∷◌, ◌++◌, length, refl, ap, subst, ◌∙◌, arith}
 use Rattle.mrpc_table.specs.Node.{Item, number, run, node, item}
 use Rattle.mrpc_table.specs.Normal.{IsItem, AreItems, ArePairs, item_depth, items_depth, pairs_depth}
@@ -19,7 +19,7 @@ use Rattle.graph_place.proofs.Widths.{narrow}
 
 -- ---- elements
 
--- the content behind the slots of elements
+-- the size of the content after the slots of elements
 abbrev pub contents : Table → Kind → List Value → ℕ
 contents T k [] = 0
 contents T k (v ∷ vs) = item_words T k (item_of v) + contents T k vs
@@ -31,7 +31,7 @@ many_are T k (v ∷ vs) = let rest = many_are T k vs in omega (arith, rest)
 abbrev pub Elements : Table → Kind → List Value → Placed → Type 0
 Elements T k vs P = elements_in T k P ≡ items_of vs
 
--- some elements are put, and these are left
+-- some elements are placed, and these remain
 pub record ElementsOn (T : Table) (k : Kind) (all : List Value) (at c : ℕ) (before : Loads) (rest : List Value) (next free : ℕ) (now : Loads) : Type 0 where
   pub next_is : next + element_words k * length rest ≡ c
   pub from : at ≤ next

@@ -1,4 +1,4 @@
--- The member that a tree has of a oneof.
+-- The member of a oneof that a tree has.
 use Rattle.std.proofs.Common.{◌≡◌, ◌≢◌, ◌⊎◌, ℕ, ◌+◌, ◌<◌, ◌≤◌, Bool, true, false, cond, ◌==◌, List, Option, Some}
 use Rattle.std.proofs.Common.{None, refl, sym, ap, subst, ◌∙◌, arith, inl, inr}
 use Rattle.std.specs.Prelude.{option_map, unwrap_or}
@@ -94,7 +94,7 @@ one_member fs o otherwise last (field n c t) up few =
           ]
     ]
 
--- what the number of the member of a oneof tells
+-- the meaning of the number of a oneof's member
 pub data Tells (fs : List Field) (o : ℕ) (t : Node) (found : ℕ) : Type 0 where
   tells_none : found ≡ 0 → Each (λ n. is_member_of fs o n ≡ false) t → Tells fs o t found
   tells_one : found ≢ 0 → OneMember fs o t found → Tells fs o t found

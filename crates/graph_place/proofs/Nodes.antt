@@ -1,4 +1,4 @@
--- What the parts of a node put, by what their calls put.
+-- The effects of the parts of a node, by the effects of their calls.
 use Rattle.std.proofs.Common.{◌≡◌, ◌≢◌, ℕ, suc, ◌+◌, ◌-◌, ◌*◌, ◌<◌, ◌≤◌, ◌^◌, Bool, true, false, cond, List, [], ◌∷◌}
 use Rattle.std.proofs.Common.{◌++◌, length, drop, get_or, Some, sym, ap, subst, ◌∙◌, arith, inl, inr}
 use Rattle.std.proofs.lemmas.Bool.{cases_Bool}
@@ -69,7 +69,7 @@ FieldPut T f t place c before d next =
     → PutsWordAt T H (slot_role f.label f.kind level, place) (place + 2) c d before next
     (λ w. slot_content T f.label f.kind w ≡ content_at t f.number)
 
--- what the slot of the next field may be given
+-- the conditions on the slot of the next field
 pub record FieldFits (T : Table) (f : Field) (t : Node) (place free : ℕ) : Type 0 where
   pub known : (fs : List Field) × HasFields T fs 0 t × (field_at fs f.number ≡ Some f)
   pub field : (oneofs : ℕ) × IsField T oneofs f

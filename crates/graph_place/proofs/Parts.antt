@@ -1,11 +1,11 @@
--- The parts of a list that are left, one by one.
+-- The remaining parts of a list, one by one.
 use Rattle.std.proofs.Common.{◌≡◌, ℕ, zero, suc, ◌+◌, ◌<◌, ◌≤◌, List, [], ◌∷◌, length, drop, get_or, sym, ap, arith, add-one, drop-cons}
 use Rattle.mrpc_table.specs.View.{content_of, item_of, items_of, node_of, pairs_of}
 use Rattle.mrpc_table.specs.Weight.{weight, content_weight, item_weight, items_weight, pairs_weight}
 use Rattle.mrpc_table.specs.declared.tree.FieldValue.{FieldValue}
 use Rattle.mrpc_table.specs.declared.tree.Value.{Value}
 
--- the next part, where `x` is what stands at the place
+-- the next part; `x` is the element at the index
 pub next_part : {X : Type 0} (xs : List X) (i : ℕ) (x : X) → i < length xs → x ≡ get_or xs i x → drop i xs ≡ x ∷ drop (i + 1) xs
 next_part xs i x within is = rw (add-one, drop-cons xs i x) (ap (λ y. y ∷ drop (suc i) xs) (sym is))
 

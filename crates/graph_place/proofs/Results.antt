@@ -1,4 +1,4 @@
--- Two facts of one result.
+-- Two facts about one result.
 use Rattle.std.specs.Result.{OnOk}
 use Rattle.std.specs.declared.result.Result.{Result}
 use Rattle.std.specs.declared.result.Result.TheVariants.{Ok, Err}

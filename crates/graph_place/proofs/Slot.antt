@@ -1,4 +1,4 @@
--- The slot of a field by what it has.
+-- The slot of a field, by its content.
 use Rattle.std.proofs.Common.{◌≡◌, ◌≢◌, ℕ, ◌+◌, ◌*◌, ◌<◌, ◌≤◌, ◌^◌, false, cond, List, [], ◌∷◌, ◌++◌, length, Some}
 use Rattle.std.proofs.Common.{None, refl, sym, ap, subst, ◌∙◌, arith}
 use Rattle.std.specs.Ordering.{nat_cmp, ordering_then}
@@ -29,7 +29,7 @@ use Rattle.graph_place.proofs.Lists.{many_are, pairs_are}
 use Rattle.graph_place.proofs.Spelled.{PutsAt, PutsWordAt}
 use Rattle.graph_place.proofs.Widths.{narrow}
 
--- ---- what a field of a valid table may have
+-- ---- the possible contents of a field of a valid table
 
 is_true_key : (T : Table) (oneofs : ℕ) (f : Field) (key : Kind) → IsField T oneofs f → f.label ≡ Map key → (m : ℕ) → key ≢ OfMessage m
 is_true_key T oneofs f key is e m same =
@@ -105,7 +105,7 @@ slot_plain T H l k level place i c d before next fails other takes puts =
     (λ w holds. plain_says T k w (holds.some some) ∙ ap (λ j. Some (one j)) holds.item) in
     subst (λ x. PutsWordAt T H (slot_role x k level, place) (place + 2) c d before next (λ w. slot_content T x k w ≡ Some (one i))) (sym plain) whole
 
--- elements behind their count
+-- elements after their count
 count_behind : (T : Table) (k : Kind) (level p n : ℕ) → n ≢ 0 → behind T (count k level) p n ≡ (elements_address k n level, p + 1) ∷ []
 count_behind T k level p n some = ap (λ b. cond b [] ((elements_address k n level, p + 1) ∷ [])) (ne_eqb n 0 some)
 
@@ -159,7 +159,7 @@ slot_many T H Optional k level place vs c d before mid next takes some small slo
 slot_many T H (Map key) k level place vs c d before mid next takes some small slot size within put puts = absurd takes
 slot_many T H (Member o) k level place vs c d before mid next takes some small slot size within put puts = absurd takes
 
--- entries behind their count
+-- entries after their count
 entries_behind : (T : Table) (key k : Kind) (level p n : ℕ) → n ≢ 0 → behind T (entry_count key k level) p n ≡ (entries_address key k n level, p + 1) ∷ []
 entries_behind T key k level p n some = ap (λ b. cond b [] ((entries_address key k n level, p + 1) ∷ [])) (ne_eqb n 0 some)
 

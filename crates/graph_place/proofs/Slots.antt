@@ -1,4 +1,4 @@
--- The slots of fields and of oneofs, one behind another.
+-- The slots of fields and of oneofs, one after another.
 use Rattle.std.proofs.Common.{◌≡◌, ◌≢◌, ℕ, suc, ◌+◌, ◌*◌, ◌<◌, ◌≤◌, ◌^◌, Bool, true, false, cond, ◌||◌, ◌==◌, List}
 use Rattle.std.proofs.Common.{[], ◌∷◌, ◌++◌, length, Some, None, refl, sym, ap, subst, ◌∙◌, arith, inl, inr}
 use Rattle.std.specs.Prelude.{option_map, unwrap_or}
@@ -126,7 +126,7 @@ left_next fs f rest t up found fails ascend =
 pub kind_is : (fs : List Field) (n : ℕ) (f : Field) → field_at fs n ≡ Some f → kind_at fs n ≡ f.kind
 kind_is fs n f at = ap (λ o. unwrap_or (option_map (λ x. x.kind) o) Uint64) at
 
--- the words behind the slot of the next field are among those that are left
+-- the words after the slot of the next field are among the remaining ones
 pub next_words : (T : Table) (fs : List Field) (t : Node) (at c : ℕ) (before : Loads) (f : Field) (rest : List Field)
     (place free : ℕ) (now : Loads) → HasFields T fs 0 t → SlotsOn T fs t at c before (f ∷ rest) place free now
     → is_member f.label ≡ false
@@ -180,7 +180,7 @@ slots_more T fs t at c before f rest place free free2 now now2 has room r fails 
           (λ Q w holds less. ap (λ o. with_field f.number o (slots_tree T fs (own_slots rest) Q)) holds ∙ ap (with_field f.number (content_at t f.number)) less ∙ sym step);
     }
 
--- behind the last field
+-- after the last field
 pub record SlotsDone (T : Table) (fs : List Field) (t : Node) (at c : ℕ) (before : Loads) (place free : ℕ) (now : Loads) : Type 0 where
   pub place_is : place ≡ at + 2 * length (own_slots fs)
   pub free_is : free + fields_words T fs (members fs t) ≡ c + fields_words T fs t

@@ -1,11 +1,12 @@
--- What passes put, with each place and each list of words as an argument of its own: lemmas change them one by one.
+-- The effects of passes, with each place and each list of words as an argument of its own: lemmas change them one by
+-- one.
 use Rattle.std.specs.Prelude.{ℕ, List}
 use Rattle.mrpc_table.specs.declared.table.Table.{Table}
 use Rattle.graph_form.specs.Roles.{Role, Expected}
 use Rattle.graph_form.specs.Placed.{Placed, Word}
 use Rattle.graph_place.specs.Laid.{Spans, Between, Spread, Pass, part, Puts, PutsWord, Begun}
 
--- slots from a to below b, and content from c to below d
+-- slots from a up to b, and content from c up to d, both excluding the end
 abbrev pub spans : ℕ → ℕ → ℕ → ℕ → Spans
 spans a b c d = record { slots_begin = a; slots_end = b; content_begin = c; content_end = d }
 
@@ -27,7 +28,7 @@ pass a b c d before after = record {
 abbrev pub PutsAt : Table → ℕ → Expected → ℕ → ℕ → ℕ → ℕ → List (ℕ × ℕ) → List (ℕ × ℕ) → (Placed → Type 0) → Type 0
 PutsAt T H es a b c d before after Made = Puts T H (part es Made) (pass a b c d before after)
 
--- its slots begin at the place of the word
+-- its slots start at the place of the word
 abbrev pub PutsWordAt : Table → ℕ → Role × ℕ → ℕ → ℕ → ℕ → List (ℕ × ℕ) → List (ℕ × ℕ) → (Word → Type 0) → Type 0
 PutsWordAt T H e b c d before after Made = PutsWord T H e (pass e.1 b c d before after) Made
 

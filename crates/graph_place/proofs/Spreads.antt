@@ -1,4 +1,4 @@
--- Where words stand, one part behind another.
+-- Where words lie, one part after another.
 use Rattle.std.proofs.Common.{◌≡◌, ℕ, ◌+◌, ◌<◌, ◌≤◌, List, [], ◌∷◌, ◌++◌, arith, length-append}
 use Rattle.std.specs.List.{AllByRecursion, Contains}
 use Rattle.std.proofs.lemmas.List.Elements.{All-from_recursion, All-contains}
@@ -25,8 +25,8 @@ apart_append (x ∷ xs) ys a b h = (each_append (Differs x) xs ys a.0 h.0, apart
 
 -- ---- parts of spans
 
--- A part has its slots from a to below b and its content from c to below d. The part behind it has its slots from b to
--- below b2 and its content from d to below d2, so both together have theirs from a to below b2 and from c to below d2.
+-- A part has its slots from a up to b and its content from c up to d, excluding the ends. The next part has its slots
+-- from b up to b2 and its content from d up to d2. So both together have theirs from a up to b2 and from c up to d2.
 
 between_left : (a b b2 c d d2 p : ℕ) → b ≤ b2 → d ≤ d2 → BetweenAt a b c d p → BetweenAt a b2 c d2 p
 between_left a b b2 c d d2 p hb hd h = record { low = h.low; high = omega (arith, h.high, hd); gap = λ g. h.gap (omega (arith, g, hb)) }
@@ -72,7 +72,7 @@ spread_free b c v bc = record {
   few = omega arith;
 }
 
--- slots at the front of free places, with their content behind, are content of what stands before
+-- slots at the start of the free places, with their content after them, are content of the slots before
 between_content : (b c e d p : ℕ) → b ≤ c → BetweenAt c e e d p → BetweenAt b b c d p
 between_content b c e d p bc h = record { low = omega (arith, h.low, bc); high = h.high; gap = λ g. h.low }
 
@@ -90,7 +90,7 @@ spread_wide a b b2 c d xs bb h = record {
   few = omega (arith, h.few, bb);
 }
 
--- ---- as it is told
+-- ---- as contracts state it
 
 pub spread_within : (a d n : ℕ) (xs : List (ℕ × ℕ)) → d ≡ a + n → SpreadAt a a a d xs → StandWithin a n xs
 spread_within a d n xs e h =

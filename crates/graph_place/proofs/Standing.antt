@@ -1,4 +1,4 @@
--- Words that were stored last are what their places have, and what a reader loads of them.
+-- Words that were stored last are the words of their places, and what a reader loads of them.
 use Rattle.std.proofs.Common.{◌≡◌, ℕ, suc, ◌+◌, cond, ◌==◌, List, [], ◌∷◌, ◌++◌, map, refl, sym, ap, subst, ◌∙◌, arith, inl, inr, append_assoc}
 use Rattle.std.specs.Prelude.{filter, All}
 use Rattle.std.specs.List.{AllByRecursion, Contains}

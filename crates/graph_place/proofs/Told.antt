@@ -1,4 +1,4 @@
--- What is told of a message that was placed.
+-- The properties of a placed message that contracts state.
 use Rattle.std.proofs.Common.{◌≡◌, ℕ, ◌+◌, ◌≤◌, [], length, sym, ap, subst, ◌∙◌, arith}
 use Rattle.mrpc_table.specs.Node.{Node}
 use Rattle.mrpc_table.specs.Normal.{depth}
@@ -14,7 +14,7 @@ use Rattle.graph_place.proofs.Items.{NodePut}
 use Rattle.graph_place.proofs.Spelled.{PutsAt}
 use Rattle.graph_place.proofs.Spreads.{spread_within, apart_distinct}
 
--- a message is laid out from a place on
+-- a message is laid out at a place
 abbrev pub LaidOut : Table → ℕ → ℕ → ℕ → ℕ → Node → Loads → Type 0
 LaidOut T H msg at d t words = PutsAt T H (node_words T msg 1 at) at at at d [] words (λ P. tree_of T msg P ≡ t)
 

@@ -1,4 +1,4 @@
--- How wide an element is.
+-- The width of an element.
 use Rattle.std.proofs.Common.{◌≤◌, arith}
 use Rattle.mrpc_table.specs.declared.table.Kind.{Kind}
 use Rattle.mrpc_table.specs.declared.table.Kind.TheVariants.{Text, Octets}

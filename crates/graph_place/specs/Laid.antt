@@ -1,4 +1,4 @@
--- The code's own: what a pass over a part of a message puts behind the words so far, in the words of the builder.
+-- The code's own: the words that a pass over a part of a message appends to those of the builder.
 use Rattle.std.specs.Prelude.{◌≡◌, ◌≢◌, ℕ, ◌+◌, ◌*◌, ◌<◌, ◌≤◌, ◌^◌, take, Bool, true, false, List, [], ◌∷◌, ◌++◌, length, Option, Some, None, if◌then◌else◌, ◌==◌}
 use Rattle.std.specs.List.{AllByRecursion}
 use Rattle.mrpc_table.specs.Node.{Node, no_fields, field, Content, one, many, pairs, Item, node, no_items, Pairs, no_pairs, pair, content_at}
@@ -16,50 +16,49 @@ use Rattle.graph_place.specs.Content.{is_member_of}
 use Rattle.graph_place.specs.Size.{content_words}
 use Rattle.graph_place.specs.declared.builder.Builder.{Builder}
 
--- ---- where words stand
+-- ---- where words lie
 
--- The places of a part of a message. Its slots stand from `slots_begin` to below `slots_end`. The content that they
--- need stands behind, from `content_begin` to below `content_end`, and has slots and content of its own. Other parts
--- may stand in the gap between.
+-- The places of a part of a message. Its slots are at `slots_begin` up to, but excluding, `slots_end`. Their content
+-- is at `content_begin` up to, but excluding, `content_end`, and has slots and content of its own. The gap between
+-- may hold other parts.
 pub record Spans : Type 0 where
   pub slots_begin : ℕ
   pub slots_end : ℕ
   pub content_begin : ℕ
   pub content_end : ℕ
 
--- a place lies in the two spans: from the first slot to the end of the content, and not in the gap
+-- a place is in one of the two spans: from the first slot to the end of the content, but not in the gap
 pub record Between (spans : Spans) (place : ℕ) : Type 0 where
   pub low : spans.slots_begin ≤ place
   pub high : place < spans.content_end
   pub gap : spans.slots_end ≤ place → spans.content_begin ≤ place
 
--- no two words stand at one place
+-- no two words have the same place
 abbrev pub Apart : List (ℕ × ℕ) → Type 0
 Apart [] = Unit {0}
 Apart (x ∷ xs) = AllByRecursion (λ y. x.0 ≡ y.0 → ⊥) xs × Apart xs
 
--- the words of a part stand in its two spans, no two at one place, and are no more than the spans have places
+-- the words of a part are in its two spans, at distinct places, and no more than the spans have places
 pub record Spread (spans : Spans) (words : List (ℕ × ℕ)) : Type 0 where
   pub within : AllByRecursion (λ word. Between spans word.0) words
   pub apart : Apart words
   pub few : length words + spans.slots_begin + spans.content_begin ≤ spans.slots_end + spans.content_end
 
--- ---- what a pass puts
+-- ---- what a pass appends
 
--- What is laid so far: the words in the order in which they are loaded, each a place and a value, and the place from
--- which on nothing stands yet.
+-- What is laid out so far: the words in load order, each a place and a value, and the first free place.
 pub record Laid : Type 0 where
   pub words : List (ℕ × ℕ)
   pub free : ℕ
 
--- a pass over a part: what is laid before it and what after it, and where the slots that it fills begin and end
+-- a pass over a part: the state before it and after it, and the range of the slots that it fills
 pub record Pass : Type 0 where
   pub before : Laid
   pub after : Laid
   pub slots_begin : ℕ
   pub slots_end : ℕ
 
--- the places of a pass: the content of its slots stands where nothing stood before
+-- the places of a pass; the content of its slots lies where the free places were
 abbrev pub spans_of : Pass → Spans
 spans_of pass = record {
   slots_begin = pass.slots_begin;
@@ -68,7 +67,8 @@ spans_of pass = record {
   content_end = pass.after.free;
 }
 
--- what a builder has laid, and the pass of a call that changes the builder and fills the slots between two places
+-- What a builder has laid out. Below: the pass of a call that changes the builder and fills the slots between two
+-- places.
 abbrev pub laid_by : Builder → Laid
 laid_by builder = record { words = builder.words.items; free = builder.free }
 
@@ -80,7 +80,7 @@ pass_of old new slots_begin slots_end = record {
   slots_end = slots_end;
 }
 
--- a part of a message: the words that are expected there, and which placed trees of them fit
+-- a part of a message: its expected words, and which of their placed trees fit
 pub record Part : Type 1 where
   pub expected : Expected
   pub fits : Placed → Type 0
@@ -90,8 +90,8 @@ part expected fits = record { expected = expected; fits = fits }
 
 -- under a table, in a heap of H words
 module _ (T : Table) (H : ℕ) where
-  -- A pass puts a part: a placed tree of the expected words is sound and fits. Its loads are put behind the words
-  -- before, and stand in the two spans.
+  -- A pass appends a part: a placed tree of the expected words is sound and fits. Its loads are appended to the
+  -- words, and lie in the two spans.
   pub record Puts (part : Part) (pass : Pass) : Type 0 where
     pub placed : Placed
     pub sound : AreSound T H part.expected placed
@@ -99,9 +99,9 @@ module _ (T : Table) (H : ℕ) where
     pub words : pass.after.words ≡ pass.before.words ++ loads placed
     pub spread : Spread (spans_of pass) (loads placed)
 
-  -- A pass puts one expected word, which is a role and a place: a value that doesn't offend, whose content is a sound
-  -- placed tree of what is expected behind it. The word with its content fits. It is put behind the words before, with
-  -- the loads of its content behind it, and all stand in the two spans.
+  -- A pass appends one expected word, a role and a place. Its value is valid, and its content is a sound placed tree
+  -- of the words that it leads to. The word with its content fits. It is appended to the words, followed by the loads
+  -- of its content, and all lie in the two spans.
   pub record PutsWord (expected : Role × ℕ) (pass : Pass) (Fits : Word → Type 0) : Type 0 where
     pub value : ℕ
     pub content : Placed
@@ -112,16 +112,16 @@ module _ (T : Table) (H : ℕ) where
     pub words : pass.after.words ≡ pass.before.words ++ ((expected.1, value) ∷ loads content)
     pub spread : Spread (spans_of pass) ((expected.1, value) ∷ loads content)
 
-  -- Where its first words were put, a placed tree of the rest completes a part: a placed tree of the whole is sound and
-  -- fits, and its loads are those words and behind them the loads of the rest.
+  -- After its first words, a placed tree of the remaining ones completes a part. A placed tree of the whole is sound
+  -- and fits, and its loads are the first words followed by the loads of the remaining ones.
   pub record Completes (whole : Part) (first_words : List (ℕ × ℕ)) (rest : Placed) : Type 0 where
     pub placed : Placed
     pub sound : AreSound T H whole.expected placed
     pub made : whole.fits placed
     pub loaded : loads placed ≡ first_words ++ loads rest
 
-  -- A pass puts the first words of a part, and the rest of it is left: these words are put behind those before, and
-  -- stand in the two spans. Each placed tree of the rest that is sound and fits completes the part.
+  -- A pass appends the first words of a part. They are appended to the words and lie in the two spans. Each sound
+  -- placed tree of the remaining words that fits completes the part.
   pub record Begun (whole rest : Part) (pass : Pass) : Type 0 where
     pub own : List (ℕ × ℕ)
     pub words : pass.after.words ≡ pass.before.words ++ own
@@ -132,19 +132,19 @@ module _ (T : Table) (H : ℕ) where
 abbrev pub value_of : Word → ℕ
 value_of (word place v content) = v
 
--- a word with its content is the plain slot of a value; it is 0 for a default alone
+-- a word with its content is the plain slot of a value; it is 0 only for a default value
 pub record HoldsItem (T : Table) (k : Kind) (i : Item) (w : Word) : Type 0 where
   pub item : plain_item T k w ≡ i
   pub some : (IsDefault i → ⊥) → value_of w ≢ 0
 
--- ---- which fields are left
+-- ---- which fields remain
 
 -- the fields whose numbers pass a test
 abbrev pub keep : (ℕ → Bool) → Node → Node
 keep p no_fields = no_fields
 keep p (field n c t) = if p n then field n c (keep p t) else keep p t
 
--- the field of a number is a member of a oneof
+-- the field with a number is a member of a oneof
 abbrev pub is_member_at : List Field → ℕ → Bool
 is_member_at [] n = false
 is_member_at (f ∷ fs) n = if f.number == n then is_member f.label else is_member_at fs n
@@ -153,40 +153,40 @@ is_member_at (f ∷ fs) n = if f.number == n then is_member f.label else is_memb
 abbrev pub members : List Field → Node → Node
 members fs t = keep (is_member_at fs) t
 
--- the words of content that may be there
+-- the number of words of optional content
 abbrev pub found_words : Table → Kind → Option Content → ℕ
 found_words T k None = 0
 found_words T k (Some c) = content_words T k c
 
--- the entries of a map in a list
+-- the entries of a map as a list
 abbrev pub listed : Pairs → List (Item × Item)
 listed no_pairs = []
 listed (pair i j ps) = (i, j) ∷ listed ps
 
 -- ---- what a part must be
 
--- the number of a member of the oneof that the tree has, or 0, under which it has nothing
+-- the number of the member of the oneof that the tree has; or 0, if it has none
 pub record IsMemberOf (fs : List Field) (oneof : ℕ) (t : Node) (n : ℕ) : Type 0 where
   pub none : n ≡ 0 → content_at t n ≡ None
   pub there : n ≢ 0 → (c : Content) × (content_at t n ≡ Some c) × (is_member_of fs oneof n ≡ true)
 
--- what stands under a label that isn't a member's
+-- the content fits a label that isn't a member's
 abbrev pub HoldsContent : Table → Label → Kind → Content → Type 0
 HoldsContent T l k (one i) = (TakesOne l i × IsItem T k i) × (l ≡ Optional → (m : ℕ) → k ≢ OfMessage m)
 HoldsContent T l k (many is) = TakesMany l × (is ≢ no_items) × AreItems T k is
 HoldsContent T l k (pairs ps) = (key : Kind) × (l ≡ Map key) × ((m : ℕ) → key ≢ OfMessage m)
     × (ps ≢ no_pairs) × ArePairs T key k ps × KeysAscend key ps
 
--- a value is no message
+-- a value that is no message
 abbrev pub NoMessage : Item → Type 0
 NoMessage (node t) = ⊥
 NoMessage _ = Unit {0}
 
--- the address of a run that has a byte
+-- the address word of a run, if the run isn't empty
 abbrev pub run_expected : Kind → ℕ → ℕ → Expected
 run_expected k bytes place = if bytes == 0 then [] else (run_address k bytes, place) ∷ []
 
--- a word has these bytes, at most eight, and 0 in the bytes behind them
+-- a word has these bytes, at most eight, and 0 in its other bytes
 pub record HasBytes (v : ℕ) (bytes : List ℕ) : Type 0 where
   pub low : take (length bytes) (word_bytes v) ≡ bytes
   pub spare : length bytes < 8 → v < 2 ^ (8 * length bytes)

@@ -1,4 +1,4 @@
--- What stands where a message was placed.
+-- What a heap holds where a message was placed.
 use Rattle.std.specs.Prelude.{◌≡◌, ℕ, ◌+◌, ◌<◌, ◌≤◌, List, map, All, length}
 use Rattle.mrpc_table.specs.Node.{Node}
 use Rattle.mrpc_table.specs.Valid.{AreDistinct}
@@ -12,17 +12,17 @@ use Rattle.graph_form.specs.declared.placed.Placed.{Placed as PlacedWords}
 abbrev pub places : List (ℕ × ℕ) → List ℕ
 places words = map (λ word. word.0) words
 
--- no word stands outside so many places from one on
+-- each word lies in the `words` places from `at`
 abbrev pub StandWithin : ℕ → ℕ → List (ℕ × ℕ) → Type 0
 StandWithin at words xs = All (λ word. (at ≤ word.0) × (word.0 < at + words)) xs
 
--- no two words stand at one place
+-- no two words have the same place
 abbrev pub StandApart : List (ℕ × ℕ) → Type 0
 StandApart xs = AreDistinct (places xs)
 
--- A message stands in words of a heap that has so many: they are those that a copy from `at` loads, in that order, the
--- node first and each content behind it, of a sound placed tree whose tree is this one. All of them lie within so many
--- places from `at` on, no two at one place.
+-- A message lies in words of a heap of `words` words. They are what a copy from `at` loads, in that order: the node
+-- first, then each content. They belong to a sound placed tree, whose tree is this one. All lie in the `span` places
+-- from `at`, at distinct places.
 pub record StandsIn (T : Table) (words msg : ℕ) (t : Node) (at span : ℕ) (placed : PlacedWords) : Type 0 where
   pub tree : Placed
   pub loaded : AreWordsOf T words msg tree placed

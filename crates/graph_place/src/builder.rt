@@ -1,4 +1,4 @@
-//! The list of the words of a message, each at its place.
+//! The list of the words of a message, each with its place.
 
 ghost use Rattle.std.specs.Prelude.{◌≡◌, ◌≢◌, ◌≤◌, ◌<◌, ◌+◌, ◌*◌, ◌^◌, ℕ, Bool, true, false, List, [], ◌∷◌, ◌++◌, length, IfOk, OnOk, Some};
 ghost use Rattle.std.specs.Str.{IsUtf8};
@@ -20,7 +20,7 @@ use graph_form::{element_words, is_member, oneofs_of, run_words, size_words};
 use mrpc_table::{Entries, Field, FieldValue, Kind, Label, Memory, Table, Tree, Value, Values};
 use std::alloc::Global;
 
-// The words so far, in the order in which they are loaded, and the place from which on nothing stands yet.
+// The words so far, in load order, and the first free place.
 #[derive(Drop)]
 pub(crate) struct Builder {
     // Each a place and a value.
@@ -29,7 +29,7 @@ pub(crate) struct Builder {
 }
 
 impl Builder {
-    // No words, with room for so many.
+    // No words, with capacity for `room`.
     pub(crate) fn new(alloc: Global, free: u64, room: u64) -> Result<Builder, Memory>
         ensures words { IfOk result (λ builder. builder.words.items ≡ []) }
         ensures free { IfOk result (λ builder. builder.free ≡ free) }
@@ -49,7 +49,7 @@ impl Builder {
         Ok(())
     }
 
-    // The first of so many places that are taken now.
+    // Reserves `words` places and returns the first.
     fn take(&mut self, words: u64) -> u64
         requires { self.old.free + words < 2 ^ 64 }
         ensures first { result ≡ self.old.free }
@@ -61,7 +61,7 @@ impl Builder {
         place
     }
 
-    // A message: the slots of its fields, and then those of its oneofs, each with its content.
+    // A message: the slots of its fields, then those of its oneofs, each with its content.
     #[cycle(builder)]
     pub(crate) fn node(&mut self, table: &Table, message: u32, tree: &Tree) -> Result<(), Memory>
         requires valid { IsValid table.now }
@@ -80,7 +80,7 @@ impl Builder {
         self.cases(table, message, tree, place)
     }
 
-    // The slots of the fields that are no members, from a place on. The place behind them.
+    // The slots of the fields that aren't oneof members, starting at a place. Returns the place after them.
     #[cycle(builder)]
     fn slots(&mut self, table: &Table, message: u32, tree: &Tree, at: u64) -> Result<u64, Memory>
         requires valid { IsValid table.now }
@@ -108,7 +108,7 @@ impl Builder {
         Ok(place)
     }
 
-    // The slot of a field, if it has one of its own. The place behind it.
+    // The slot of a field, if it has one of its own. Returns the place after it.
     #[cycle(builder)]
     fn field(
         &mut self,
@@ -151,7 +151,7 @@ impl Builder {
         }
     }
 
-    // The slots of the oneofs, from a place on.
+    // The slots of the oneofs, starting at a place.
     #[cycle(builder)]
     fn cases(&mut self, table: &Table, message: u32, tree: &Tree, at: u64) -> Result<(), Memory>
         requires valid { IsValid table.now }
@@ -180,7 +180,7 @@ impl Builder {
         Ok(())
     }
 
-    // The slot of a oneof that has the member of a number, or none where it is 0.
+    // The slot of a oneof with a member's number, or with no member if it is 0.
     #[cycle(builder)]
     fn case(
         &mut self,
@@ -217,7 +217,7 @@ impl Builder {
         }
     }
 
-    // The slot of a field that has this content.
+    // The slot of a field with this content.
     #[cycle(builder)]
     fn slot(
         &mut self,
@@ -257,7 +257,7 @@ impl Builder {
         }
     }
 
-    // The address of elements, and they with their content.
+    // The address of elements, and the elements with their content.
     #[cycle(builder)]
     fn elements(
         &mut self,
@@ -291,7 +291,7 @@ impl Builder {
         Ok(())
     }
 
-    // The address of entries, and they with the content of their keys and values.
+    // The address of entries, and the entries with the content of their keys and values.
     #[cycle(builder)]
     fn entries(
         &mut self,
@@ -327,7 +327,7 @@ impl Builder {
         Ok(())
     }
 
-    // A value in a slot that begins with its number, its length or its address, with its content.
+    // A value in a plain slot, which starts with the number, the length or the address. Its content is included.
     #[cycle(builder)]
     fn item(&mut self, table: &Table, kind: Kind, value: &Value, place: u64) -> Result<(), Memory>
         requires valid { IsValid table.now }
@@ -355,7 +355,7 @@ impl Builder {
         }
     }
 
-    // A number behind its presence, or a run behind its length and one more.
+    // A presence word and a number, or the length plus 1 and a run.
     fn optional(&mut self, value: &Value, place: u64) -> Result<(), Memory>
         requires from_one { 1 ≤ place }
         requires slot { place + 2 ≤ self.old.free }
@@ -382,7 +382,7 @@ impl Builder {
         }
     }
 
-    // The address of a run, and its words; nothing where it has no byte.
+    // The address of a run, and its words; nothing if the run is empty.
     fn run(&mut self, bytes: &[u8], place: u64) -> Result<(), Memory>
         requires from_one { 1 ≤ place }
         requires slot { place + 1 ≤ self.old.free }
@@ -420,7 +420,7 @@ impl Builder {
     }
 }
 
-// The word that has these bytes, at most eight, in its low ones, and 0 in the others.
+// The word with these bytes, at most eight, in its low bytes, and 0 in the others.
 fn word_of(bytes: &[u8]) -> u64
     requires { length bytes.now ≤ 8 }
     ensures { HasBytes result bytes.now }

@@ -1,4 +1,4 @@
-//! Laws of placed messages. These functions do nothing; their clauses hold.
+//! Laws of placed messages. The functions have no effect: each clause is a law.
 
 ghost use Rattle.std.specs.Prelude.{◌≡◌, ◌≤◌, ◌++◌, ℕ, List, All, length};
 ghost use Rattle.mrpc_base.specs.Heap.{word_after};
@@ -11,15 +11,15 @@ ghost use Rattle.graph_place.specs.Stored.{StandApart};
 
 use graph_form::reading_determines_outcome;
 
-/// Words that were stored last, no two at one place, are what their places have.
+/// If words are the last ones stored, and no two have the same place, each of their places holds its word.
 pub fn stored_words_stand()
     ensures { (stores words : List (ℕ × ℕ)) → StandApart words
         → All (λ word. word_after (stores ++ words) word.0 ≡ word.1) words }
 {}
 
-/// A reader that finds the words of a placed message at their places copies its tree: loads that are made at an
-/// address, each giving what its place has, and that come to something within a limit of at least as many loads, are
-/// exactly those of the placed message, and they come to its tree.
+/// A reader that finds the words of a placed message at their places copies its tree. Given: loads from an address,
+/// each with the value that its place has, and their outcome, within a limit of at least as many loads as the message
+/// has. Then the loads are exactly those of the placed message, and the outcome is a copy of its tree.
 pub fn placed_message_is_copied()
     ensures { (T : Table) (H msg address limit : ℕ) (P : Placed) (t : Node) (reading : ℕ → ℕ) (own : List (ℕ × ℕ))
         (outcome : Outcome)

@@ -1,12 +1,11 @@
-//! The writer of graphs: a message's tree is stored as words into a heap, so that a reader of graphs copies the same
+//! The writer of graphs: it stores a message's tree as words in a heap, so that a reader of graphs copies the same
 //! tree from there.
 //!
-//! The node of a message stands first, and the content of its slots stands behind it, each in the order in which a
-//! reader loads it. First all words are laid out, each with its place ([`layout`]); then they are stored ([`store`]).
-//! So all memory is taken before the first store, and the time is in proportion to the words. Messages are written by
-//! recursion, which a normal tree keeps to 32 calls deep. It stands on `mrpc_base`, `mrpc_table` and
-//! `graph_form`. The layers above use one contract: what is stored is exactly what a reader loads of a sound graph, and
-//! its tree is the given one.
+//! The node of a message comes first, and the content of its slots after it, each in load order. First all words are
+//! laid out, each with its place ([`layout`]). Then they are stored ([`store`]). So all memory is allocated before
+//! the first store, and the time is in proportion to the words. Messages are written by recursion, at most 32 calls
+//! deep for a normal tree. The crate depends on `mrpc_base`, `mrpc_table` and `graph_form`. The layers above use one
+//! contract: what is stored is exactly what a reader loads of a sound graph, and its tree is the given one.
 #![tactic(auto)]
 
 mod builder;

@@ -1,4 +1,4 @@
-//! What a table and a tree say of a message.
+//! Look-ups of a message in a table and a tree.
 
 ghost use Rattle.std.specs.Prelude.{◌≡◌, ◌≢◌, ◌<◌, ◌*◌, ℕ, length, IfNone, IfSome, Some, None, slice_index, if◌then◌else◌};
 ghost use Rattle.mrpc_table.specs.Node.{Item, one, content_at, NumbersAscend};
@@ -12,7 +12,7 @@ ghost use Rattle.graph_place.specs.Content.{is_of, is_member_of, member_of};
 
 use mrpc_table::{FieldValue, Kind, Label, MAX_FIELDS, Table, Tree, Value};
 
-// The kind of the field of a number in the message at a place of the table.
+// The kind of the field with a number, in the message at an index of the table.
 pub(crate) fn kind_of(table: &Table, message: u32, number: u32) -> Kind
     requires { IsValid table.now }
     ensures { result ≡ kind_at (fields_of table.now message) number }
@@ -23,7 +23,7 @@ pub(crate) fn kind_of(table: &Table, message: u32, number: u32) -> Kind
     }
 }
 
-// The value that a tree has under a number, if it has a single one there.
+// The value of a tree at a field number, if it has a single one there.
 pub(crate) fn value_of(tree: &Tree, number: u32) -> Option<&Value>
     requires { NumbersAscend 0 tree.now }
     ensures some { IfSome result (λ value. content_at tree.now number ≡ Some (one (item_of value.now))) }
@@ -39,7 +39,7 @@ pub(crate) fn value_of(tree: &Tree, number: u32) -> Option<&Value>
     }
 }
 
-// For each oneof of a message, the number of the member that the tree has, or 0.
+// For each oneof of a message: the number of the member that the tree has, or 0.
 pub(crate) fn members_of(table: &Table, message: u32, tree: &Tree) -> [u32; MAX_FIELDS]
     requires { IsValid table.now }
     ensures { (oneof : ℕ) → slice_index result oneof ≡ member_of (fields_of table.now message) oneof 0 tree.now }
@@ -51,7 +51,7 @@ pub(crate) fn members_of(table: &Table, message: u32, tree: &Tree) -> [u32; MAX_
     members
 }
 
-// Notes a number in the place of the oneof of which its field is a member.
+// Notes a field number at the index of its oneof, if the field is a member of one.
 fn note_number(members: &mut [u32], table: &Table, message: u32, number: u32)
     requires valid { IsValid table.now }
     requires places { length members.old ≡ MAX_FIELDS }
@@ -64,7 +64,7 @@ fn note_number(members: &mut [u32], table: &Table, message: u32, number: u32)
     }
 }
 
-// Notes a number in the place of the oneof of a label.
+// Notes a number at the index of the oneof of a label.
 fn note_label(members: &mut [u32], label: Label, number: u32)
     requires { (oneof : ℕ) → label ≡ Member oneof → oneof < length members.old }
     ensures { (oneof : ℕ) → slice_index members.new oneof

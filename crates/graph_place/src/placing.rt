@@ -1,4 +1,4 @@
-//! Placing a message into a heap: first all its words are laid out, then they are stored.
+//! Places a message into a heap: first all its words are laid out, then they are stored.
 
 ghost use Rattle.std.specs.Prelude.{◌≡◌, ◌≤◌, ◌<◌, ◌+◌, ◌^◌, ◌++◌, ℕ, length, All, IfOk, OnErr};
 ghost use Rattle.mrpc_base.specs.Heap.{word_after};
@@ -17,8 +17,8 @@ use mrpc_base::{Room, Stores};
 use mrpc_table::{Memory, Table, Tree};
 use std::alloc::Global;
 
-/// Stores a normal tree of the message at the place `msg` of the table into a heap, from the place `at` on, in as many
-/// places as [`place_words`] says. It stores exactly the words that a copy from `at` loads, in that order, and tells
+/// Stores a normal tree of the message at index `msg` of the table into a heap. It uses the places from `at`, as many
+/// as [`place_words`] returns. It stores exactly the words that a copy from `at` loads, in that order, and returns
 /// them.
 ///
 /// The only error is `Memory`, and it comes before the first store.
@@ -37,7 +37,7 @@ pub fn place<H: Stores>(
     requires in_heap { at + tree_words table.now msg tree.now ≤ H.words heap.old }
     requires few { length (H.stores heap.old) + tree_words table.now msg tree.now ≤ 2 ^ 63 }
 
-    // The message stands in these words, and they are what is stored.
+    // The message lies in these words, and they are what is stored.
     ensures stands { IfOk result (StandsIn table.now (H.words heap.old) msg tree.now at
         (tree_words table.now msg tree.now)) }
     ensures stores { IfOk result (λ placed. H.stores heap.new ≡ H.stores heap.old ++ placed.words) }
@@ -58,9 +58,8 @@ pub fn place<H: Stores>(
     }
 }
 
-/// The words of a normal tree of the message at the place `msg` of the table, each with its place, from the place `at`
-/// on. Nothing is stored yet: [`store`] does it, and takes no memory. They are at most as many as [`place_words`]
-/// says.
+/// Lays out a normal tree of the message at index `msg` of the table: its words, each with its place, from the place
+/// `at`. There are at most [`place_words`] of them. Nothing is stored: [`store`] does that, and allocates nothing.
 ///
 /// The only error is `Memory`.
 pub fn layout(
@@ -76,7 +75,7 @@ pub fn layout(
     requires from_one { 1 ≤ at }
     requires in_range { at + tree_words table.now msg tree.now < 2 ^ 64 }
 
-    // In each heap that has these places, the message stands in these words.
+    // In each heap that has these places, the message lies in these words.
     ensures stands { IfOk result (λ placed. (words : ℕ) → at + tree_words table.now msg tree.now ≤ words
         → StandsIn table.now words msg tree.now at (tree_words table.now msg tree.now) placed) }
 {
@@ -89,13 +88,13 @@ pub fn layout(
     })
 }
 
-/// Stores exactly the words of a message that is laid out, in their order. It takes no memory.
+/// Stores exactly the words of a message that is laid out, in their order. It allocates nothing.
 pub fn store<H: Stores>(heap: &mut H, placed: &Placed)
     requires in_heap { All (λ word. (1 ≤ word.0) × (word.0 < H.words heap.old)) placed.now.words }
     requires few { length (H.stores heap.old) + length placed.now.words ≤ 2 ^ 63 }
     requires room { length placed.now.words ≤ H.room heap.old }
     ensures stores { H.stores heap.new ≡ H.stores heap.old ++ placed.now.words }
-    // Where a message stands in the words, each of their places has its word.
+    // If a message lies in the words, each of their places holds its word.
     ensures found { (T : TheTable) (msg at span : ℕ) (tree : Node)
         → StandsIn T (H.words heap.old) msg tree at span placed.now
         → All (λ word. word_after (H.stores heap.new) word.0 ≡ word.1) placed.now.words }

@@ -1,4 +1,4 @@
-//! How many words messages take in a heap.
+//! The number of words of messages in a heap.
 
 ghost use Rattle.std.specs.Prelude.{◌≡◌, ◌<◌, length};
 ghost use Rattle.mrpc_table.specs.Normal.{IsNormal};
@@ -11,8 +11,8 @@ use crate::look_up::kind_of;
 use graph_form::{element_words, run_words, size_words};
 use mrpc_table::{Entries, FieldValue, Kind, Table, Tree, Value, Values};
 
-/// How many words a normal tree of the message at the place `msg` of the table takes in a heap, or 2^64 - 1 where it is
-/// more. It takes no memory.
+/// The number of words of a normal tree of the message at index `msg` of the table in a heap, or 2^64 - 1 if it is
+/// more. It allocates nothing.
 pub fn place_words(tree: &Tree, table: &Table, msg: u32) -> u64
     requires valid { IsValid table.now }
     requires known { msg < length table.now.messages }
@@ -36,7 +36,7 @@ fn node_words(tree: &Tree, table: &Table, msg: u32) -> u64
     total
 }
 
-// The words of what a field has, beside its slot.
+// The words of a field's content, besides its slot.
 #[cycle(size)]
 fn content_words(content: &FieldValue, table: &Table, kind: Kind) -> u64
     requires { IsValid table.now }
@@ -78,7 +78,7 @@ fn entries_words(entries: &Entries, table: &Table, kind: Kind) -> u64
     total
 }
 
-// The words behind a value of the kind.
+// The words that a value of the kind needs besides its slot.
 #[cycle(size)]
 fn item_words(value: &Value, table: &Table, kind: Kind) -> u64
     requires { IsValid table.now }
@@ -91,7 +91,7 @@ fn item_words(value: &Value, table: &Table, kind: Kind) -> u64
     }
 }
 
-// The words behind a key, which is a number or a run.
+// The words that a key, a number or a run, needs besides its slot.
 fn key_words(key: &Value) -> u64
     ensures { result ≡ capped (run_words_of (item_of key.now)) }
 {

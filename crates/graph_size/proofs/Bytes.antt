@@ -1,4 +1,4 @@
--- How many bytes varints, tags, numbers and runs have.
+-- The number of bytes of varints, tags, numbers and runs.
 use Rattle.std.proofs.Common.{◌≡◌, ⊎_elim, ℕ, zero, suc, ◌+◌, ◌*◌, ◌/◌, ◌^◌, ◌<◌, ◌≤◌, List, [], ◌∷◌, length, refl, ap, arith, length-append}
 use Rattle.std.proofs.lemmas.Bool.{cases_lt}
 use Rattle.std.proofs.lemmas.Bool.Decides.{nat_tests}
@@ -75,7 +75,7 @@ number-at_most_ten ten Sfixed32 n = omega arith
 number-at_most_ten ten Float n = omega arith
 number-at_most_ten ten _ n = ten n
 
--- bytes behind their length, where that has at most three
+-- bytes after their length, if the length has at most three bytes
 pub delimited-short : (bytes : List ℕ) → length bytes < 2 ^ 21 → length (delimited bytes) ≤ 3 + length bytes
 delimited-short bytes h =
     let prefix = varint-short 2 (length bytes) (omega (arith, h)) in

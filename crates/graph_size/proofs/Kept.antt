@@ -16,7 +16,7 @@ entry_payload T key k i j = (tag 1 (wire_type_of key) ++ item_bytes T key i) ++ 
 abbrev pub entry_bytes : Table → ℕ → Kind → Kind → Item → Item → List ℕ
 entry_bytes T n key k i j = tag n wire_len ++ delimited (entry_payload T key k i j)
 
--- how many bytes the records of all entries have
+-- the number of bytes of the records of all entries
 abbrev pub all_bytes : Table → ℕ → Kind → Kind → List (Item × Item) → ℕ
 all_bytes T n key k [] = 0
 all_bytes T n key k (e ∷ es) = length (entry_bytes T n key k e.0 e.1) + all_bytes T n key k es

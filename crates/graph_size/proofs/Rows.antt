@@ -1,4 +1,4 @@
--- The bound on small graphs that were worked out by hand: how many bytes their loads give.
+-- The bound on small graphs that were worked out by hand: the number of bytes that their loads give.
 use Rattle.std.proofs.Common.{◌≡◌, ℕ, ◌-◌, ◌^◌, List, [], ◌∷◌, length, codes, refl, arith, inr}
 use Rattle.std.specs.Fmt.{digits}
 use Rattle.std.specs.List.{Contains}
@@ -18,7 +18,7 @@ use Rattle.graph_form.specs.Roles.{value}
 use Rattle.graph_form.specs.Placed.{Placed, nothing, first, word, loads, Offends, IsFine, IsSound}
 use Rattle.graph_form.specs.Forgotten.{tree_of}
 
--- a table of one message that has one field of the largest number, whose tag has five bytes
+-- a table of one message with one field of the largest number, whose tag has five bytes
 abbrev field_of : Label → Kind → Field
 field_of l k = record { number = 536870911; name = codes "f"; kind = k; label = l }
 
@@ -31,7 +31,7 @@ table_of l k oneofs = record { messages = message_with l k oneofs ∷ []; enums 
 abbrev bytes_of : Table → Placed → List ℕ
 bytes_of T P = encoding T 0 (tree_of T 0 P)
 
--- a word with nothing behind it, and then those
+-- a word without content, followed by others
 abbrev alone : ℕ → ℕ → Placed → Placed
 alone place v others = first (word place v nothing) others
 
@@ -147,7 +147,7 @@ letters-bytes = refl
 letters-loads : length (loads letters) ≡ 3
 letters-loads = refl
 
--- ---- a message in a oneof: its case, its address, and in it another that is empty
+-- ---- a message in a oneof: its case, its address, and an empty message in it
 
 abbrev nested : Table
 nested = table_of (Member 0) (Message 0) (codes "c" ∷ [])

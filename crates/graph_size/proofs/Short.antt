@@ -1,5 +1,5 @@
--- The encoding of the tree of a placed tree has at most 15 bytes for each load: a number has at most ten bytes and its
--- tag five. A value has at most 15 bytes for each load less the five of a tag, so that a tag in front of it has room.
+-- The encoding of the tree of a placed tree has at most 15 bytes for each load: a number has at most ten bytes and
+-- its tag five. A value has at most 15 bytes for each load minus five, which leaves room for its tag.
 use Rattle.std.proofs.Common.{◌≡◌, ℕ, ◌+◌, ◌-◌, ◌*◌, ◌<◌, ◌≤◌, ◌^◌, Bool, true, false, cond, List, [], ◌∷◌, ◌++◌}
 use Rattle.std.proofs.Common.{length, take, Option, Some, None, refl, sym, ap, subst, arith, length-append, ◌==◌}
 use Rattle.std.proofs.lemmas.List.{length-take}
@@ -55,11 +55,11 @@ run-short bytes (first (word p v c) P) few =
 
 -- ---- values
 
--- a value of so many loads
+-- a value of `loads` loads
 abbrev ItemShort : Table → Kind → Item → ℕ → Type 0
 ItemShort T k i loads = length (item_bytes T k i) + 5 ≤ 15 * loads
 
--- what the words behind an address are, where they are a node
+-- a property of the words at an address, if they are a node
 abbrev NodeShort : Table → Placed → Type 0
 NodeShort T P = (m : ℕ) → length (fields_bytes T (fields_of T m) (slots_tree T (fields_of T m) (own_slots (fields_of T m)) P)) ≤ 15 * count P
 
@@ -80,9 +80,9 @@ optional-short ten T Text v c few = run-short (v - 1) c few
 optional-short ten T Octets v c few = run-short (v - 1) c few
 optional-short ten T k v c few = number_item-short ten T k (number_at c) (count c)
 
--- ---- what a field has
+-- ---- the content of a field
 
--- the items, with what stands in front of each of them, or one after another
+-- the items, each with its prefix, or joined
 record ItemsShort (T : Table) (k : Kind) (is : Items) (loads : ℕ) : Type 0 where
   records : (n : ℕ) → n < 2 ^ 29 → length (records_bytes T n k is) ≤ 15 * loads
   joined : length (joined_bytes T k is) ≤ 15 * loads
@@ -131,8 +131,8 @@ items-more T k i is a b h rest = record {
 no_items-short : (T : Table) (k : Kind) (loads : ℕ) → ItemsShort T k no_items loads
 no_items-short T k loads = record { records = λ n small. omega arith; joined = omega arith }
 
--- an entry: its tag and its prefix have eight bytes, the tags in it two, and of its key's and its value's loads ten are
--- left
+-- an entry: its tag and its length prefix have eight bytes, the tags in it two; the loads of its key and its value
+-- leave ten
 entry-short : (T : Table) (n : ℕ) (key k : Kind) (i j : Item) (a b : ℕ) → n < 2 ^ 29 → a + b ≤ 16384
     → ItemShort T key i a → ItemShort T k j b → length (entry_bytes T n key k i j) ≤ 15 * (a + b)
 entry-short T n key k i j a b small few h g =
@@ -152,12 +152,12 @@ abbrev HeadShort : Table → Kind → Placed → Type 0
 HeadShort T k nothing = Unit {0}
 HeadShort T k (first w P) = ItemShort T k (plain_item T k w) (count (first w P))
 
--- an entry with this key, whose value is the first word, and those behind
+-- an entry with this key, whose value is the first word, and the entries after it
 abbrev entries_behind : Table → Kind → Kind → Item → Placed → List (Item × Item)
 entries_behind T key k i nothing = []
 entries_behind T key k i (first w P) = (i, plain_item T k w) ∷ entries_in T key k P
 
--- what some words are, whatever they were loaded for
+-- properties of some words, whatever they were loaded for
 record Facts (T : Table) (P : Placed) : Type 0 where
   slots : (fs slots : List Field) → AreFound fs slots → length (fields_bytes T fs (slots_tree T fs slots P)) ≤ 15 * count P
   head : (k : Kind) → HeadShort T k P
@@ -300,7 +300,7 @@ behind_key-step ten T p v c P valid inside behind n key k i a small few h =
     let rest = behind.entries n key k small in
     omega (arith, e, entry, rest)
 
--- the entries are those behind the first word, a key
+-- the entries are those after the first word, a key
 entries-behind : (T : Table) (key k : Kind) (w : Word) (P : Placed) → entries_in T key k (first w P) ≡ entries_behind T key k (plain_item T key w) P
 entries-behind T key k w nothing = refl
 entries-behind T key k w (first x P) = refl

@@ -15,7 +15,7 @@ abbrev pub AreFound : List Field → List Field → Type 0
 AreFound all [] = Unit {0}
 AreFound all (f ∷ fs) = (f.number < 2 ^ 29) × (field_at all f.number ≡ Some f) × AreFound all fs
 
--- numbers that rise from above `last`
+-- numbers that rise, all above `last`
 abbrev Rise : ℕ → List Field → Type 0
 Rise last [] = Unit {0}
 Rise last (f ∷ fs) = (last < f.number) × (f.number < 2 ^ 29) × Rise f.number fs
@@ -37,7 +37,7 @@ rise-at T [] i all = tt
 rise-at T (m ∷ ms) zero all = let h = All-head (IsMessage T) m ms all in all-rise T (length m.oneofs) m.fields h.fields h.ascend
 rise-at T (m ∷ ms) (suc i) all = rise-at T ms i (All-tail (IsMessage T) m ms all)
 
--- the fields are all those of a message with numbers above `last`
+-- `fs` are all fields of a message with numbers above `last`
 abbrev AreRest : List Field → ℕ → List Field → Type 0
 AreRest all last fs = (n : ℕ) → last < n → field_at all n ≡ field_at fs n
 

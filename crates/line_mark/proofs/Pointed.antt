@@ -1,4 +1,4 @@
--- What is appended in two parts is one pointing.
+-- Two parts that are appended in order make one snippet.
 use Rattle.std.proofs.Common.{◌≡◌, ◌++◌, ◌+◌, ◌-◌, ◌/◌, ℕ, List, Bool, true, refl, append_assoc}
 use Rattle.std.specs.Prelude.{max, min, ◌↔◌}
 use Rattle.std.specs.Str.{IsUtf8}

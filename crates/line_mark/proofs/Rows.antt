@@ -4,7 +4,7 @@ use Rattle.std.specs.Prelude.{codes}
 use Rattle.hex.specs.Hex.{encode_with}
 use Rattle.line_mark.specs.Pointing.{line_at, marked}
 
--- the mark stands under the second byte
+-- the caret is under the second byte
 second_byte : marked (codes "a}\n") true 0 1 2 2 ≡ codes "a}\n ^\n"
 second_byte = refl
 
@@ -12,7 +12,7 @@ second_byte = refl
 two_bytes : marked (195 ∷ 164 ∷ codes "}") true 0 2 3 3 ≡ 195 ∷ 164 ∷ codes "}\n ^\n"
 two_bytes = refl
 
--- a byte that can't be read takes four
+-- an unprintable byte takes four
 no_character : marked (228 ∷ codes "}") false 0 1 2 2 ≡ codes "\\xe4}\n    ^\n"
 unfolding encode_with
 no_character = refl

@@ -1,4 +1,4 @@
--- Where a place of a text stands, and what is shown of its line.
+-- The line of an offset of a text, and the part of it that is quoted.
 use Rattle.std.specs.Prelude.{◌≡◌, ◌≢◌, ◌⊎◌, ◌↔◌, ◌<◌, ◌≤◌, ◌+◌, ◌-◌, ◌/◌, ◌==◌, ◌&&◌, ◌||◌, min, max, nat_le, nat_lt, if◌then◌else◌, ℕ, Bool, true, List, [], ◌∷◌, ◌++◌, Some, take, drop, length, slice_get, replicate, codes}
 use Rattle.std.specs.List.{flat_map}
 use Rattle.std.specs.Fmt.{decimal}
@@ -6,23 +6,23 @@ use Rattle.std.specs.Str.{IsUtf8}
 use Rattle.hex.specs.Hex.{encode_lower}
 use Rattle.mrpc_table.specs.Lines.{line_count}
 
--- the number of a place's line, from 1: as many line feeds stand in front of it, and one more
+-- the line number of an offset, from 1: the number of line feeds before it, plus one
 abbrev pub line_at : List ℕ → ℕ → ℕ
 line_at text at = line_count (take at text) + 1
 
--- a line begins here: the text does, or a line feed stands right in front of it
+-- a line starts here: at the start of the text, or right after a line feed
 abbrev pub BeginsLine : List ℕ → ℕ → Type 0
 BeginsLine text start = (start ≡ 0) ⊎ ((before : ℕ) × (start ≡ before + 1) × (slice_get text before ≡ Some 10))
 
--- a line ends here: the text does, or a line feed stands here
+-- a line ends here: at the end of the text, or at a line feed
 abbrev pub EndsLine : List ℕ → ℕ → Type 0
 EndsLine text end = (end ≡ length text) ⊎ (slice_get text end ≡ Some 10)
 
--- no line feed stands from the first place up to the second
+-- there is no line feed from the first offset up to the second
 abbrev pub IsWithinLine : List ℕ → ℕ → ℕ → Type 0
 IsWithinLine text start end = (i : ℕ) → start ≤ i → i < end → slice_get text i ≢ Some 10
 
--- from where to where the line of a place goes
+-- the start and the end of the line that contains an offset
 pub record IsLineAt (text : List ℕ) (at start end : ℕ) : Type 0 where
   pub begins : BeginsLine text start
   pub front : start ≤ at
@@ -31,23 +31,23 @@ pub record IsLineAt (text : List ℕ) (at start end : ℕ) : Type 0 where
   pub behind : IsWithinLine text at end
   pub ends : EndsLine text end
 
--- the bytes of a text from one place up to another
+-- the bytes of a text from one offset up to another
 abbrev pub part : List ℕ → ℕ → ℕ → List ℕ
 part text from to = take (to - from) (drop from text)
 
--- a byte that is shown as it stands: a printable one of ASCII, and in a part that is UTF-8 each above ASCII
+-- a byte that a snippet prints as it is: printable ASCII, and in UTF-8 each byte above ASCII
 abbrev pub is_legible : Bool → ℕ → Bool
 is_legible is_utf8 byte = (nat_le 32 byte && nat_lt byte 127) || (is_utf8 && nat_le 128 byte)
 
--- a byte as it is shown: a tab as a blank, another one that can't be read as two hexadecimal digits behind `\x`
+-- a byte in printable form: a tab as a blank, any other unprintable byte as `\x` and two hexadecimal digits
 abbrev pub legible : Bool → ℕ → List ℕ
 legible is_utf8 byte = if is_legible is_utf8 byte then byte ∷ [] else if byte == 9 then 32 ∷ [] else codes "\\x" ++ encode_lower (byte ∷ [])
 
--- how many columns of a terminal that takes; the bytes behind the first of a character take none
+-- the columns of a terminal that this takes; the bytes of a character after its first take none
 abbrev pub columns : Bool → ℕ → ℕ
 columns is_utf8 byte = if is_utf8 && nat_le 128 byte && nat_lt byte 192 then 0 else if is_legible is_utf8 byte || byte == 9 then 1 else 4
 
--- what stands under a byte
+-- the marks under a byte
 abbrev pub under : ℕ → Bool → ℕ → List ℕ
 under mark is_utf8 byte = replicate (columns is_utf8 byte) mark
 
@@ -55,15 +55,15 @@ under mark is_utf8 byte = replicate (columns is_utf8 byte) mark
 abbrev pub headed : ℕ → ℕ → List ℕ → List ℕ
 headed line column sentence = decimal line ++ codes ":" ++ decimal column ++ codes ": " ++ sentence ++ codes "\n"
 
--- a part of a line, and under it a mark for each column from a place up to another, and one at the least
+-- a part of a line, and under it a caret for each column from one offset up to another, at least one
 abbrev pub marked : List ℕ → Bool → ℕ → ℕ → ℕ → ℕ → List ℕ
 marked text is_utf8 from at stop to =
     flat_map (legible is_utf8) (part text from to) ++ codes "\n"
     ++ flat_map (under 32 is_utf8) (part text from at) ++ codes "^"
     ++ flat_map (under 94 is_utf8) (part text (at + 1) stop) ++ codes "\n"
 
--- the part of the line that is shown has `width` bytes at the most: it begins at most half of them in front of the
--- place, and the mark goes up to `end`, or as far as the part goes
+-- the quoted part of the line has at most `width` bytes, at most half of them before the offset, and the
+-- carets go up to `end` or to the end of the part
 pub record IsPointed (text : List ℕ) (at end width : ℕ) (sentence shown : List ℕ) : Type 0 where
   pub line_start : ℕ
   pub line_end : ℕ

@@ -1,8 +1,9 @@
-//! A place of a text, shown to a person: its line and column, a sentence, the line itself, and a mark under the place.
+//! A snippet of a text for a person: the line and the column of an offset, a sentence, the line itself, and
+//! carets under the offset.
 //!
-//! It stands on `mrpc_table`, whose lists of bytes it writes into. The layer above uses one contract, that of
-//! [`point`]: the line and the column are those of the place, what is quoted stands in that line and is legible, and
-//! the mark stands under the place (`specs/Pointing.antt`).
+//! The crate uses `mrpc_table`, whose lists of bytes it appends to. Its one contract for the layer above is
+//! that of [`point`]: the line and the column are those of the offset, the quoted text is from that line and
+//! printable, and the carets are under the offset (`specs/Pointing.antt`).
 #![tactic(auto)]
 
 mod place;

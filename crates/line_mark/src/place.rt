@@ -1,23 +1,23 @@
-//! Where a place of a text stands: its line.
+//! The line that contains an offset of a text.
 
 ghost use Rattle.std.specs.Prelude.{◌≡◌, ◌<◌, ◌≤◌, ◌+◌, ◌^◌, length};
 ghost use Rattle.line_mark.specs.Pointing.{line_at, BeginsLine, EndsLine, IsLineAt, IsWithinLine};
 
 use mrpc_table::line_count;
 
-// The line that a place of a text stands in.
+// The line that contains an offset of a text.
 #[derive(Clone, Copy)]
 pub(crate) struct LineAt {
     // Its number, from 1.
     pub number: usize,
-    // Where it begins in the text, from 0.
+    // The offset of its first byte.
     pub start: usize,
-    // Where it ends in the text: at its line feed, or at the end of the text.
+    // The offset of its end: of its line feed, or of the end of the text.
     pub end: usize,
 }
 
 impl LineAt {
-    // The line of a place of a text.
+    // The line that contains an offset.
     pub(crate) fn of(text: &[u8], at: usize) -> LineAt
         requires within { at ≤ length text.now }
         requires countable { length text.now < 2 ^ 63 }
@@ -33,7 +33,7 @@ impl LineAt {
     }
 }
 
-// Where the line of a place begins.
+// The start of the line that contains an offset.
 fn line_start(text: &[u8], at: usize) -> usize
     requires within { at ≤ length text.now }
     ensures begins { BeginsLine text.now result }
@@ -46,7 +46,7 @@ fn line_start(text: &[u8], at: usize) -> usize
     start
 }
 
-// Where the line of a place ends.
+// The end of the line that contains an offset.
 fn line_end(text: &[u8], at: usize) -> usize
     requires within { at ≤ length text.now }
     ensures ends { EndsLine text.now result }

@@ -1,4 +1,4 @@
-//! A line with a mark under a place of it.
+//! A line with carets under a part of it.
 
 ghost use Rattle.std.specs.Prelude.{◌≡◌, ◌↔◌, ◌<◌, ◌≤◌, ◌^◌, ◌++◌, ◌+◌, ◌-◌, ◌/◌, List, ℕ, true, length, max, min, OnOk};
 ghost use Rattle.std.specs.List.{flat_map};
@@ -8,8 +8,8 @@ ghost use Rattle.line_mark.specs.Pointing.{is_legible, legible, under, part, hea
 use crate::place::LineAt;
 use mrpc_table::{Bytes, Memory};
 
-/// Appends `LINE:COLUMN: SENTENCE`, and below that the line of the text up to `width` of its bytes, and below that a
-/// mark under each column of what is shown from one place up to another: one mark at the least.
+/// Appends `LINE:COLUMN: SENTENCE`, then at most `width` bytes of the line, then a caret under each quoted
+/// column from one offset up to another: at least one caret.
 pub fn point(
     text: &[u8],
     at: usize,
@@ -30,20 +30,20 @@ pub fn point(
     put_window(text, at, &window, is_utf8, out)
 }
 
-// A part of a line that is shown.
+// The part of a line that is quoted.
 #[derive(Clone, Copy)]
 struct Window {
-    // Where it begins in the text.
+    // The offset of its first byte.
     from: usize,
-    // Where the marks end.
+    // The offset at which the carets end.
     stop: usize,
-    // Where it ends.
+    // The offset after its last byte.
     to: usize,
 }
 
 impl Window {
-    // What is shown of the line of a place, of `width` bytes at the most, half of them in front of the place, with
-    // marks up to `end`.
+    // The quoted part of a line: at most `width` bytes, at most half of them before the offset, with carets
+    // up to `end`.
     fn of(line_start: usize, line_end: usize, at: usize, end: usize, width: usize) -> Window
         requires around { (line_start ≤ at) × (at ≤ line_end) }
         ensures from { result.from ≡ max line_start (at - width / 2) }
@@ -73,7 +73,7 @@ fn put_head(line: usize, column: usize, sentence: &[u8], out: &mut Bytes) -> Res
     out.append(b"\n")
 }
 
-// Appends what is shown, and the marks below it.
+// Appends the quoted part, and the carets below it.
 fn put_window(
     text: &[u8],
     at: usize,
@@ -99,7 +99,7 @@ fn is_utf8(bytes: &[u8]) -> bool
     str::from_utf8(bytes).is_ok()
 }
 
-// The bytes from one place up to another, but the first.
+// The bytes from one offset up to another, without the first.
 fn behind_first(text: &[u8], at: usize, stop: usize) -> &[u8]
     requires forward { at ≤ stop }
     requires within { stop ≤ length text.now }
@@ -108,14 +108,14 @@ fn behind_first(text: &[u8], at: usize, stop: usize) -> &[u8]
     if at < stop { &text[at + 1..stop] } else { &[] }
 }
 
-// Whether a byte is shown as it stands.
+// Whether a snippet prints a byte as it is.
 fn is_legible(byte: u8, is_utf8: bool) -> bool
     ensures { result ≡ is_legible is_utf8 byte }
 {
     (byte >= 32 && byte < 127) || (is_utf8 && byte >= 128)
 }
 
-/// Appends bytes as they are shown.
+/// Appends bytes in printable form.
 pub fn put_legible(bytes: &[u8], is_utf8: bool, out: &mut Bytes) -> Result<(), Memory>
     ensures { OnOk result (out.new ≡ out.old ++ flat_map (legible is_utf8) bytes.now) }
 {

@@ -1,4 +1,4 @@
--- What a connection heard.
+-- What a connection received.
 use Rattle.std.proofs.Common.{◌≡◌, ◌≢◌, ℕ, ◌+◌, List, [], ◌∷◌, ◌++◌, Bool, Option, Some, None, refl, sym, ap, subst}
 use Rattle.std.proofs.Common.{◌∙◌, append_assoc, append-nil, ◌≤◌, arith, length, option_copied, All, ◌⊎◌, inl, inr}
 use Rattle.std.proofs.Common.{Result, Ok, Err}
@@ -33,7 +33,7 @@ use Rattle.link_greeting.specs.Hearing.{HasCome, HasStayed}
 use Rattle.link_greeting.specs.declared.unbound.Unbound.{Unbound}
 use Rattle.link_greeting.specs.declared.unbound.Unbound.TheVariants as unbound
 
--- ---- what came
+-- ---- the received bytes
 
 pub appends-nothing : (known : Option (List ℕ)) → Appends known known []
 appends-nothing None = tt
@@ -47,11 +47,11 @@ appends-more (Some a) (Some b) None xs ys first second = absurd second
 appends-more (Some a) (Some b) (Some c) xs ys first second =
     second ∙ ap (λ (zs : List ℕ). zs ++ ys) first ∙ append_assoc a xs ys
 
--- at first nothing has
+-- initially nothing was received
 pub none-come : (given : Option (List ℕ)) (a : Arrivals) → HaveLived no_life a → HasCome given given a
 none-come given a h = record { stream = []; fault = None; came = appends-nothing given; lived = h }
 
--- more comes behind it
+-- more bytes are appended
 pub more-come : (given mid new : Option (List ℕ)) (a b : Arrivals) → (h : HasCome given mid a)
     → (piece : List ℕ) × (fault : Option FeedFault) × Appends mid new piece
     × HaveLived (fed (fed no_life h.stream h.fault) piece fault) b
@@ -63,7 +63,7 @@ more-come given mid new a b h (piece, fault, came, lived) = record {
   lived = lived;
 }
 
--- ---- what stays
+-- ---- what is unchanged
 
 pub none-stayed : (given : Option (List ℕ)) (faults : ℕ) (over : Bool) (a : Arrivals) → a.stream ≡ Open
     → HasStayed given given faults faults over a a
@@ -90,7 +90,7 @@ same-both a b c h k = record {
   heap = k.heap ∙ h.heap;
 }
 
--- what one receive keeps of open arrivals
+-- what one receive doesn't change in open arrivals
 pub record HasReceived (given given' : Option (List ℕ)) (faults faults' : ℕ) (over : Bool) (old new : Arrivals)
     : Type 0 where
   pub same : AreSame old new
@@ -126,7 +126,7 @@ more-stayed given mid new faults faults' faults'' over over' first a b h going r
 
 -- ---- the first frame
 
--- the bytes of a frame in front of others determine it
+-- the bytes of a frame before others determine it
 abbrev pub Once : Type 0
 Once = (f g : Frame) (more others : List ℕ) → IsFrame f → IsFrame g → bytes_of f ++ more ≡ bytes_of g ++ others
     → f.place ≡ g.place → (f ≡ g) × (more ≡ others)
@@ -142,19 +142,19 @@ begins place bytes stream fault (g ∷ gs) f rest once all kept frame is at =
     (kept.splits.places.0 ∙ sym at) in
     (gs, subst (λ (x : Frame). Reads 0 stream (x ∷ gs) fault) same.0 all)
 
--- the stream begins with the first frame that waits
+-- the first frame that waits is the first of the stream
 pub first-begins : (T : Table) (stream : List ℕ) (fault : Option FeedFault) (r : Receiving) (f : Frame) → Once
     → Lives T (fed no_life stream fault) r → IsFirst r.fed f → BeginsWith stream fault f
 first-begins T stream fault r f once lives first =
     begins r.fed.place r.fed.bytes stream fault lives.waiting f first.rest once lives.all lives.kept first.frame
     first.bytes first.place
 
--- and with the hello that was taken
+-- and so is the hello that was taken
 pub hello-begins : (T : Table) (stream : List ℕ) (fault : Option FeedFault) (r : Receiving) (f : Frame)
     → Lives T (greeted (fed no_life stream fault) f) r → BeginsWith stream fault f
 hello-begins T stream fault r f lives = (lives.waiting, lives.all)
 
--- arrivals live on behind the hello
+-- the trace of the arrivals continues after the hello
 pub greeted-lived : (stream : List ℕ) (fault : Option FeedFault) (a b : Arrivals) (hello : Frame)
     → HaveLived (fed no_life stream fault) a
     → Lives b.table.now (greeted (fed no_life stream fault) hello) b.inbound
@@ -175,7 +175,7 @@ greeted-lived stream fault a b hello h lives table heap policy lines writer stat
   few = subst (λ x. length x.items ≤ MAX_ARRIVALS) (sym lines) h.few;
 }
 
--- what was answered for each cause
+-- the result for each cause
 pub told-so : {E : Type 0} (P Q : Unbound → Type 0) (r : Result (Option Unbound) E) → ((why : Unbound) → P why → Q why)
     → IfOk r (λ answer. IfSome answer P) → IfOk r (λ answer. IfSome answer Q)
 told-so P Q (Ok None) all h = h
@@ -201,7 +201,7 @@ disagreement T theirs service said bytes f cause why kind same says (inr refused
       }) refused told.0,
 )
 
--- the line at fault of a payload
+-- the invalid line of a payload
 pub bad-line : (payload bytes : List ℕ) (fault : HelloFault) (line : ℕ) → bytes ≡ payload → fault ≡ Bad line
     → IsFaultOf bytes fault → IsBadAt payload line
 bad-line payload bytes fault line same is h =
@@ -209,13 +209,13 @@ bad-line payload bytes fault line same is h =
 
 -- ---- no first frame
 
--- a fault of a stream isn't want of memory
+-- a fault of a stream is never out of memory
 fault-says : (place : ℕ) (bytes : List ℕ) (fault : FeedFault) → IsFaultAt place bytes fault → fault ≢ NoMemory
 fault-says place bytes fault (long many large is) none = absurd cc
 fault-says place bytes fault (no_kind many small other is) none = absurd cc
 fault-says place bytes fault (no_version many small kind other is) none = absurd cc
 
--- nothing but what came in no frame
+-- all received bytes are in no frame
 reads-none : (stream : List ℕ) (fault : Option FeedFault) (a : Arrivals) → TakesEach
     → HaveLived (fed no_life stream fault) a → IsPartial a.inbound.fed.bytes → Reads 0 stream [] fault
 reads-none stream fault a each h partial = each a.table.now (fed no_life stream fault) a.inbound h.lives partial

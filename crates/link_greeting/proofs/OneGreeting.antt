@@ -1,4 +1,4 @@
--- A stream binds a connection or leaves it unbound in one way.
+-- A stream binds a connection or leaves it unbound, in at most one way.
 use Rattle.std.proofs.Common.{◌≡◌, ◌≢◌, ℕ, List, [], ◌∷◌, Option, Some, None, refl, sym, ap, subst, ◌∙◌}
 use Rattle.mrpc_table.specs.declared.table.Table.{Table}
 use Rattle.frame_transport.specs.Frames.{Ends, EndsOnce, SplitsOnce}
@@ -15,7 +15,7 @@ use Rattle.link_greeting.specs.Greeting.{BeginsWith, IsBound, IsUnbound, bad_hel
 use Rattle.link_greeting.specs.declared.unbound.Unbound.{Unbound}
 use Rattle.link_greeting.specs.declared.unbound.Unbound.TheVariants.{Ended, Cut, Hello, Disagrees}
 
--- what a hello tells of a connection, which is one thing
+-- the result of a hello for a connection, which is unique
 pub data Tells (T : Table) (service : List ℕ) (f : Frame) (why : Option Unbound) : Type 0 where
   no_hello : f.kind ≢ HELLO → why ≡ Some (Hello 0) → Tells T service f why
   no_table : (line : ℕ) → f.kind ≡ HELLO → IsBadAt f.payload line → why ≡ Some (Hello line) → Tells T service f why
@@ -29,7 +29,7 @@ pub data Lacks (stream : List ℕ) (why : Unbound) : Type 0 where
   ends : Reads 0 stream [] None → why ≡ Ended → Lacks stream why
   cuts : (first : FeedFault) → Reads 0 stream [] (Some first) → why ≡ Cut first → Lacks stream why
 
--- a stream that hasn't failed has a first frame, which tells, or none
+-- a stream that hasn't failed has a first frame with a result, or none
 pub data Shows (T : Table) (service stream : List ℕ) (fault : Option FeedFault) (why : Option Unbound) : Type 0 where
   by_frame : (f : Frame) → BeginsWith stream fault f → Tells T service f why → Shows T service stream fault why
   by_none : (cause : Unbound) → Lacks stream cause → why ≡ Some cause → Shows T service stream fault why
@@ -51,7 +51,7 @@ shows-bound : (T : Table) (service stream : List ℕ) (fault : Option FeedFault)
 shows-bound T service stream fault hello b =
     by_frame hello b.greeted.first (agrees b.greeted.service b.theirs b.greeted.kind b.greeted.says b.agree refl)
 
--- one frame tells one thing
+-- one frame has one result
 tells-once : SaysOnce → IsBadOnce → NeverBoth → NeverAgreeAndRefuse → RefuseOnce → (T : Table) (service : List ℕ)
     (f : Frame) (why other : Option Unbound) → Tells T service f why → Tells T service f other → why ≡ other
 tells-once says bad both agree refuse T service f why other (no_hello a b) (no_hello d e) = b ∙ sym e
@@ -87,7 +87,7 @@ tells-once says bad both agree refuse T service f why other (agrees s t a b d e)
     absurd (agree T t service f.version cause d d'')
 tells-once says bad both agree refuse T service f why other (agrees s t a b d e) (agrees s' t' a' b' d' e') = e ∙ sym e'
 
--- the end of what reads so
+-- the remainder of a stream that reads so
 end-of : (stream : List ℕ) (frames : List Frame) (fault : Option FeedFault) → Reads 0 stream frames fault
     → Ends 0 stream fault
 end-of stream frames fault r = record { frames = frames; rest = r.rest; splits = r.splits; first = r.first }
@@ -105,7 +105,7 @@ lacks-once once stream why other (cuts first a b) (cuts second d e) =
     once 0 stream (Some first) (Some second) (end-of stream [] (Some first) a) (end-of stream [] (Some second) d) in
     let is : first ≡ second = cc in b ∙ ap Cut is ∙ sym e
 
--- a stream has one first frame
+-- a stream has at most one first frame
 first-once : SplitsOnce → (stream : List ℕ) (fault other : Option FeedFault) (f g : Frame) → BeginsWith stream fault f
     → BeginsWith stream other g → f ≡ g
 first-once once stream fault other f g a b =

@@ -1,5 +1,5 @@
--- Small streams, and what they make of a connection, as terms. A frame has its length, and nothing is at fault before a
--- length is there: these are laws of frames.
+-- Worked by hand: small streams, and the result of each for a connection, as terms. A frame has its length, and
+-- there is no fault before the length is complete: these are laws of frames.
 use Rattle.std.proofs.Common.{◌≡◌, ◌≢◌, ℕ, zero, suc, ◌+◌, ◌<◌, List, [], ◌∷◌, ◌++◌, codes, get_or, length, Some}
 use Rattle.std.proofs.Common.{None, inl, refl, sym, ap, arith, append-nil, length-append}
 use Rattle.std.specs.Prelude.{Contains}
@@ -26,7 +26,8 @@ use Rattle.deliveries.specs.declared.arrivals.Stream.TheVariants.{Cut as IsCut, 
 use Rattle.link_greeting.specs.Greeting.{IsBound, IsUnbound, hello_of, bad_hello, cut, disagrees, ended, failed, other_frame}
 use Rattle.link_greeting.specs.declared.unbound.Unbound.TheVariants.{Transport, Ended, Cut, Hello, Disagrees}
 
--- ---- tables: a message M with a field a, or with fields a and b, and the method Get of the service S on it
+-- ---- tables: a message M with a field a, or with fields a and b, and the method Get of the service S that uses
+-- it
 
 abbrev field_named : ℕ → List ℕ → Field
 field_named number name = record { number = number; name = name; kind = Uint64; label = Plain }
@@ -133,7 +134,7 @@ valid_ab = is_valid (field_named 1 (codes "a") ∷ field_named 2 (codes "b") ∷
 offers_S : (fields : List Field) → Offers (of_fields fields) (codes "S")
 offers_S fields = (0, omega arith, refl)
 
--- where one table has a further field, the texts differ first in `m` of `method` against `f` of `field`
+-- if one table has a further field, the texts differ first in `m` of `method` against `f` of `field`
 further_field : DifferAt (table_text a_only) (table_text a_and_b) 33 (Some 109) (Some 102)
 unfolding digits
 further_field = record {
@@ -216,7 +217,7 @@ module _ (size : (f : Frame) → length (bytes_of f) ≡ 16 + length f.payload)
       first = λ fault is. early 0 [] (omega arith) fault is;
     }
 
-    -- one frame, and nothing behind it
+    -- one frame, and nothing after it
     reads_one : (f : Frame) → IsFrame f → f.place ≡ 0 → Reads 0 (joined (f ∷ [])) (f ∷ []) None
     reads_one f is place = record {
       rest = [];
@@ -229,9 +230,9 @@ module _ (size : (f : Frame) → length (bytes_of f) ≡ 16 + length f.payload)
       first = λ fault at. early (0 + length (joined (f ∷ []))) [] (omega arith) fault at;
     }
 
-    -- ---- what they make of a connection
+    -- ---- the result for a connection
 
-    -- the other side finished, or the link failed, before anything came
+    -- the other side finished, or the link failed, before anything was received
     nothing_came : IsUnbound a_only (codes "S") [] None HasEnded Ended
     nothing_came = ended refl reads_nothing refl
 
@@ -252,7 +253,7 @@ module _ (size : (f : Frame) → length (bytes_of f) ≡ 16 + length f.payload)
       first = long (omega arith) (omega arith) refl;
     }) refl
 
-    -- a request comes first
+    -- the first frame is a request
     begins_with_a_request : IsUnbound a_only (codes "S") (joined (request ∷ [])) None Open (Hello 0)
     begins_with_a_request =
         other_frame request ([], reads_one request request_is refl) (λ e. omega (arith, e)) refl

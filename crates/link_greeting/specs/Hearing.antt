@@ -1,4 +1,4 @@
--- The code's own: what it has received while it waits for the first frame.
+-- The code's own: what was received while it waits for the first frame.
 use Rattle.std.specs.Prelude.{◌≡◌, ℕ, List, Bool, Option, None, IsTrue}
 use Rattle.std.specs.Io.KnownBytes.{Appends}
 use Rattle.mrpc_base.specs.Faults.{HasCause}
@@ -8,14 +8,14 @@ use Rattle.deliveries.specs.Arriving.{AreSame, HaveLived}
 use Rattle.deliveries.specs.declared.arrivals.Arrivals.{Arrivals}
 use Rattle.deliveries.specs.declared.arrivals.Stream.TheVariants.{Ended, Failed}
 
--- what came since is the arrivals' stream
+-- the bytes received since are the arrivals' stream
 pub record HasCome (given given' : Option (List ℕ)) (a : Arrivals) : Type 0 where
   pub stream : List ℕ
   pub fault : Option FeedFault
   pub came : Appends given given' stream
   pub lived : HaveLived (fed no_life stream fault) a
 
--- what stays, whatever comes, and what the state of the stream tells of the link
+-- what is unchanged by all receives, and what the state of the stream means for the link
 pub record HasStayed (given given' : Option (List ℕ)) (faults faults' : ℕ) (ended : Bool) (old new : Arrivals) : Type 0
   where
     pub same : AreSame old new

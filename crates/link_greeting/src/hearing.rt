@@ -1,4 +1,4 @@
-//! The hello that a connection hears.
+//! Receiving a connection's hello.
 
 ghost use Rattle.std.specs.Prelude.{◌≡◌, ◌≢◌, ◌<◌, ◌≤◌, ◌^◌, ℕ, List, length, Option, Some, None, IfOk, IfSome, OnOk, IsTrue, true, false};
 ghost use Rattle.mrpc_base.specs.Faults.{HasCause};
@@ -25,9 +25,11 @@ use std::alloc::Global;
 use std::sync::Wait;
 use std::thread;
 
-/// Receives until the first frame is there, and takes it where it is a hello. None where the connection is bound: with
-/// the table that the hello says its own agrees on the service. It waits for the other side. The only error is
-/// `Memory`, after which no more is said of the arrivals than that they are of the same table, policy, heap and lines.
+/// Receives until the first frame is complete, and takes it if it is a hello. Returns `None` if the connection is
+/// bound: the table in the hello and its own agree on the service. Waits for the other side.
+///
+/// The only error is `Memory`. After it, the arrivals still have the same table, policy, heap and lines; nothing
+/// else is guaranteed of them.
 pub fn hear_hello<R: Wait, L: Link>(
     rt: &R,
     alloc: Global,
@@ -41,13 +43,13 @@ pub fn hear_hello<R: Wait, L: Link>(
     requires room { 0 < length buffer.old }
     requires most { length buffer.old ≤ 2 ^ 32 }
 
-    // What the link gave shows whether the connection is bound, and else why not.
+    // The received bytes determine whether the connection is bound, and otherwise why not.
     ensures bound { result ≡ Ok None → HasBound service.now (L.given link.old) (L.given link.new) arrivals.new }
     ensures unbound { IfOk result (λ answer. IfSome answer
         (HasRefused service.now (L.given link.old) (L.given link.new) arrivals.new)) }
 
-    // The link counts as failed where its count of faults rises, and as ended where it told so. A link that failed
-    // binds nothing.
+    // The stream becomes `Failed` exactly when the link's count of failures rises, and `Ended` only if the link
+    // returned its end. A link that failed binds nothing.
     ensures working { result ≡ Ok None → arrivals.new.stream ≢ Stream.Failed }
     ensures cause { HasCause (arrivals.new.stream ≡ Stream.Failed) (L.faults link.old) (L.faults link.new) }
     ensures ends { arrivals.new.stream ≡ Stream.Ended → IsTrue (L.ended link.new) }
@@ -74,7 +76,7 @@ pub fn hear_hello<R: Wait, L: Link>(
     take_first(alloc, service, arrivals)
 }
 
-// Receives until the first frame is there, or no more comes.
+// Receives until the first frame is complete, or nothing more is received.
 fn receive_first<R: Wait, L: Link>(
     rt: &R,
     link: &mut L,
@@ -103,7 +105,7 @@ fn receive_first<R: Wait, L: Link>(
     unreachable!()
 }
 
-// Whether the first frame is there, or no more comes.
+// Whether the first frame is complete, or nothing more is received.
 fn has_first(arrivals: &Arrivals) -> bool
     ensures has { result ≡ true → IsPartial arrivals.now.inbound.fed.bytes → arrivals.now.stream ≢ Stream.Open }
     ensures not { result ≡ false → arrivals.now.stream ≡ Stream.Open }
@@ -114,7 +116,7 @@ fn has_first(arrivals: &Arrivals) -> bool
     arrivals.inbound.first().is_some()
 }
 
-// Why a stream that gives no more has no first frame.
+// Why a stream that ended has no first frame.
 fn without_frame(arrivals: &Arrivals) -> Unbound
     requires lived { (stream : List ℕ) × (fault : Option TheFault) × HaveLived (fed no_life stream fault) arrivals.now }
     requires partial { IsPartial arrivals.now.inbound.fed.bytes }
@@ -134,7 +136,7 @@ fn without_frame(arrivals: &Arrivals) -> Unbound
     }
 }
 
-// Takes the first frame where it is a hello, and reads it.
+// Takes the first frame if it is a hello, and checks it.
 fn take_first(
     alloc: Global,
     service: &Name,
@@ -161,7 +163,7 @@ fn take_first(
     read_hello(alloc, service, arrivals.table, &hello)
 }
 
-// Reads a hello, and asks whether both sides agree.
+// Decodes a hello, and checks whether both sides agree.
 fn read_hello(
     alloc: Global,
     service: &Name,
@@ -188,7 +190,7 @@ fn read_hello(
     }
 }
 
-// The cause that two tables don't agree, unless no memory was found.
+// The cause that two tables don't agree, unless out of memory.
 fn disagrees(why: AgreeFault) -> Result<Unbound, Memory>
     ensures { IfOk result (λ cause. (cause ≡ Unbound.Disagrees why) × (why ≢ AgreeFault.Memory)) }
 {

@@ -1,12 +1,12 @@
-//! What holds of all streams.
+//! Laws of all streams.
 
 ghost use Rattle.link_greeting.specs.Greeting.{NeverBoundAndUnbound, UnboundOnce};
 
 use frame_transport::one_split;
 use schema_binding::{one_agreement, one_hello};
 
-/// On a link that hasn't failed a connection isn't both bound and unbound, and it is unbound for one cause. The call
-/// does nothing.
+/// A law; it does nothing. On a link that hasn't failed, a connection isn't both bound and unbound, and it is
+/// unbound for at most one cause.
 pub fn one_greeting()
     ensures never_both { NeverBoundAndUnbound }
     ensures once { UnboundOnce }

@@ -1,10 +1,10 @@
-//! How the link of a connection begins: each end sends its hello as the first frame, and reads the other's.
+//! The handshake of a connection's link: each end sends its hello as the first frame, and receives the other's.
 //!
-//! [`say_hello`] hands a hello over. [`hear_hello`] receives, into arrivals such as [`no_arrivals`], until the first
-//! frame is there, reads it, and asks whether both sides agree on the service. It stands on `schema_binding` for hellos
-//! and agreement, and on `deliveries` for what comes. The layer above uses one contract: a connection is bound where the
-//! first frame that its link gave is a hello with whose table its own agrees, and else it is unbound for the one cause
-//! that what came shows.
+//! [`say_hello`] sends a hello. [`hear_hello`] receives, into arrivals such as [`no_arrivals`], until the first
+//! frame is complete; then it decodes the frame and checks whether both sides agree on the service. The crate
+//! uses `schema_binding` for hellos and agreement, and `deliveries` for arrivals. The layer above uses one
+//! contract. A connection is bound if the first frame received is a hello whose table agrees with its own.
+//! Otherwise it is unbound, for the one cause that follows from the received bytes.
 #![tactic(auto)]
 
 mod hearing;

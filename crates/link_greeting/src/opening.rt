@@ -1,4 +1,4 @@
-//! A connection to which nothing came.
+//! A connection that has received nothing.
 
 ghost use Rattle.std.specs.Prelude.{◌≡◌, ◌≤◌, [], None};
 ghost use Rattle.mrpc_table.specs.Valid.{IsValid};
@@ -13,7 +13,7 @@ use receive_core::Inbound;
 use shared_heap::Writer;
 use std::alloc::Global;
 
-/// The arrivals of a connection to which nothing came, with a receiver and a heap that are new.
+/// The arrivals of a connection that has received nothing, with a new receiver and an unused heap.
 pub fn no_arrivals<'t>(
     alloc: Global,
     inbound: Inbound,

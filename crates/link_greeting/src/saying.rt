@@ -1,4 +1,4 @@
-//! The hello that a connection sends.
+//! Sending a connection's hello.
 
 ghost use Rattle.std.specs.Prelude.{◌≡◌, ◌≢◌, [], ◌∷◌, ◌++◌, true, false};
 ghost use Rattle.mrpc_base.specs.Faults.{HasCause};
@@ -11,8 +11,8 @@ use mrpc_table::{Memory, Name, Table};
 use schema_binding::hello;
 use std::alloc::Global;
 
-/// Sends the hello of a connection, which says the service and the connection's own table. It tells whether the hello
-/// was handed over; if not, the link failed. The only error is `Memory`.
+/// Sends the hello of a connection, with the service and the connection's own table. Returns whether the hello
+/// was sent; if not, the link failed. The only error is `Memory`.
 pub fn say_hello<L: Link>(
     alloc: Global,
     conn: u32,

@@ -1,4 +1,4 @@
--- What a closed link and its writer have to do with each other.
+-- How a closed link and its writer relate.
 use Rattle.std.proofs.Common.{◌≡◌, ◌≤◌, ℕ, Bool, true, List, ◌++◌, append_assoc, refl, ap, sym, ◌∙◌, subst, arith}
 use mathlib.Core.List.{IsPrefix}
 use Rattle.mrpc_base.specs.Faults.{Rose, raised}
@@ -16,7 +16,7 @@ use Rattle.link_queue.proofs.Pieces.{closed_whole, among_whole, end_whole, begin
 pub raised_rose : (old new : ℕ) → raised old ≤ new → Rose old new
 raised_rose old new h = grind arith
 
--- all that was put was taken
+-- all that was pushed was popped
 pub all_taken : (taken put : List (Piece Order)) (passed : List (List ℕ)) (health : Health)
     → PassesOn taken passed true health → is_closed put ≡ true → IsPrefix taken put → taken ≡ put
 all_taken taken put passed health h closed p = closed_whole taken put (h.closed_last refl) closed p
@@ -36,7 +36,7 @@ passed_whole taken put passed health h closed p well ample = works health refl w
     works HasFailed e well ample = absurd (well e)
     works LacksMemory e well ample = absurd (ample e)
 
--- what came is a beginning of what was brought
+-- what was delivered is a prefix of what was returned
 pub came_in_order : (given came : List ℕ) (put : List (Piece News)) (ended : Bool) (health : Health)
     → HasBroughtBack put came ended health → IsPrefix given (bytes_of put) → IsPrefix given came
 came_in_order given came put ended health h p =

@@ -1,4 +1,4 @@
--- Pieces that go to a writer and come back from it.
+-- Pieces in the queue to a writer and in the queue back.
 use Rattle.std.proofs.Common.{◌≡◌, ℕ, Bool, true, false, true≢false, List, [], ◌∷◌, ◌++◌, Some, length}
 use Rattle.std.proofs.Common.{take, drop, refl, ap, sym, ◌∙◌, append_assoc, subst, inl, inr, ⊎_elim}
 use Rattle.std.proofs.lemmas.List.{append-nil, take-append-drop}
@@ -62,18 +62,18 @@ module _ {M : Type 0} where
   among_front m x [] apart h = ⊎_elim (λ (e : x ≡ m). apart e) (λ (r : ⊥). r) h
   among_front m x (y ∷ ys) apart h = ⊎_elim (λ (e : y ≡ m). inl e) (λ (r : Among m (ys ++ x ∷ [])). inr (among_front m x ys apart r)) h
 
-  -- a mark among the marks of a beginning is among those of the whole
+  -- a sentinel of a prefix is a sentinel of the whole list
   pub among_whole : (m : M) (xs ys : List (Piece M)) → IsPrefix xs ys → Among m (marks_of xs) → Among m (marks_of ys)
   among_whole m xs ys p h = subst (Among m) (sym (marks_of_append xs p.0) ∙ ap marks_of p.1) (among_more m (marks_of xs) (marks_of p.0) h)
 
-  -- a mark that was found is among the marks, and those before it stay
+  -- a sentinel that was found is among the sentinels, and those before it are unchanged
   pub found_among : (m found : M) (before after : List M) → after ≡ before ++ found ∷ [] → found ≡ m → Among m after
   found_among m found before after more same = subst (Among m) (ap (λ x. before ++ x ∷ []) (sym same) ∙ sym more) (among_last m before)
 
   pub found_too : (m found : M) (before after : List M) → after ≡ before ++ found ∷ [] → Among m before → Among m after
   found_too m found before after more a = subst (Among m) (sym more) (among_more m before (found ∷ []) a)
 
-  -- nothing waited, and every byte was given
+  -- the queue was empty, and every byte was delivered
   bytes_of_prefix : (front whole : List (Piece M)) → IsPrefix front whole → IsPrefix (bytes_of front) (bytes_of whole)
   bytes_of_prefix [] whole p = (bytes_of whole, refl)
   bytes_of_prefix (x ∷ xs) [] p = absurd (cc (p.1))
@@ -120,7 +120,7 @@ finished_snoc_finish (Bytes f ∷ ps) = finished_snoc_finish ps
 finished_snoc_finish (Mark Finish ∷ ps) = refl
 finished_snoc_finish (Mark Close ∷ ps) = finished_snoc_finish ps
 
--- of two closed lists of which one begins the other, both are the same
+-- if one of two closed lists is a prefix of the other, they are equal
 pub closed_whole : (xs ys : List (Piece Order)) → is_closed xs ≡ true → is_closed ys ≡ true → IsPrefix xs ys → xs ≡ ys
 closed_whole [] ys h k p = absurd (cc (h))
 closed_whole (x ∷ xs) [] h k p = absurd (cc (k))
@@ -134,7 +134,7 @@ closed_whole (Mark Close ∷ []) (Mark Close ∷ []) h k p = refl
 closed_whole (Mark Close ∷ []) (Mark Close ∷ y ∷ ys) h k p = absurd (cc (k))
 closed_whole (Mark Close ∷ x ∷ xs) (Mark Close ∷ ys) h k p = absurd (cc (h))
 
--- ---- back from it
+-- ---- the queue back
 marks_only_snoc : (pieces : List (Piece News)) (m : News) → has_no_bytes pieces ≡ true → has_no_bytes (pieces ++ Mark m ∷ []) ≡ true
 marks_only_snoc [] m h = refl
 marks_only_snoc (Bytes b ∷ ps) m h = absurd (cc (h))
@@ -169,7 +169,7 @@ same_none (x ∷ xs) (Bytes b ∷ ys) h p = absurd (cc (h))
 same_none (Bytes b ∷ xs) (Mark m ∷ ys) h p = absurd (cc (p.1))
 same_none (Mark n ∷ xs) (Mark m ∷ ys) h p = same_none xs ys h (p.0, cc (p.1))
 
--- all the bytes stand before the end
+-- all bytes come before the end
 pub end_whole : (xs ys : List (Piece News)) → ends_once ys ≡ true → IsPrefix xs ys → Among End (marks_of xs) → bytes_of xs ≡ bytes_of ys
 end_whole [] ys h p a = absurd a
 end_whole (x ∷ xs) [] h p a = absurd (cc (p.1))
@@ -184,7 +184,7 @@ end_whole (Mark m ∷ xs) (Mark Failed ∷ ys) h p a =
 end_whole (Mark m ∷ xs) (Mark Memory ∷ ys) h p a =
     end_whole xs ys h (p.0, cc (p.1)) (⊎_elim (λ (e : m ≡ End). absurd (cc (e, p.1))) (λ (r : Among End (marks_of xs)). r) a)
 
--- ---- what a writer holds goes into the queue back
+-- ---- a writer pushes what it holds into the queue back
 pub put_bytes : (pieces : List (Piece News)) (piece : Piece News) → bytes_of (pieces ++ piece ∷ []) ≡ bytes_of pieces ++ held_bytes (Some piece)
 put_bytes pieces (Bytes b) = bytes_snoc_bytes pieces b
 put_bytes pieces (Mark m) = bytes_snoc_mark pieces m ∙ sym (append-nil (bytes_of pieces))
@@ -210,14 +210,14 @@ put_failed ended pieces (Mark End) may a = among_front Failed End (marks_of piec
 put_failed ended pieces (Mark Failed) may a = absurd (cc (may))
 put_failed ended pieces (Mark Memory) may a = absurd (cc (may))
 
--- a mark that tells of the inner link
+-- a sentinel that reports on the inner link
 pub told_ended : (pieces : List (Piece News)) (m : News) → (m ≡ End → ⊥) → Among End (marks_of (pieces ++ Mark m ∷ [])) → Among End (marks_of pieces)
 told_ended pieces m apart a = among_front End m (marks_of pieces) apart (subst (Among End) (marks_snoc_mark pieces m) a)
 
 pub told_failed : (pieces : List (Piece News)) (m : News) → (m ≡ Failed → ⊥) → Among Failed (marks_of (pieces ++ Mark m ∷ [])) → Among Failed (marks_of pieces)
 told_failed pieces m apart a = among_front Failed m (marks_of pieces) apart (subst (Among Failed) (marks_snoc_mark pieces m) a)
 
--- ---- beginnings
+-- ---- prefixes
 module _ {A : Type 0} where
   pub begins_same : (xs front : List A) → front ≡ xs → BeginsWith xs front
   begins_same xs front e = ap (λ n. take n xs) (ap length e) ∙ take-length xs ∙ sym e

@@ -1,4 +1,5 @@
--- The definitions on short lists: two frames and the marks to a writer, a few pieces and the marks back from it.
+-- Worked by hand: the definitions on short lists, with two frames and the sentinels to a writer, and a few
+-- pieces and the sentinels back.
 use Rattle.std.proofs.Common.{◌≡◌, ℕ, Bool, true, false, true≢false, List, [], ◌∷◌, ◌++◌, None, Some}
 use Rattle.std.proofs.Common.{refl, sym, ap, inl, inr, arith}
 use Rattle.one_way_queue.specs.declared.piece.Piece.{Piece}
@@ -28,18 +29,19 @@ finished = refl
 closed : is_closed orders ≡ true
 closed = refl
 
--- nothing comes behind the closing mark
+-- nothing follows the closing sentinel
 closed_early : is_closed (Mark Close ∷ Bytes (3 ∷ []) ∷ []) ≡ false
 closed_early = refl
 
 still_open : is_open (Bytes (1 ∷ []) ∷ Mark Finish ∷ []) ≡ true
 still_open = refl
 
--- the frames handed over since a link had the first
+-- the frames sent since a link had sent the first
 the_second : frames_since ((1 ∷ 2 ∷ []) ∷ []) frames ≡ (3 ∷ []) ∷ []
 the_second = refl
 
--- an inner link that had given 1 gave 2 and 3 since; of one that told nothing before, nothing is said
+-- an inner link that had received 1 received 2 and 3 since; if the earlier bytes aren't known, nothing is
+-- claimed
 more_came : TellsMore (Some (1 ∷ [])) (Some (1 ∷ 2 ∷ 3 ∷ [])) (2 ∷ 3 ∷ [])
 more_came known e = let same : 1 ∷ [] ≡ known = cc (e) in ap (λ (l : List ℕ). Some (l ++ 2 ∷ 3 ∷ [])) same
 
@@ -49,16 +51,16 @@ no_more_came h = let e = h (1 ∷ []) refl in cc (e)
 tells_nothing : TellsMore None None (3 ∷ [])
 tells_nothing known e = absurd (cc (e))
 
--- ---- what a writer passed on of the orders that it took
+-- ---- what a writer forwarded of the orders that it popped
 
--- all were passed on, or the first alone where the inner link failed then
+-- all were forwarded, or only the first because the inner link failed then
 all_passed : PassesOn orders frames true Working
 all_passed = record { unclosed = λ e. absurd (true≢false e); closed_last = λ _. refl; in_order = refl; whole = λ _. refl }
 
 first_passed : PassesOn orders ((1 ∷ 2 ∷ []) ∷ []) true HasFailed
 first_passed = record { unclosed = λ e. absurd (true≢false e); closed_last = λ _. refl; in_order = refl; whole = λ e. absurd (cc (e)) }
 
--- no frame overtakes another, comes twice, or is left out while the inner link works
+-- no frame overtakes another, is duplicated, or is left out while the inner link works
 none_overtakes : PassesOn orders ((3 ∷ []) ∷ (1 ∷ 2 ∷ []) ∷ []) true HasFailed → ⊥
 none_overtakes h = cc (h.in_order)
 
@@ -71,20 +73,20 @@ none_left_out h = cc (h.whole refl)
 none_from_nowhere : PassesOn orders ((9 ∷ []) ∷ []) true HasFailed → ⊥
 none_from_nowhere h = cc (h.in_order)
 
--- the closing mark is the last that it takes
+-- the closing sentinel is the last piece that it pops
 none_behind_the_closing : PassesOn (Mark Close ∷ Bytes (3 ∷ []) ∷ []) [] true HasFailed → ⊥
 none_behind_the_closing h = true≢false (sym (h.closed_last refl))
 
--- ---- what it brought back of the bytes that came
+-- ---- what it returned of the bytes that it received
 
--- a piece was put, and one is held; then the end is held
+-- one piece was pushed and one is held; then the end is held
 one_held : BringsBack (Bytes (7 ∷ []) ∷ []) (Some (Bytes (8 ∷ 9 ∷ []))) (7 ∷ 8 ∷ 9 ∷ []) false Working
 one_held = record { in_order = refl; ends_once = refl; ended_first = λ a. absurd a; holds = refl; failed_first = λ a. absurd a }
 
 end_held : BringsBack (Bytes (7 ∷ []) ∷ []) (Some (Mark End)) (7 ∷ []) true Working
 end_held = record { in_order = refl; ends_once = refl; ended_first = λ a. absurd a; holds = refl; failed_first = λ a. absurd a }
 
--- the end is told behind the last piece, and only after the inner link's end; a failure only where one was
+-- the end is reported after the last piece, and only after the inner link's end; a failure only after a failure
 end_before_the_last : ends_once (Mark End ∷ Bytes (7 ∷ []) ∷ []) ≡ false
 end_before_the_last = refl
 
@@ -103,7 +105,7 @@ no_byte_twice h = cc (h.in_order)
 no_byte_lost : BringsBack (Bytes (8 ∷ []) ∷ []) None (7 ∷ 8 ∷ []) false Working → ⊥
 no_byte_lost h = cc (h.in_order)
 
--- a failure is told of a link that failed alone, and running out of memory where it ran out
+-- a failure is reported only of a link that failed, and out of memory only if it was
 failure_told : IsNewsOf HasFailed Failed
 failure_told = refl
 
@@ -113,7 +115,8 @@ no_failure_told e = cc (e)
 no_want_told : IsNewsOf Working Memory → ⊥
 no_want_told e = cc (e)
 
--- at the closing it leaves out what it held for a full queue, but no byte before that, and none where it told the end
+-- when closed, it drops what it held for a full queue, but no byte before that, and no byte if it reported the
+-- end
 held_left_out : HasBroughtBack (Bytes (7 ∷ []) ∷ []) (7 ∷ 8 ∷ 9 ∷ []) false Working
 held_left_out = record {
   in_order = refl;
@@ -142,7 +145,7 @@ none_overtaken h = cc (h.in_order)
 no_end_with_a_rest : HasBroughtBack (Bytes (7 ∷ []) ∷ Mark End ∷ []) (7 ∷ 8 ∷ []) true Working → ⊥
 no_end_with_a_rest h = let e = h.whole (inl refl) in cc (e)
 
--- ---- what a link put into the queue of one frame, and what it took of the queue back
+-- ---- what a link pushed into a queue of capacity 1, and what it popped from the queue back
 
 abbrev bytes_and_end : List (Piece News)
 bytes_and_end = Bytes (7 ∷ 8 ∷ []) ∷ Mark End ∷ []
@@ -178,7 +181,7 @@ all_came = record {
   counts = λ some. absurd (omega (arith, some));
 }
 
--- it ends only at the mark of the end, and once every byte before it was given; its finish puts a mark
+-- it ends only at the end sentinel, after every byte before it was delivered; `finish` pushes a sentinel
 no_end_without_the_mark : hears (Bytes (7 ∷ []) ∷ []) (7 ∷ []) true 0 → ⊥
 no_end_without_the_mark h = absurd (h.ends refl)
 
@@ -188,15 +191,15 @@ no_end_with_bytes_left h = let e = h.gave refl in cc (e)
 no_mark_without_finish : queues 1 false → ⊥
 no_mark_without_finish h = true≢false h.finishes
 
--- the places of the marks that are yet to come are free
+-- the slots of the sentinels that are still to come are free
 no_place_to_close : queues 0 true → ⊥
 no_place_to_close h = omega (arith, h.for_the_closing)
 
--- it counts no fault while the inner link works
+-- it counts no failure while the inner link works
 no_fault_of_its_own : hears [] [] false 1 → ⊥
 no_fault_of_its_own h = let e = h.counts (omega arith) in cc (e)
 
--- a closed link put the closing mark last, and has learnt of a failure only by its mark
+-- a closed link pushed the closing sentinel last, and knows of a failure only by its sentinel
 all_went : HasQueuedUp orders bytes_and_end (7 ∷ 8 ∷ []) true false
 all_went = record {
   closed_last = refl;

@@ -1,4 +1,4 @@
--- What a writer does keeps what is known of it.
+-- The steps of a writer preserve its invariant.
 use Rattle.std.proofs.Common.{◌≡◌, ◌≢◌, ℕ, Bool, true, false, true≢false, List, [], ◌∷◌, ◌++◌, Option, None, Some, refl, ap, sym, ◌∙◌, subst}
 use Rattle.std.proofs.lemmas.List.{append-nil}
 use Rattle.one_way_queue.specs.declared.piece.Piece.{Piece}
@@ -19,7 +19,7 @@ use Rattle.link_queue.proofs.Pieces.{begins_more}
 
 -- ---- to the inner link
 
--- a frame went to the inner link, and was passed on unless it fails from now on
+-- a frame was sent on the inner link, and forwarded unless the link is failed from now on
 pub frame_was_sent : (taken taken' : List (Piece Order)) (passed passed' : List (List ℕ)) (frame : List ℕ)
     (closed : Bool) (before after : Health) → before ≡ Working → closed ≡ false → taken' ≡ taken ++ Bytes frame ∷ []
     → (after ≡ Working → passed' ≡ passed ++ frame ∷ []) → (after ≢ Working → passed' ≡ passed)
@@ -42,7 +42,7 @@ frame_was_sent taken taken' passed passed' frame closed before after works unclo
     order LacksMemory done kept all = subst (λ (p : List (List ℕ) × List (List ℕ)). BeginsWith p.0 p.1)
         (λ i. (sym all i, sym (kept (λ e. cc (e))) i)) (begins_more (frames_of taken) passed (frame ∷ []) h.in_order)
 
--- a frame was taken, and not passed on
+-- a frame was popped, and not forwarded
 pub frame_was_left : (taken taken' : List (Piece Order)) (passed : List (List ℕ)) (frame : List ℕ) (closed : Bool)
     (health : Health) → health ≢ Working → closed ≡ false → taken' ≡ taken ++ Bytes frame ∷ []
     → PassesOn taken passed closed health → PassesOn taken' passed closed health
@@ -55,7 +55,7 @@ frame_was_left taken taken' passed frame closed health fails unclosed more h =
       whole = λ e. absurd (fails e);
     }
 
--- the sending side was ended
+-- the sending side was shut down
 pub finish_was_passed : (taken taken' : List (Piece Order)) (passed passed' : List (List ℕ)) (closed : Bool)
     (health health' : Health) → closed ≡ false → taken' ≡ taken ++ Mark Finish ∷ [] → passed' ≡ passed
     → health' ≡ health
@@ -83,9 +83,9 @@ close_was_passed taken taken' passed passed' closed health health' unclosed more
       whole = λ e. same ∙ h.whole (sym stays ∙ e) ∙ sym all;
     }
 
--- ---- back from it
+-- ---- the queue back
 
--- what was held went into the queue
+-- what was held was pushed into the queue
 pub held_was_put : (put put' : List (Piece News)) (piece : Piece News) (held held' : Option (Piece News))
     (came : List ℕ) (ended : Bool) (health : Health) → held ≡ Some piece → held' ≡ None → put' ≡ put ++ piece ∷ []
     → BringsBack put held came ended health → BringsBack put' held' came ended health
@@ -101,7 +101,7 @@ held_was_put put put' piece held held' came ended health was is more h =
       failed_first = λ a. h.failed_first (put_failed ended put piece may (subst (λ (l : List (Piece News)). Among Failed (marks_of l)) more a));
     }
 
--- the inner link may fail from now on
+-- the inner link may be failed from now on
 pub brings_back_still : (put : List (Piece News)) (held : Option (Piece News)) (came came' : List ℕ)
     (ended ended' : Bool) (before after : Health) → before ≡ Working → came' ≡ came → ended' ≡ ended
     → BringsBack put held came ended before → BringsBack put held came' ended' after
@@ -125,7 +125,7 @@ brings_back_same put held came came' ended ended' health health' same stays too 
   failed_first = λ a. too ∙ h.failed_first a;
 }
 
--- the link was told how the inner link does
+-- the health of the inner link was reported to the link
 pub news_was_told : (news : News) (put put' : List (Piece News)) (held : Option (Piece News)) (came : List ℕ)
     (ended : Bool) (health : Health) → IsNewsOf health news → put' ≡ put ++ Mark news ∷ []
     → BringsBack put held came ended health → held ≡ None

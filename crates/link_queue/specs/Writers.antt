@@ -1,4 +1,4 @@
--- What clauses see of a writer, and of what it leaves.
+-- A writer as clauses see it, while it runs and after it ended.
 use Rattle.std.specs.Prelude.{◌≡◌, ℕ, List}
 use Rattle.atomic_table.specs.Seated.{TableId}
 use Rattle.mrpc_base.specs.declared.link.Link.{Ghosts}
@@ -20,14 +20,14 @@ abbrev pub writer_backward : {R L : Type 0} {g : Ghosts L} → QueueWriter R L g
 writer_backward w = producer_queue w.out
 
 module _ {L : Type 0} {g : Ghosts L} where
-  -- the inner link as the writer got it, and as it left it
+  -- the inner link as the writer got it, and as it is when the writer ends
   abbrev pub start_of : WriterEnd L g → L
   start_of w = w.inner.link.start
 
   abbrev pub link_of : WriterEnd L g → L
   link_of w = w.inner.link.now
 
-  -- the frames that the inner link was handed since, and the bytes that it gave since
+  -- the frames that the inner link sent since, and the bytes that it received since
   abbrev pub handed_since : WriterEnd L g → List (List ℕ)
   handed_since w = passed_on w.inner
 
@@ -44,6 +44,6 @@ module _ {L : Type 0} {g : Ghosts L} where
   abbrev pub has_failed : WriterEnd L g → Type 0
   has_failed w = w.inner.health ≡ Failed
 
-  -- memory ran out
+  -- it was out of memory
   abbrev pub lacked_memory : WriterEnd L g → Type 0
   lacked_memory w = w.inner.health ≡ Memory

@@ -1,4 +1,4 @@
-//! An inner link in the hands of its writer.
+//! An inner link that its writer owns.
 
 ghost use Rattle.std.specs.Prelude.{◌≡◌, ◌≢◌, ◌≤◌, ◌++◌, true};
 ghost use Rattle.mrpc_base.specs.Faults.{raised};
@@ -10,7 +10,8 @@ use crate::marks::Health;
 use mrpc_base::{Came, Handed, Link};
 use one_way_queue::GivenBytes;
 
-// The link, the bytes that came since it was handed over, and what it answered.
+// The link, the bytes received since the writer got it, its health, and whether it returned the end of the
+// stream.
 #[derive(Drop)]
 pub(crate) struct Inner<L: Link> {
     pub link: Kept<L>,
@@ -44,7 +45,7 @@ impl<L: Link> Inner<L> {
         }
     }
 
-    // Passes a frame on.
+    // Forwards a frame.
     pub(crate) fn send(&mut self, frame: &[u8])
         requires { self.old.health ≡ Health.Working }
         ensures passed { self.new.health ≡ Health.Working → passed_on self.new ≡ passed_on self.old ++ frame.now ∷ [] }
@@ -60,7 +61,7 @@ impl<L: Link> Inner<L> {
         }
     }
 
-    // Ends the sending side.
+    // Shuts the sending side down.
     pub(crate) fn finish(&mut self)
         ensures passed { passed_on self.new ≡ passed_on self.old }
         ensures start { self.new.link.start ≡ self.old.link.start }
@@ -71,7 +72,7 @@ impl<L: Link> Inner<L> {
         self.link.finish();
     }
 
-    // Receives once, and answers how many bytes came.
+    // Receives once, and returns how many bytes arrived.
     pub(crate) fn receive(&mut self, buf: &mut [u8]) -> usize
         requires room { 0 < length buf.old }
         requires working { self.old.health ≡ Health.Working }

@@ -9,7 +9,7 @@ use crate::was::Was;
 use mrpc_base::{Came, Handed, Link};
 use std::marker::Model;
 
-// Contracts see it as a `Later`. It is the same link, later on.
+// Contracts see it as a `Later`: the link as it is now is a later state of the one at the start.
 #[derive(Drop)]
 pub(crate) struct Kept<L: Link> {
     link: L,

@@ -1,12 +1,15 @@
-//! Links whose frames another thread passes on.
+//! Links whose frames another thread forwards.
 //!
-//! [`open`] puts a queue before a link: a [`QueueLink`] takes frames at once and gives what came, and a
-//! [`QueueWriter`] passes the frames on to the inner link and brings back what it gives, in a thread of its own. It
-//! stands on `one_way_queue` for the queues of both ways, on `pauses` for a writer that finds nothing to do, on
-//! `mrpc_base` for links, on `mrpc_table` for lists of bytes, and on `atomic_table` for the names of the queues. The
-//! layer above uses one contract: once the link was closed and the writer has ended, [`WriterEnd::meet`] tells that
-//! what the inner link was handed is a beginning of what was put into the queue, in order, and all of it unless the
-//! inner link failed or memory ran out; and that what came is a beginning of what the inner link gave.
+//! [`open`] puts a queue before a link. A [`QueueLink`] accepts frames at once and delivers the bytes that
+//! arrived. A [`QueueWriter`], in a thread of its own, forwards the frames to the inner link and returns the
+//! bytes that it receives.
+//!
+//! The crate uses `one_way_queue` for the queues in both directions, `pauses` for an idle writer, `mrpc_base` for
+//! links, `mrpc_table` for lists of bytes, and `atomic_table` for the identity of the queues. The layer above
+//! uses one contract, once the link was closed and the writer has ended. By [`WriterEnd::meet`], the frames that
+//! the inner link sent are a prefix of those pushed into the queue, in order, and all of them unless the inner
+//! link failed or memory ran out. The bytes that the link delivered are a prefix of those that the inner link
+//! received.
 #![tactic(auto)]
 
 mod inner;

@@ -1,4 +1,4 @@
 //! The limit of queues before links.
 
-/// How many frames a queue holds at most, each way.
+/// The greatest capacity of a queue, in frames, in each direction.
 pub const MAX_CAPACITY: u64 = 1024;

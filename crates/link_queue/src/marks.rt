@@ -1,32 +1,32 @@
-//! The marks that stand between frames on their way to a writer, and between bytes on their way back.
+//! The sentinels between frames on their way to a writer, and between bytes on their way back.
 
-// What a writer is asked besides to pass frames on.
+// What a writer is asked to do besides forwarding frames.
 #[derive(Drop)]
 pub(crate) enum Order {
-    // To end the sending side of the inner link.
+    // Shut the sending side of the inner link down.
     Finish,
-    // To end.
+    // End the writer.
     Close,
 }
 
-// What a writer has to tell besides the bytes that came.
+// What a writer reports besides the received bytes.
 #[derive(Drop)]
 pub(crate) enum News {
-    // The inner link answered that the other side has finished.
+    // The inner link returned the end of the stream.
     End,
     // The inner link failed.
     Failed,
-    // No memory was found.
+    // Out of memory.
     Memory,
 }
 
-/// How an inner link does.
+/// The health of an inner link.
 #[derive(Clone, Copy, PartialEq, Eq)]
 pub enum Health {
-    /// It didn't fail, and memory didn't run out.
+    /// It hasn't failed, nor was it out of memory.
     Working,
     /// It failed.
     Failed,
-    /// Memory ran out.
+    /// It was out of memory.
     Memory,
 }

@@ -12,8 +12,8 @@ use mrpc_table::Memory;
 use std::alloc::Global;
 use std::sync::Wait;
 
-/// A link over a queue of at most `cap` frames, and the writer that passes them on to `link`. Without memory the link
-/// is dropped.
+/// A link over a queue of at most `cap` frames, and the writer that forwards them to `link`. When out of memory,
+/// `link` is dropped.
 pub fn open<'r, R: Wait, L: Link + Drop>(
     rt: &'r R,
     alloc: Global,

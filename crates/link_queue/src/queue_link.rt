@@ -1,4 +1,4 @@
-//! The link whose frames a writer passes on.
+//! The link whose frames a writer forwards.
 
 ghost use Rattle.std.specs.Prelude.{◌≡◌, ◌≢◌, ◌<◌, ◌≤◌, ◌+◌, ◌↔◌, [], ◌∷◌, ◌++◌, IsTrue, length, take, true, false};
 ghost use mathlib.Core.List.{IsPrefix};
@@ -14,26 +14,26 @@ use std::alloc::Global;
 use std::marker::Model;
 use std::sync::Wait;
 
-// How many places a queue has besides those for frames: for the marks of the end and of the closing.
+// The slots that a queue has besides those for frames: for the sentinels of the end and of closing.
 pub(crate) const MARK_PLACES: usize = 2;
 
-/// A link whose frames a [`QueueWriter`](crate::QueueWriter) passes on. Contracts see it as a `Queueing`. A frame was
-/// handed over once it is in the queue.
+/// A link whose frames a [`QueueWriter`](crate::QueueWriter) forwards. Contracts see it as a `Queueing`. A frame
+/// counts as sent once it is in the queue.
 pub struct QueueLink<'r, R: Wait> {
     rt: &'r R,
     alloc: Global,
-    // How many frames wait at most. The queue has more places, for the marks.
+    // The most frames in the queue. The queue has further slots for the sentinels.
     most: usize,
     out: Producer<Piece<Order>>,
     incoming: PieceReader<News>,
-    // What it has learnt of the inner link.
+    // What it knows of the inner link.
     health: Health,
     faults: u64,
     finished: bool,
     ended: bool,
 }
 
-// A link that is dropped is closed, so that its writer ends.
+// Dropping a link closes it, so that its writer ends.
 impl<'r, R: Wait> Drop for QueueLink<'r, R> {
     fn drop(self) {
         let _passed = self.close();
@@ -103,13 +103,13 @@ impl<'r, R: Wait> QueueLink<'r, R> {
         }
     }
 
-    /// Gives the link up. The closing mark has its place in the queue, whatever waits there.
+    /// Closes the link. The closing sentinel has a slot of its own, so this never waits for room.
     pub fn close(self) -> Passed
         ensures handed { result.handed ≡ self.entry.handed }
         ensures given { result.given ≡ self.entry.given }
         ensures ended { result.ended ≡ self.entry.ended }
         ensures failed { (result.failed ≡ true) ↔ (self.entry.health ≡ Health.Failed) }
-        // A link that counted a fault has learnt that the inner link failed.
+        // If the link counted a failure, it knows that the inner link failed.
         ensures counted { 0 < self.entry.faults → result.failed ≡ true }
         ensures forward { result.forward ≡ self.entry.forward }
         ensures backward { result.backward ≡ self.entry.backward }
@@ -134,7 +134,7 @@ impl<'r, R: Wait> QueueLink<'r, R> {
         }
     }
 
-    // Counts a send or a receive that failed.
+    // Counts a failed send or receive.
     fn fault(&mut self)
         requires { self.old.health ≡ Health.Failed }
         ensures faults { self.new ≡ record self.old { faults = raised self.old.faults } }
@@ -143,7 +143,7 @@ impl<'r, R: Wait> QueueLink<'r, R> {
         self.faults = self.faults.saturating_add(1);
     }
 
-    // Puts a copy of the frame, and waits while the queue is full.
+    // Pushes a copy of the frame; waits while the queue is full.
     #[tactic(auto, using(crate::proofs::Pieces::frames_snoc_bytes, crate::proofs::Pieces::open_snoc_bytes, crate::proofs::Pieces::finished_snoc_bytes))]
     fn put(&mut self, frame: &[u8]) -> Handed
         ensures done { result ≡ Handed.Done
@@ -158,7 +158,7 @@ impl<'r, R: Wait> QueueLink<'r, R> {
         Handed::Done
     }
 
-    // Gives the next bytes, or finds what the writer tells.
+    // Delivers the next bytes, or what the writer reports.
     fn read(&mut self, buf: &mut [u8]) -> Came
         requires room { 0 < length buf.old }
         requires before_end { self.old.ended ≡ false }
@@ -206,25 +206,25 @@ impl<'r, R: Wait> Link for QueueLink<'r, R> {
 
     ghost ended = { λ l. l.ended };
 
-    // All that it was told of has come.
+    // All that it knew to be received has been delivered.
     ghost nothing_ready = { λ old new. IsPrefix old.told new.given };
 
     ghost peer_finished = { λ old new. new.ended ≡ true };
 
     ghost faults = { λ l. l.faults };
 
-    // It has the same two queues, of as many frames at most.
+    // The two queues are the same, with the same capacity for frames.
     ghost since = { λ old new. (new.forward ≡ old.forward) × (new.backward ≡ old.backward) × (new.most ≡ old.most) };
 
     ghost use mathlib.Core.Path.{refl};
 
     ghost itself = { λ _. (refl, refl, refl) };
 
-    // A refusal tells no more.
+    // A failed send means nothing further.
     ghost refused = { λ _ _ _. ⊤ };
 
     fn send(&mut self, frame: &[u8]) -> Handed
-        // A send fails only once it has learnt that the inner link failed.
+        // A send fails exactly if the link knew that the inner link failed.
         ensures fails { (result ≡ Handed.Failed) ↔ (self.old.health ≡ Health.Failed) }
         ensures lacks { self.old.health ≡ Health.Memory → result ≡ Handed.Memory }
         ensures appended { result ≡ Handed.Done → self.new.handed ≡ self.old.handed ++ frame.now ∷ [] }
@@ -242,7 +242,7 @@ impl<'r, R: Wait> Link for QueueLink<'r, R> {
         }
     }
 
-    // The places for the marks aren't counted. So many frames as ever wait are room enough for more.
+    // The slots for sentinels aren't counted. For more frames than the queue can hold, an empty queue is enough.
     fn has_room(&mut self, frames: usize) -> bool
         ensures same { self.new ≡ self.old }
     {
@@ -252,7 +252,7 @@ impl<'r, R: Wait> Link for QueueLink<'r, R> {
 
     fn receive(&mut self, buf: &mut [u8]) -> Came
         requires room { 0 < length buf.old }
-        // A receive fails, or lacks memory, only once it has learnt it of the writer, and always from then on.
+        // A receive fails, or is out of memory, only once the writer has reported it, and always from then on.
         ensures fails { (result ≡ Came.Failed) ↔ (self.new.health ≡ Health.Failed) }
         ensures lacks { (result ≡ Came.Memory) ↔ (self.new.health ≡ Health.Memory) }
         ensures learnt { self.old.health ≢ Health.Working → self.new.health ≡ self.old.health }
@@ -300,7 +300,7 @@ impl<'r, R: Wait> Link for QueueLink<'r, R> {
     }
 }
 
-/// What is left of a closed link, for [`WriterEnd::meet`](crate::WriterEnd::meet). Contracts see it as a `PassedOn`.
+/// A closed link, for [`WriterEnd::meet`](crate::WriterEnd::meet). Contracts see it as a `PassedOn`.
 #[derive(Drop)]
 pub struct Passed {
     pub(crate) out: Producer<Piece<Order>>,

@@ -1,4 +1,4 @@
-//! A link as it was. Only contracts read it, and it takes no memory.
+//! An earlier state of a link. Only contracts read it; it needs no memory at run time.
 
 ghost use Rattle.std.specs.Prelude.{◌≡◌};
 ghost use Rattle.std.specs.Borrow.{ftrue};

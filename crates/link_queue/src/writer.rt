@@ -16,31 +16,31 @@ use std::alloc::{AllocError, Global};
 use std::mem;
 use std::sync::Wait;
 
-// How many bytes a receive takes at most.
+// The most bytes that one receive asks for.
 const MOST_BYTES: usize = 4096;
 
-// How many orders are followed in a row at most, before it looks for what comes.
+// The most orders that are executed in a row before the next receive.
 const MOST_ORDERS: usize = 64;
 
-/// What passes the frames of a queue on to the inner link, in a thread of its own.
+/// Forwards the frames of a queue to the inner link, in a thread of its own.
 pub struct QueueWriter<'r, R, L: Link> {
     rt: &'r R,
     alloc: Global,
     pub(crate) inner: Inner<L>,
     pub(crate) orders: Consumer<Piece<Order>>,
     pub(crate) out: Producer<Piece<News>>,
-    // What waits for room in the queue back.
+    // A piece that waits for room in the queue back.
     held: Option<Piece<News>>,
-    // Room for the next bytes, once there is some.
+    // The buffer for the next bytes, once it is allocated.
     buffer: Vec<u8>,
-    // Whether the link has been told that the inner link failed or memory ran out.
+    // Whether it reported to the link that the inner link failed or was out of memory.
     told: bool,
     closed: bool,
     ghost passes: { PassesOn (taken_of orders) (passed_on inner) closed inner.health },
     ghost brings: { BringsBack (put_of out) held inner.came.bytes inner.ended inner.health },
 }
 
-// By hand, so that a drop is one call where it is needed, and not a drop of each part.
+// By hand, so that each drop is one call, and not a drop of every field.
 impl<'r, R, L: Link + Drop> Drop for QueueWriter<'r, R, L> {
     fn drop(self) {
         let QueueWriter {
@@ -89,8 +89,8 @@ impl<'r, R: Wait, L: Link> QueueWriter<'r, R, L> {
         }
     }
 
-    /// Passes on the frames of the queue, in order, until its link was closed, and brings back what comes. After the
-    /// inner link failed or memory ran out, it takes the frames that still come without passing them on.
+    /// Forwards the frames of the queue, in order, until its link is closed, and returns what the inner link
+    /// receives. After the inner link failed or was out of memory, it pops further frames without forwarding them.
     pub fn run(self) -> WriterEnd<L>
         ensures start { start_of result ≡ writer_start self.entry }
         ensures forward { end_forward result ≡ writer_forward self.entry }
@@ -112,7 +112,7 @@ impl<'r, R: Wait, L: Link> QueueWriter<'r, R, L> {
         unreachable!()
     }
 
-    // Passes on what comes from the link, and what comes for it, and answers whether anything came.
+    // Moves what waits in both directions, and returns whether anything moved.
     fn turn(&mut self) -> bool
         requires { self.old.closed ≡ false }
         ensures start { writer_start self.new ≡ writer_start self.old }
@@ -128,7 +128,7 @@ impl<'r, R: Wait, L: Link> QueueWriter<'r, R, L> {
         self.receive() || followed
     }
 
-    // Follows the orders that wait, as many as it may in a row, and answers whether there was one.
+    // Executes queued orders, up to a maximum in a row, and returns whether there was one.
     fn follow_some(&mut self) -> bool
         requires { self.old.closed ≡ false }
         ensures start { writer_start self.new ≡ writer_start self.old }
@@ -143,7 +143,7 @@ impl<'r, R: Wait, L: Link> QueueWriter<'r, R, L> {
         true
     }
 
-    // Follows the next order, and answers whether there was one.
+    // Executes the next order, and returns whether there was one.
     fn follow(&mut self) -> bool
         requires { self.old.closed ≡ false }
         ensures start { writer_start self.new ≡ writer_start self.old }
@@ -166,7 +166,7 @@ impl<'r, R: Wait, L: Link> QueueWriter<'r, R, L> {
         true
     }
 
-    // Puts what it holds into the queue back, if that has room.
+    // Pushes the piece that it holds into the queue back, if that has room.
     fn bring(&mut self)
         ensures closed { self.new.closed ≡ self.old.closed }
         ensures start { writer_start self.new ≡ writer_start self.old }
@@ -181,7 +181,7 @@ impl<'r, R: Wait, L: Link> QueueWriter<'r, R, L> {
         }
     }
 
-    // Tells the link, once, that the inner link failed or memory ran out.
+    // Reports to the link, once, that the inner link failed or was out of memory.
     fn tell(&mut self)
         ensures closed { self.new.closed ≡ self.old.closed }
         ensures start { writer_start self.new ≡ writer_start self.old }
@@ -198,7 +198,7 @@ impl<'r, R: Wait, L: Link> QueueWriter<'r, R, L> {
         }
     }
 
-    // Puts the news into the queue back, if that has room.
+    // Pushes the news into the queue back, if that has room.
     fn put_news(&mut self, news: News)
         requires holds_nothing { self.old.held ≡ None }
         requires so_it_is { IsNewsOf self.old.inner.health news }
@@ -213,7 +213,7 @@ impl<'r, R: Wait, L: Link> QueueWriter<'r, R, L> {
         }
     }
 
-    // Receives once, unless it holds something or nothing comes any more, and answers whether bytes or the end came.
+    // Receives once, unless it holds a piece or nothing more arrives. Returns whether bytes or the end arrived.
     fn receive(&mut self) -> bool
         ensures closed { self.new.closed ≡ self.old.closed }
         ensures start { writer_start self.new ≡ writer_start self.old }
@@ -231,7 +231,7 @@ impl<'r, R: Wait, L: Link> QueueWriter<'r, R, L> {
         self.held.is_some()
     }
 
-    // Receives into the buffer, and holds what came.
+    // Receives into the buffer, and holds what arrived.
     fn take_bytes(&mut self, mut buffer: Vec<u8>)
         requires room { 0 < length buffer.items }
         requires working { self.old.inner.health ≡ Health.Working }
@@ -255,7 +255,7 @@ impl<'r, R: Wait, L: Link> QueueWriter<'r, R, L> {
         }
     }
 
-    // What is left once the link was closed.
+    // The parts of the writer, after the link was closed.
     fn end(self) -> WriterEnd<L>
         requires { self.closed ≡ true }
         ensures start { start_of result ≡ writer_start self.entry }
@@ -277,7 +277,8 @@ impl<'r, R: Wait, L: Link> QueueWriter<'r, R, L> {
     }
 }
 
-// The first bytes of a buffer as a piece of their own, and the buffer. Without memory for a copy the buffer is the piece.
+// A prefix of a buffer as a piece of its own, and the buffer. When out of memory for a copy, the buffer itself
+// becomes the piece.
 fn piece_of(alloc: Global, mut buffer: Vec<u8>, count: usize) -> (Bytes, Vec<u8>)
     requires within { count ≤ length buffer.items }
     ensures piece { result.0 ≡ take count buffer.items }
@@ -291,7 +292,7 @@ fn piece_of(alloc: Global, mut buffer: Vec<u8>, count: usize) -> (Bytes, Vec<u8>
     }
 }
 
-// The buffer that was kept, or a new one.
+// The buffer from before, or a new one.
 fn with_room(alloc: Global, kept: Vec<u8>) -> Result<Vec<u8>, AllocError>
     ensures { IfOk result (λ buffer. 0 < length buffer.items) }
 {

@@ -1,4 +1,4 @@
-//! What a writer leaves at its end.
+//! The state of a writer after it ended.
 
 ghost use Rattle.std.specs.Prelude.{◌≡◌, true};
 ghost use Rattle.one_way_queue.specs.Ends.{put_of, taken_of};
@@ -11,7 +11,7 @@ use crate::queue_link::Passed;
 use mrpc_base::Link;
 use one_way_queue::{Consumer, Piece, Producer};
 
-/// What a writer leaves: the inner link, and whether memory ran out.
+/// The state of a writer after it ended: the inner link, and whether it was out of memory.
 pub struct WriterEnd<L: Link> {
     pub(crate) inner: Inner<L>,
     pub(crate) orders: Consumer<Piece<Order>>,
@@ -20,7 +20,7 @@ pub struct WriterEnd<L: Link> {
     ghost brings: { HasBroughtBack (put_of out) inner.came.bytes inner.ended inner.health },
 }
 
-// By hand, so that a drop is one call where it is needed, and not a drop of each part.
+// By hand, so that each drop is one call, and not a drop of every field.
 impl<L: Link + Drop> Drop for WriterEnd<L> {
     fn drop(self) {
         let WriterEnd {
@@ -53,7 +53,7 @@ impl<L: Link> WriterEnd<L> {
         WriterEnd { inner, orders, out }
     }
 
-    /// The inner link, which is the one that the writer was made for, later on.
+    /// The inner link: a later state of the one that the writer was made with.
     pub fn link(&self) -> &L
         ensures link { result.now ≡ link_of self.now }
         ensures same_link { (first : L) → L.since first (start_of self.now) → L.since first result.now }
@@ -61,7 +61,7 @@ impl<L: Link> WriterEnd<L> {
         self.inner.link.get()
     }
 
-    /// The inner link, taken out. It is the one that the writer was made for, later on.
+    /// The inner link by value: a later state of the one that the writer was made with.
     pub fn into_link(self) -> L
         ensures link { result ≡ link_of self }
         ensures same_link { (first : L) → L.since first (start_of self) → L.since first result }
@@ -74,7 +74,8 @@ impl<L: Link> WriterEnd<L> {
         inner.link.into_link()
     }
 
-    /// Whether the inner link failed: then its count of faults rose, or stands at its last value, and else it stayed.
+    /// Whether the inner link failed. If so, its count of failures rose or is saturated; otherwise the count is
+    /// unchanged.
     pub fn failed(&self) -> bool
         ensures failed { IsTrue result ↔ has_failed self.now }
         ensures rose { IsTrue result → Rose (L.faults (start_of self.now)) (L.faults (link_of self.now)) }
@@ -83,33 +84,34 @@ impl<L: Link> WriterEnd<L> {
         self.inner.health == Health::Failed
     }
 
-    /// Whether memory ran out.
+    /// Whether it was out of memory.
     pub fn memory(&self) -> bool
         ensures { IsTrue result ↔ lacked_memory self.now }
     {
         self.inner.health == Health::Memory
     }
 
-    /// Tells what the inner link has to do with the closed link of the same queue.
+    /// Relates the inner link's frames and bytes to those of the closed [`QueueLink`](crate::QueueLink) of the same
+    /// queue.
     pub fn meet(&mut self, passed: Passed)
         requires forward { passed.forward ≡ end_forward self.old }
         requires backward { passed.backward ≡ end_backward self.old }
 
-        // What was handed since is a beginning of what was put into the queue, and all of it unless the inner link
-        // failed or memory ran out.
+        // The frames sent since are a prefix of those pushed into the queue, and all of them unless the inner link
+        // failed or was out of memory.
         ensures handed { L.handed (link_of self.new) ≡ L.handed (start_of self.new) ++ handed_since self.new }
         ensures in_order { IsPrefix (handed_since self.new) passed.handed }
         ensures all_handed { (has_failed self.new → ⊥) → (lacked_memory self.new → ⊥)
             → handed_since self.new ≡ passed.handed }
 
-        // What came is a beginning of what the inner link gave since, and all of it after the end, which the inner
-        // link answered first.
+        // The delivered bytes are a prefix of those that the inner link received since. They are all of them after
+        // the end of the stream, which the inner link returned first.
         ensures given { TellsMore (L.given (start_of self.new)) (L.given (link_of self.new)) (given_since self.new) }
         ensures came { IsPrefix passed.given (given_since self.new) }
         ensures all_came { passed.ended ≡ true → passed.given ≡ given_since self.new }
         ensures ended { passed.ended ≡ true → L.ended (link_of self.new) ≡ true }
 
-        // The closed link answered that it failed only where the inner link did, whose count rose just there.
+        // The closed link reported a failure only if the inner link failed; the inner link's count rose exactly then.
         ensures failed { passed.failed ≡ true → has_failed self.new }
         ensures rose { has_failed self.new → Rose (L.faults (start_of self.new)) (L.faults (link_of self.new)) }
         ensures stays { (has_failed self.new → ⊥) → L.faults (link_of self.new) ≡ L.faults (start_of self.new) }

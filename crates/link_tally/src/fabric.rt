@@ -1,4 +1,4 @@
-//! A fabric whose links count.
+//! A fabric whose links count frames.
 ghost use Rattle.std.specs.Prelude.{◌≡◌, ◌<◌, ◌+◌, [], ◌∷◌, false, IfOk, IsErrOf, IsPermutation, OnErr};
 ghost use Rattle.mrpc_base.specs.Faults.{HasCause};
 ghost use Rattle.mrpc_base.specs.Linking.{TellsNone};
@@ -7,7 +7,7 @@ use crate::{Tally, TallyLink};
 use mrpc_base::{Fabric, OpenFault};
 use std::marker::Model;
 
-/// A fabric whose links are counted. Contracts see it as that fabric.
+/// A fabric whose links count frames. Contracts see it as the fabric inside.
 #[derive(Drop)]
 pub struct TallyFabric<F: Fabric + Drop> {
     fabric: F,
@@ -21,7 +21,7 @@ impl<F: Fabric + Drop> Model for TallyFabric<F> {
 }
 
 impl<F: Fabric + Drop> TallyFabric<F> {
-    /// Counts in `tally` what goes over the links of a fabric.
+    /// Counts in `tally` the frames on the links of a fabric.
     pub fn new(fabric: F, tally: Tally) -> TallyFabric<F>
         ensures { result ≡ fabric }
     {

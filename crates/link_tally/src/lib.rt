@@ -1,8 +1,9 @@
-//! Links that count. A [`TallyFabric`] opens the links of another fabric, and counts in a [`Tally`], which threads share,
-//! the frames that are handed over on them and those that come.
+//! Links that count frames. A [`TallyFabric`] opens the links of another fabric, and counts in a [`Tally`], which
+//! threads share, the frames that are sent and received on them.
 //!
-//! It stands on `mrpc_base` alone. The layer above uses one contract: a [`TallyLink`] is its link, and a [`TallyFabric`]
-//! its fabric, call by call. What is counted is for people to see; no clause says what other threads have counted.
+//! It uses `mrpc_base` alone. The layer above uses one contract: for clauses, a [`TallyLink`] is the link inside
+//! it, and a [`TallyFabric`] the fabric inside it. The counts are for people; no clause depends on what other
+//! threads counted.
 #![tactic(auto)]
 
 mod fabric;

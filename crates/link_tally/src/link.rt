@@ -1,4 +1,4 @@
-//! A link that counts.
+//! A link that counts frames.
 ghost use Rattle.std.specs.Prelude.{◌≡◌, ◌≢◌, ◌<◌, ◌≤◌, None, [], ◌∷◌, ◌++◌, IsTrue, length, take};
 ghost use Rattle.std.specs.Io.KnownBytes.{Appends, Keeps};
 ghost use Rattle.mrpc_base.specs.Faults.{HasCause};
@@ -8,7 +8,7 @@ use crate::{FrameStream, Tally};
 use mrpc_base::{Came, Handed, Link};
 use std::marker::Model;
 
-/// A link whose frames are counted. Contracts see it as that link.
+/// A link whose frames are counted. Contracts see it as the link inside.
 #[derive(Drop)]
 pub struct TallyLink<L: Link + Drop> {
     link: L,
@@ -23,7 +23,7 @@ impl<L: Link + Drop> Model for TallyLink<L> {
 }
 
 impl<L: Link + Drop> TallyLink<L> {
-    /// Counts in `tally` what goes over a link, on which nothing has come.
+    /// Counts in `tally` the frames on a link on which nothing was received yet.
     pub fn new(link: L, tally: Tally) -> TallyLink<L>
         ensures { result ≡ link }
     {
@@ -34,7 +34,7 @@ impl<L: Link + Drop> TallyLink<L> {
         }
     }
 
-    /// The link.
+    /// The link inside.
     pub fn into_link(self) -> L
         ensures { result ≡ self }
     {

@@ -1,21 +1,21 @@
-//! Where frames end in a stream.
+//! The ends of frames in a stream.
 
-// How many bytes stand in front of a payload.
+// The bytes of a frame's header, before the payload.
 const HEADER: u64 = 16;
 
-// How many of them tell its length, most significant byte first.
+// How many of them are the length of the payload, most significant byte first.
 const LENGTH: u64 = 4;
 
-/// How far a stream of frames has come within its present frame.
+/// The position of a stream within its current frame.
 #[derive(Clone, Copy)]
 pub struct FrameStream {
-    // How many bytes of its header came, and what those of the length tell so far.
+    // How many bytes of the header arrived, and the value of the length bytes so far.
     header: u64,
     payload: u64,
 }
 
 impl FrameStream {
-    /// Nothing has come.
+    /// The start of a stream.
     pub fn new() -> FrameStream {
         FrameStream {
             header: 0,
@@ -23,7 +23,7 @@ impl FrameStream {
         }
     }
 
-    /// Takes the next bytes, and answers how many frames end with one of them.
+    /// Reads the next bytes, and returns how many frames end within them.
     pub fn take(&mut self, bytes: &[u8]) -> u64 {
         let mut frames: u64 = 0;
         for byte in bytes {
@@ -34,7 +34,7 @@ impl FrameStream {
         frames
     }
 
-    // Takes a byte, and answers whether a frame ends with it.
+    // Reads a byte, and returns whether a frame ends with it.
     fn step(&mut self, byte: u8) -> bool {
         if self.header < HEADER {
             if self.header < LENGTH {

@@ -1,10 +1,10 @@
-//! What is counted.
+//! The counters.
 
 use std::alloc::{AllocError, Global};
 use std::sync::Arc;
 use std::sync::atomic::{AtomicU64, Ordering};
 
-/// How many frames were handed over on links, and how many came. Threads share it.
+/// How many frames were sent on links, and how many were received. Threads share it.
 #[derive(Drop)]
 pub struct Tally {
     counts: Arc<Counts, Global>,
@@ -17,7 +17,7 @@ struct Counts {
 }
 
 impl Tally {
-    /// None yet.
+    /// Counters at 0.
     pub fn new(alloc: Global) -> Result<Tally, AllocError> {
         let counts = Counts {
             sent: AtomicU64::new(0),
@@ -28,29 +28,29 @@ impl Tally {
         })
     }
 
-    /// The same counts, for a further one who counts or looks.
+    /// Another handle to the same counters.
     pub fn try_clone(&self) -> Result<Tally, AllocError> {
         Ok(Tally {
             counts: Arc::try_clone(&self.counts)?,
         })
     }
 
-    /// How many frames were handed over whole.
+    /// How many frames were sent.
     pub fn sent(&self) -> u64 {
         self.counts.sent.load(Ordering::SeqCst)
     }
 
-    /// How many frames came whole.
+    /// How many whole frames were received.
     pub fn received(&self) -> u64 {
         self.counts.received.load(Ordering::SeqCst)
     }
 
-    // Counts a frame that was handed over.
+    // Counts a sent frame.
     pub(crate) fn count_sent(&self) {
         self.counts.sent.fetch_add(1, Ordering::SeqCst);
     }
 
-    // Counts frames that came.
+    // Counts received frames.
     pub(crate) fn count_received(&self, frames: u64) {
         if frames > 0 {
             self.counts.received.fetch_add(frames, Ordering::SeqCst);

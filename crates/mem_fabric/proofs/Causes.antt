@@ -1,4 +1,4 @@
--- What causes a call to fail, and what new ends are.
+-- Why a call fails, and the state of new ends.
 use Rattle.std.proofs.Common.{◌≡◌, ◌≤◌, ℕ, List, Result, Ok, Err, refl, sym, subst, arith, IsPermutation}
 use Rattle.std.specs.Prelude.{IfOk}
 use Rattle.mrpc_base.specs.Faults.{HasCause, Rose, raised}

@@ -1,4 +1,4 @@
--- What an end puts, and what the other end has of it.
+-- What an end pushes, and what the other end has popped of it.
 use Rattle.std.proofs.Common.{◌≡◌, ℕ, Bool, true, false, List, [], ◌∷◌, ◌++◌, refl, ap, sym, ◌∙◌, append_assoc, subst, ⊎_elim}
 use Rattle.std.specs.List.{concat}
 use Rattle.std.proofs.lemmas.List.{append-nil}
@@ -30,7 +30,7 @@ module _ {M : Type 0} where
   outgoing_mark (Bytes f ∷ ps) mark h = outgoing_mark ps mark h
   outgoing_mark (Mark m ∷ ps) mark h = absurd (cc (h.0))
 
-  -- a beginning with an end mark is the whole
+  -- a prefix with an end sentinel is the whole list
   pub whole_with_mark : (finished : Bool) (xs pieces : List (Piece M)) → IsOutgoing finished pieces
       → IsPrefix xs pieces → (marks_of xs ≡ [] → ⊥) → (finished ≡ true) × (xs ≡ pieces)
   whole_with_mark finished [] pieces h p marked = absurd (marked refl)
@@ -58,7 +58,7 @@ module _ {M : Type 0} where
   bytes_of_prefix (Mark m ∷ xs) (Bytes c ∷ ys) p = absurd (cc (p.1))
   bytes_of_prefix (Mark m ∷ xs) (Mark c ∷ ys) p = bytes_of_prefix xs ys (p.0, cc (p.1))
 
-  -- what was told of agrees with what was taken up to the end mark, so it was taken
+  -- what is known to be pushed is comparable with what was popped up to the end sentinel, so all of it was popped
   pub told_taken : (finished : Bool) (told taken : List (Piece M)) → IsOutgoing finished told → Agree told taken → (marks_of taken ≡ [] → ⊥) → IsPrefix told taken
   told_taken finished told taken h agree marked =
       ⊎_elim (λ (p : IsPrefix told taken). p) (λ (p : IsPrefix taken told). ([], append-nil told ∙ sym (whole_with_mark finished taken told h p marked).1)) agree
@@ -67,7 +67,7 @@ module _ {M : Type 0} where
   marked_by [] x e = cc (e)
   marked_by (y ∷ ys) x e = cc (e)
 
-  -- a mark was found, and every byte before it given
+  -- a sentinel was found, and every byte before it delivered
   pub ends_with_all : (finished : Bool) (told told' taken taken' : List (Piece M)) (given : List ℕ) (mark : M) → IsOutgoing finished told → told' ≡ told
       → marks_of taken' ≡ marks_of taken ++ mark ∷ [] → Agree told taken' → given ≡ bytes_of taken' → HasTakenAll taken' told' given
   ends_with_all finished told told' taken taken' given mark h same marks agree all =
@@ -79,12 +79,12 @@ module _ {M : Type 0} where
         knows = (p.0, ap (λ t. bytes_of t ++ p.0) same ∙ p.1 ∙ sym all);
       }
 
-  -- nothing waited, and every byte was given
+  -- the queue was empty, and every byte was delivered
   pub finds_all : (told taken : List (Piece M)) (given : List ℕ) → IsPrefix told taken → given ≡ bytes_of taken → IsPrefix (bytes_of told) given
   finds_all told taken given q all =
       let p = bytes_of_prefix told taken q in (p.0, p.1 ∙ sym all)
 
-  -- the two ends of a queue meet after the end mark was taken
+  -- the two ends of a queue are reconciled after the end sentinel was popped
   pub met_after_end : (finished : Bool) (put put' taken taken' told told' : List (Piece M)) (given given' : List ℕ) → IsOutgoing finished put
       → put' ≡ put → taken' ≡ taken → given' ≡ given → told' ≡ put' → IsPrefix taken' put' → HasTakenAll taken told given
       → (finished ≡ true) × (given' ≡ concat (frames_of put')) × HasTakenAll taken' told' given'

@@ -1,4 +1,4 @@
--- The definitions on a pair whose one end handed over two frames and finished.
+-- Worked by hand: the definitions on a pair whose one end sent two frames and finished.
 use Rattle.std.proofs.Common.{◌≡◌, ℕ, Bool, true, false, true≢false, List, [], ◌∷◌, refl, sym, ap}
 use Rattle.atomic_table.specs.Seated.{TableId}
 use Rattle.one_way_queue.specs.declared.piece.Piece.{Piece}
@@ -7,7 +7,7 @@ use Rattle.mem_fabric.specs.Fabric.{numbers_of}
 use Rattle.one_way_queue.specs.Pieces.{frames_of}
 use Rattle.mem_fabric.specs.Pair.{PairEnd, ArePair, IsHandedOn, told_of_all, IsOutgoing, HasTakenAll}
 
--- a queue, by a number
+-- a queue, by its number
 abbrev queue : ℕ → TableId
 queue n = record { words = n; slots = 0; views_name = 0; atom = 0; block = 0; offset = 0; slot_names = [] }
 
@@ -30,7 +30,7 @@ from finished = record {
   inward = queue 2;
 }
 
--- the other end, which gave these bytes
+-- the other end, which received these bytes
 abbrev to : List ℕ → Bool → PairEnd
 to given ended = record {
   handed = [];
@@ -47,7 +47,7 @@ to given ended = record {
   inward = queue 1;
 }
 
--- ---- what an end was given and the other handed over
+-- ---- what one end received and the other sent
 
 nothing_yet : IsHandedOn (from false) (to [] false)
 nothing_yet = record {
@@ -56,7 +56,7 @@ nothing_yet = record {
   finished = λ e. absurd (true≢false (sym e));
 }
 
--- within a frame, and before the end
+-- within a frame, and before the end of the stream
 cut_anywhere : IsHandedOn (from true) (to (1 ∷ []) false)
 cut_anywhere = record {
   in_order = (2 ∷ 3 ∷ [], refl);
@@ -67,7 +67,7 @@ cut_anywhere = record {
 all_after_the_end : IsHandedOn (from true) (to (1 ∷ 2 ∷ 3 ∷ []) true)
 all_after_the_end = record { in_order = ([], refl); whole = λ _. refl; finished = λ _. refl }
 
--- no byte overtakes another, comes twice, is lost, or comes from nowhere
+-- no byte overtakes another, is duplicated, is lost, or appears from nowhere
 none_overtakes : IsHandedOn (from true) (to (3 ∷ []) false) → ⊥
 none_overtakes h = let p = h.in_order in cc (p.1)
 
@@ -80,7 +80,7 @@ none_lost h = let p = h.in_order in cc (p.1)
 none_from_nowhere : IsHandedOn (from true) (to (1 ∷ 2 ∷ 3 ∷ 4 ∷ []) false) → ⊥
 none_from_nowhere h = let p = h.in_order in cc (p.1)
 
--- the end comes behind the last byte, and only of an end that has finished
+-- the end of the stream comes after the last byte, and only from an end that has finished
 no_end_before_the_last : IsHandedOn (from true) (to (1 ∷ 2 ∷ []) true) → ⊥
 no_end_before_the_last h = let e = h.whole refl in cc (e)
 
@@ -98,7 +98,7 @@ no_pair p = let e : 1 ≡ 2 = ap (λ (q : TableId). q.words) p.0 in cc (e)
 told : told_of_all (from true) (to (1 ∷ []) false) ≡ record (to (1 ∷ []) false) { told = 1 ∷ 2 ∷ 3 ∷ [] }
 told = refl
 
--- ---- what an end puts, and what the other took of it
+-- ---- what an end pushes, and what the other popped of it
 
 abbrev pieces : List (Piece ℕ)
 pieces = Bytes (1 ∷ 2 ∷ []) ∷ Bytes (3 ∷ []) ∷ []
@@ -115,7 +115,7 @@ goes_on = refl
 has_finished : IsOutgoing true ended
 has_finished = (refl, refl)
 
--- the end mark stands there exactly where the end has finished, and nothing behind it
+-- the end sentinel is there exactly if the end has finished, and nothing follows it
 no_finish_without_the_mark : IsOutgoing true pieces → ⊥
 no_finish_without_the_mark e = true≢false e
 

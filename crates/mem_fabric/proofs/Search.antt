@@ -1,4 +1,4 @@
--- What a binary search over ascending numbers says of membership.
+-- What the result of a binary search over ascending numbers means for membership.
 use Rattle.std.proofs.Common.{◌≡◌, ◌↔◌, Contains, ℕ, ◌<◌, ◌≤◌, length, IsTrue, List, Result, Ok, Err, get_or, arith, refl, sym, ◌∙◌, subst, ⊎_elim}
 use Rattle.std.proofs.lemmas.Bool.{cases_lt}
 use Rattle.std.proofs.lemmas.Grind.{get_or_default_zero}
@@ -8,7 +8,7 @@ use Rattle.std.specs.List.Sorted.{IsNonDecreasing, IsBinarySearchResult}
 use Rattle.std.specs.Ordering.{nat_cmp}
 use Rattle.std.specs.Prelude.{is_ok, MatchResult}
 
--- a number above what stands before a place and below what stands from it on is not in the list
+-- a number greater than those before an index and less than those from it on isn't in the list
 absent : (xs : List ℕ) (x i : ℕ) → ((k : ℕ) → k < i → get_or xs k 0 < x) → ((k : ℕ) → i ≤ k → k < length xs → x < get_or xs k 0) → Contains xs x → ⊥
 absent xs x i below above found =
     let at : get_or xs found.0 0 ≡ x = sym (get_or_default_zero xs found.0 x found.1) ∙ found.2 in
@@ -21,6 +21,6 @@ decides : (xs : List ℕ) (x : ℕ) (r : Result ℕ ℕ)
 decides xs x (Ok i) h = (λ _. subst (Contains xs) h.1 (Contains-get_or xs i 0 h.0), λ _. refl)
 decides xs x (Err i) h = (λ impossible. cc, λ found. absurd (absent xs x i h.1 h.2 found))
 
--- an ascending list has the number that a binary search finds, and no other
+-- an ascending list contains exactly the numbers that a binary search finds
 pub IsTrue-is_ok-search : (xs : List ℕ) (x : ℕ) (r : Result ℕ ℕ) → IsNonDecreasing xs → IsBinarySearchResult (λ y. nat_cmp y x) xs r → IsTrue (is_ok r) ↔ Contains xs x
 IsTrue-is_ok-search xs x r up answer = decides xs x r (searched xs x r answer (λ i j. up i j 0))

@@ -1,16 +1,16 @@
--- A fabric in memory.
+-- An in-memory fabric.
 use Rattle.std.specs.Prelude.{◌≡◌, ℕ, false, ◌==◌, List, [], filter, map, IsPermutation}
 use Rattle.mem_fabric.specs.Pair.{PairEnd}
 
 pub record FabricState : Type 0 where
-  -- the links that it has back, each with its connection, and how many ends it opened that it doesn't have back
+  -- the links that it keeps, each with its connection, and how many ends that it opened are in use
   pub back : List (ℕ × PairEnd)
   pub away : ℕ
-  -- the openings that are to fail by number, and the sends and receives by connection and number, counted from 1
+  -- the openings that shall fail by number, and the sends and receives by connection and number, counted from 1
   pub failing_openings : List ℕ
   pub failing_sends : List (ℕ × ℕ)
   pub failing_receives : List (ℕ × ℕ)
-  -- how many openings there were and failed; each stands still at 2^64 - 1
+  -- how many openings were made and failed; each saturates at 2^64 - 1
   pub openings : ℕ
   pub faults : ℕ
 
@@ -18,7 +18,7 @@ pub record FabricState : Type 0 where
 abbrev pub numbers_of : ℕ → List (ℕ × ℕ) → List ℕ
 numbers_of conn listed = map (λ entry. entry.1) (filter (λ entry. entry.0 == conn) listed)
 
--- an end of which nothing was asked yet, whose sends and receives of these numbers are to fail
+-- an unused end whose sends and receives of these numbers shall fail
 pub record IsNewEnd (failing_sends failing_receives : List ℕ) (end : PairEnd) : Type 0 where
   pub finished : end.finished ≡ false
   pub given : end.given ≡ []

@@ -1,11 +1,11 @@
--- The code's own: an end as it is opened.
+-- The code's own: an end right after it was opened.
 use Rattle.std.specs.Prelude.{◌≡◌, ℕ, false, List, []}
 use Rattle.atomic_table.specs.Seated.{TableId}
 use Rattle.mem_fabric.specs.Fabric.{IsNewEnd}
 use Rattle.mem_fabric.specs.Pair.{PairEnd}
 use Rattle.mem_fabric.specs.declared.listed.EndCalls.{EndCalls}
 
--- an end with these calls and queues that was handed and given nothing
+-- an end with these calls and queues that sent and received nothing
 abbrev pub fresh_end : EndCalls → TableId → TableId → PairEnd
 fresh_end calls outward inward = record {
   handed = [];
@@ -22,7 +22,7 @@ fresh_end calls outward inward = record {
   inward = inward;
 }
 
--- a new end whose sends and receives of these numbers are to fail
+-- a new end whose sends and receives of these numbers shall fail
 pub record IsFresh (failing_sends failing_receives : List ℕ) (end : PairEnd) : Type 0 where
   pub handed : end.handed ≡ []
   pub ended : end.ended ≡ false

@@ -1,12 +1,13 @@
-//! Links in memory between threads: a [`MemFabric`] opens pairs of [`PairLink`]s and takes them back.
+//! In-memory links between threads: a [`MemFabric`] opens pairs of [`PairLink`]s and keeps them afterwards.
 //!
-//! Each direction of a pair is a queue of `one_way_queue` with room for 65535 pieces and an end mark, so the two ends
-//! may be used by two threads. It stands on `one_way_queue` for these queues, on `atomic_table` for their names in
-//! contracts, on `mrpc_base` for the traits, and on `mrpc_table` for lists of bytes. Openings, sends and receives can
-//! be made to fail. The layer above uses one contract: what an end was given is a beginning of what the other end
-//! handed over, and all of it after the end, which [`meet`] tells of the two ends of a pair.
+//! Each direction of a pair is a queue of `one_way_queue` with room for 65535 pieces and an end sentinel, so two
+//! threads may use the two ends. The crate uses `one_way_queue` for these queues, `atomic_table` for their
+//! identity in contracts, `mrpc_base` for the traits, and `mrpc_table` for lists of bytes. Failures of openings,
+//! sends and receives can be injected. The layer above uses one contract: what an end received is a prefix of
+//! what the other end sent, and all of it after the end of the stream, as [`meet`] states for the two ends of a
+//! pair.
 //!
-//! The room of both directions is memory that is taken when a pair is opened.
+//! The memory for both directions is allocated when a pair is opened.
 #![tactic(auto)]
 
 mod listed;

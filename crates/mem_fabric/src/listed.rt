@@ -1,4 +1,4 @@
-//! The calls of a device in memory, and those that are to fail.
+//! The calls of an in-memory device, and the failures injected into them.
 
 ghost use Rattle.std.specs.Prelude.{◌≡◌, ◌≤◌, ◌↔◌, ◌⊎◌, Contains, IfOk, IsFalse, IsPermutation, IsTrue};
 ghost use Rattle.mrpc_base.specs.Faults.{raised};
@@ -8,7 +8,7 @@ ghost use Rattle.mem_fabric.specs.Listed.{faults_after};
 use std::alloc::{AllocError, Global};
 use std::marker::Model;
 
-// A count after one more; it stands still at 2^64 - 1.
+// The count plus one; it saturates at 2^64 - 1.
 pub(crate) fn raise(count: u64) -> u64
     ensures value { result ≡ raised count }
     ensures never_falls { count ≤ raised count }
@@ -17,12 +17,12 @@ pub(crate) fn raise(count: u64) -> u64
 }
 
 pub(crate) struct ListedCalls {
-    // In ascending order, so that a call is looked up by a binary search.
+    // In ascending order, for a binary search.
     failing: Vec<u64>,
     calls: u64,
 }
 
-// By hand, so that a drop is one call where it is needed, and not a drop of each part.
+// By hand, so that each drop is one call, and not a drop of every field.
 impl Drop for ListedCalls {
     fn drop(self) {
         let ListedCalls {
@@ -44,7 +44,7 @@ impl Model for ListedCalls {
 }
 
 impl ListedCalls {
-    // No call yet. `failing` has the numbers of the calls that are to fail, counted from 1, in any order.
+    // No call yet. `failing` has the numbers of the calls that shall fail, counted from 1, in any order.
     pub(crate) fn new(mut failing: Vec<u64>) -> Self
         ensures failing { IsPermutation failing.items result.failing }
         ensures calls { result.calls ≡ 0 }
@@ -53,7 +53,7 @@ impl ListedCalls {
         ListedCalls { failing, calls: 0 }
     }
 
-    // Counts a call, and says whether it is to fail.
+    // Counts a call, and returns whether it shall fail.
     pub(crate) fn next(&mut self) -> bool
         ensures counted { self.new ≡ record self.old { calls = raised self.old.calls } }
         ensures fails { IsTrue result ↔ Contains self.old.failing (raised self.old.calls) }
@@ -70,7 +70,7 @@ pub(crate) struct EndCalls {
     pub faults: u64,
 }
 
-// By hand, so that a drop is one call where it is needed, and not a drop of each part.
+// By hand, so that each drop is one call, and not a drop of every field.
 impl Drop for EndCalls {
     fn drop(self) {
         let EndCalls {
@@ -82,7 +82,7 @@ impl Drop for EndCalls {
 }
 
 impl EndCalls {
-    // Counts a send, which fails where its number is listed, or the sending side was ended. Says whether it does.
+    // Counts a send, and returns whether it fails: its number is listed, or the sending side was shut down.
     pub(crate) fn send_fails(&mut self, finished: bool) -> bool
         ensures fails { IsTrue result
             ↔ (Contains self.old.sends.failing (raised self.old.sends.calls) ⊎ IsTrue finished) }
@@ -104,7 +104,7 @@ impl EndCalls {
         false
     }
 
-    // Counts a receive, which fails where its number is listed. Says whether it does.
+    // Counts a receive, and returns whether it fails: its number is listed.
     pub(crate) fn receive_fails(&mut self) -> bool
         ensures fails { IsTrue result ↔ Contains self.old.receives.failing (raised self.old.receives.calls) }
         ensures counted { self.new ≡ record self.old {
@@ -121,13 +121,13 @@ impl EndCalls {
     }
 }
 
-// The sends and the receives that are to fail, by connection and number.
+// The sends and receives that shall fail, by connection and number.
 pub(crate) struct ListedConns {
     pub sends: Vec<(u32, u64)>,
     pub receives: Vec<(u32, u64)>,
 }
 
-// By hand, so that a drop is one call where it is needed, and not a drop of each part.
+// By hand, so that each drop is one call, and not a drop of every field.
 impl Drop for ListedConns {
     fn drop(self) {
         let ListedConns {
@@ -138,7 +138,7 @@ impl Drop for ListedConns {
 }
 
 impl ListedConns {
-    // The calls of a connection, of which those that are listed are to fail.
+    // The calls of a connection, with the failures that are listed for it.
     pub(crate) fn calls_of(&self, alloc: Global, conn: u32) -> Result<EndCalls, AllocError>
         ensures sends { IfOk result (λ calls.
             IsPermutation (numbers_of conn self.now.sends.items) calls.sends.failing) }

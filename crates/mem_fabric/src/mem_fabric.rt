@@ -1,4 +1,4 @@
-//! A fabric in memory.
+//! An in-memory fabric.
 
 ghost use Rattle.std.specs.Prelude.{◌≡◌, ◌<◌, ◌+◌, ◌≤◌, ◌↔◌, [], ◌∷◌, false, Contains, IfOk, IsErrOf, IsPermutation, OnErr, length, slice_get};
 ghost use Rattle.mrpc_base.specs.Faults.{HasCause, raised};
@@ -13,7 +13,8 @@ use std::alloc::{AllocError, Global};
 use std::marker::Model;
 use std::sync::Wait;
 
-/// Which calls of a fabric in memory and its links are to fail, each counted from 1, in any order.
+/// Injected failures: the calls of an in-memory fabric and its links that shall fail, each counted from 1, in any
+/// order.
 #[derive(Drop)]
 pub struct ListedFaults {
     /// Openings, by number.
@@ -24,12 +25,12 @@ pub struct ListedFaults {
     pub receives: Vec<(u32, u64)>,
 }
 
-/// A fabric in memory. Contracts see it as a `FabricState`: the links that it has back and how many it doesn't have
-/// back, which calls are to fail, and how many openings there were and failed.
+/// An in-memory fabric. Contracts see it as a `FabricState`: the links that it keeps, how many of its links are
+/// in use, the calls that shall fail, and how many openings were made and failed.
 pub struct MemFabric<'r, R> {
     rt: &'r R,
     alloc: Global,
-    // With room for the links that are away, too.
+    // With capacity for the links in use, too.
     back: Vec<(u32, PairLink<'r, R>)>,
     away: usize,
     openings: ListedCalls,
@@ -37,7 +38,7 @@ pub struct MemFabric<'r, R> {
     faults: u64,
 }
 
-// By hand, so that a drop is one call where it is needed, and not a drop of each part.
+// By hand, so that each drop is one call, and not a drop of every field.
 impl<'r, R> Drop for MemFabric<'r, R> {
     fn drop(self) {
         let MemFabric {
@@ -96,22 +97,22 @@ impl<'r, R: Wait> MemFabric<'r, R> {
         }
     }
 
-    /// The links that it has back, each with its connection.
+    /// The links that it keeps, each with its connection.
     pub fn links(&self) -> &[(u32, PairLink<'r, R>)]
         ensures { result.now ≡ self.now.back }
     {
         self.back.as_slice()
     }
 
-    /// How many openings failed; it stands still at 2^64 - 1.
+    /// How many openings failed; saturates at 2^64 - 1.
     pub fn faults(&self) -> u64
         ensures { result ≡ self.now.faults }
     {
         self.faults
     }
 
-    /// Gives away again a link that it has back, with its connection. Two ends of one pair that were given away so
-    /// can [`meet`](crate::meet).
+    /// Returns a link that it keeps to use again, with its connection. Two ends of one pair that were returned like
+    /// this can be reconciled by [`meet`](crate::meet).
     pub fn take_back(&mut self, at: usize) -> (u32, PairLink<'r, R>)
         requires { at < length self.old.back }
         ensures link { slice_get self.old.back at ≡ Some result }
@@ -133,7 +134,7 @@ impl<'r, R: Wait + Sync> Fabric for MemFabric<'r, R> {
 
     ghost faults = { λ f. f.faults };
 
-    // Each puts into the queue that the other takes from.
+    // Each end pushes into the queue that the other pops from.
     ghost pair = { ArePair };
 
     ghost use mathlib.Core.Path.{sym, ◌∙◌};
@@ -142,7 +143,7 @@ impl<'r, R: Wait + Sync> Fabric for MemFabric<'r, R> {
         (first.0 ∙ (pair.0 ∙ sym second.1), second.0 ∙ (pair.1 ∙ sym first.1)) };
 
     fn open_pair(&mut self, a: u32, b: u32) -> Result<(PairLink<'r, R>, PairLink<'r, R>), OpenFault>
-        // An opening fails exactly where its number is listed.
+        // An opening fails exactly if its number is listed.
         ensures fails { IsErrOf result OpenFault.Failed ↔ Contains self.old.failing_openings self.new.openings }
         ensures pair { IfOk result (λ ends. ArePair ends.0 ends.1) }
         ensures handed { IfOk result (λ ends. (ends.0.handed ≡ []) × (ends.1.handed ≡ [])) }

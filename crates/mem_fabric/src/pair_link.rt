@@ -1,4 +1,4 @@
-//! One end of a link in memory.
+//! One end of an in-memory link.
 
 ghost use Rattle.std.specs.Prelude.{◌≡◌, ◌≢◌, ◌<◌, ◌≤◌, ◌↔◌, ◌⊎◌, [], ◌∷◌, ◌++◌, Contains, IfOk, IsTrue, length, take, true, false};
 ghost use mathlib.Core.List.{IsPrefix};
@@ -17,19 +17,19 @@ use std::alloc::{AllocError, Global};
 use std::marker::Model;
 use std::sync::Wait;
 
-// How many pieces wait in one direction at most.
+// The most pieces that are queued in one direction.
 const MOST_PIECES: usize = 65535;
 
-// How many places a queue has besides, for the end mark.
+// The slots that a queue has in addition, for the end sentinel.
 const END_PLACES: usize = 1;
 
-// The mark behind the last piece.
+// The sentinel after the last piece.
 #[derive(Drop)]
 pub(crate) struct EndMark;
 
-/// One end of a link in memory. Contracts see it as a `PairEnd`: the frames that it was handed, the bytes that it
-/// gave, and whether either side has finished; the numbers of the sends and receives that are to fail, and how many
-/// there were and failed; and which two queues it has.
+/// One end of an in-memory link. Contracts see it as a `PairEnd`: the frames that it sent, the bytes that it
+/// received, and whether either side has finished; the numbers of the sends and receives that shall fail, how
+/// many were made and how many failed; and its two queues.
 pub struct PairLink<'r, R> {
     rt: &'r R,
     alloc: Global,
@@ -40,7 +40,7 @@ pub struct PairLink<'r, R> {
     ended: bool,
 }
 
-// By hand, so that a drop is one call where it is needed, and not a drop of each part.
+// By hand, so that each drop is one call, and not a drop of every field.
 impl<'r, R> Drop for PairLink<'r, R> {
     fn drop(self) {
         let PairLink {
@@ -86,7 +86,7 @@ impl<'r, R> Model for PairLink<'r, R> {
 }
 
 impl<'r, R: Wait> PairLink<'r, R> {
-    // An end that was handed and given nothing.
+    // An end that sent and received nothing.
     fn new(
         rt: &'r R,
         alloc: Global,
@@ -111,14 +111,14 @@ impl<'r, R: Wait> PairLink<'r, R> {
         }
     }
 
-    /// How many sends and receives failed; it stands still at 2^64 - 1.
+    /// How many sends and receives failed; saturates at 2^64 - 1.
     pub fn faults(&self) -> u64
         ensures { result ≡ self.now.faults }
     {
         self.calls.faults
     }
 
-    // Gives the next bytes, or finds the end.
+    // Receives the next bytes, or the end of the stream.
     fn read(&mut self, buf: &mut [u8]) -> Came
         requires room { 0 < length buf.old }
         requires before_end { self.old.ended ≡ false }
@@ -152,14 +152,14 @@ impl<'r, R: Wait> Link for PairLink<'r, R> {
 
     ghost ended = { λ l. l.ended };
 
-    // All that it was told of has come.
+    // All that it knew to be sent has been received.
     ghost nothing_ready = { λ old new. IsPrefix old.told new.given };
 
     ghost peer_finished = { λ old new. IsPrefix old.told new.given };
 
     ghost faults = { λ l. l.faults };
 
-    // It has the same two queues, and the same calls are to fail.
+    // The queues are the same two, and so are the calls that shall fail.
     ghost since = { λ old new. (new.outward ≡ old.outward) × (new.inward ≡ old.inward)
         × (new.failing_sends ≡ old.failing_sends) × (new.failing_receives ≡ old.failing_receives) };
 
@@ -167,18 +167,18 @@ impl<'r, R: Wait> Link for PairLink<'r, R> {
 
     ghost itself = { λ _. (refl, refl, refl, refl) };
 
-    // A refusal tells no more.
+    // A failed send means nothing further.
     ghost refused = { λ _ _ _. ⊤ };
 
     fn send(&mut self, frame: &[u8]) -> Handed
-        // A send fails exactly where its number is listed, or the sending side was ended.
+        // A send fails exactly if its number is listed or the sending side was shut down.
         ensures fails { (result ≡ Handed.Failed)
             ↔ (Contains self.old.failing_sends self.new.sends ⊎ IsTrue self.old.finished) }
 
         ensures appended { result ≡ Handed.Done → self.new.handed ≡ self.old.handed ++ frame.now ∷ [] }
         ensures kept { result ≢ Handed.Done → self.new.handed ≡ self.old.handed }
 
-        // What is counted, and what stays.
+        // What is counted, and what is unchanged.
         ensures sends { self.new.sends ≡ raised self.old.sends }
         ensures faults { result ≡ Handed.Failed → self.new.faults ≡ raised self.old.faults }
         ensures cause { HasCause (result ≡ Handed.Failed) self.old.faults self.new.faults }
@@ -194,7 +194,7 @@ impl<'r, R: Wait> Link for PairLink<'r, R> {
         let Ok(copy) = Bytes::from_slice(self.alloc, frame) else {
             return Handed::Memory;
         };
-        // It waits while as many pieces wait as may.
+        // Waits while the queue holds the most pieces.
         self.out
             .put_leaving(self.rt, END_PLACES, Piece::Bytes(copy));
         Handed::Done
@@ -203,7 +203,7 @@ impl<'r, R: Wait> Link for PairLink<'r, R> {
     fn receive(&mut self, buf: &mut [u8]) -> Came
         requires room { 0 < length buf.old }
 
-        // A receive fails exactly where its number is listed. After the end it finds the end again.
+        // A receive fails exactly if its number is listed. After the end of the stream it returns the end again.
         ensures fails { (result ≡ Came.Failed) ↔ Contains self.old.failing_receives self.new.receives }
         ensures after_end { IsTrue self.old.ended → result ≢ Came.Failed → result ≡ Came.End }
         ensures memory { result ≢ Came.Memory }
@@ -213,11 +213,11 @@ impl<'r, R: Wait> Link for PairLink<'r, R> {
         ensures kept { OnNoneCame result (self.new.given ≡ self.old.given) }
         ensures ends { result ≡ Came.End → IsTrue self.new.ended }
         ensures same_ended { result ≢ Came.End → self.new.ended ≡ self.old.ended }
-        // Nothing is ready, or the end comes, only where all that it was told of has come.
+        // `Idle` and `End` come only if all that it knew to be sent has been received.
         ensures idle { result ≡ Came.Idle → IsPrefix self.old.told self.new.given }
         ensures end { result ≡ Came.End → IsPrefix self.old.told self.new.given }
 
-        // What is counted, and what stays.
+        // What is counted, and what is unchanged.
         ensures receives { self.new.receives ≡ raised self.old.receives }
         ensures faults { result ≡ Came.Failed → self.new.faults ≡ raised self.old.faults }
         ensures cause { HasCause (result ≡ Came.Failed) self.old.faults self.new.faults }
@@ -248,7 +248,7 @@ impl<'r, R: Wait> Link for PairLink<'r, R> {
     }
 }
 
-// The two ends of a new pair, of whose calls those that are listed for each connection are to fail.
+// The two ends of a new pair, with the failures that are listed for each connection.
 pub(crate) fn new_pair<'r, R: Wait>(
     rt: &'r R,
     alloc: Global,
@@ -286,8 +286,8 @@ fn new_ends<'r, R: Wait>(
     ))
 }
 
-/// Brings the two ends of one pair together. What each was given is a beginning of what the other handed over, and
-/// all of it after the end. From now on each end knows of all that was handed over at the other.
+/// Reconciles the two ends of one pair. What each end received is a prefix of what the other sent, and all of it
+/// after the end of the stream. From now on each end knows of every frame that the other sent.
 pub fn meet<R>(first: &mut PairLink<R>, second: &mut PairLink<R>)
     requires { ArePair first.old second.old }
     ensures to_second { IsHandedOn first.new second.new }

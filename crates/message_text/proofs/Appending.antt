@@ -1,7 +1,7 @@
--- Texts that are appended one behind another.
+-- Texts that are appended in order.
 use Rattle.std.proofs.Common.{◌≡◌, List, ℕ, ◌++◌, ap, ◌∙◌, append_assoc}
 
--- a text of which something holds was appended
+-- a text with a property was appended
 pub record Appended (P : List ℕ → Type 0) (old new : List ℕ) : Type 0 where
   pub text : List ℕ
   pub holds : P text

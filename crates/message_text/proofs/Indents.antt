@@ -1,4 +1,4 @@
--- Blanks in front of a line.
+-- Blanks before a line.
 use Rattle.std.proofs.Common.{◌≡◌, ℕ, zero, suc, ◌+◌, List, [], ◌∷◌, ◌++◌, refl, ap, ◌∙◌, append_assoc, arith}
 use Rattle.message_text.specs.Lines.{indent}
 

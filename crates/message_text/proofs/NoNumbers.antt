@@ -1,4 +1,4 @@
--- The bits beyond those of an infinite float are those of no number.
+-- The bits above those of an infinite float are NaNs.
 use Rattle.std.proofs.Common.{◌≡◌, ◌≢◌, ℕ, ◌<◌, ◌/◌, ◌%◌, Bool, true, false, not, ◌&&◌, eqb, refl, arith}
 use borrow.Author.Tests.{eq-eqb, ne_eqb}
 use lib.Ieee.{nan_bits, binary32, binary64}

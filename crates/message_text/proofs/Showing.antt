@@ -1,4 +1,4 @@
--- The texts of parts of messages, one behind another.
+-- The texts of parts of messages, in order.
 use Rattle.std.proofs.Common.{◌≡◌, ℕ, ◌+◌, ◌<◌, List, [], ◌∷◌, ◌++◌, length, take, get_or, refl, sym, ap, subst, ◌∙◌, append_assoc, append-nil}
 use Rattle.std.proofs.lemmas.List.{take_more}
 use Rattle.mrpc_table.specs.Normal.{kind_at, label_at}

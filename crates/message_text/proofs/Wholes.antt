@@ -1,4 +1,4 @@
--- Whole numbers and truth values.
+-- Integers and booleans.
 use Rattle.std.proofs.Common.{◌≢◌, ℕ, refl}
 use Rattle.mrpc_table.specs.declared.table.Kind.{Kind}
 use Rattle.mrpc_table.specs.declared.table.Kind.TheVariants.{Int32, Int64, Uint32, Uint64, Sint32, Sint64}
@@ -7,7 +7,7 @@ use Rattle.mrpc_table.specs.declared.table.Kind.TheVariants.{Float, Double, Text
 use Rattle.mrpc_table.specs.declared.table.Table.{Table}
 use Rattle.message_text.specs.Numbers.{IsNumberText, whole_text}
 
--- a number of any other kind than an enum, a float or a double is a whole one or a truth value
+-- a number of any kind other than an enum, a float or a double is an integer or a boolean
 pub whole_shown : (T : Table) (k : Kind) (n : ℕ) → ((i : ℕ) → k ≢ Choice i) → k ≢ Float → k ≢ Double → IsNumberText T k n (whole_text k n)
 whole_shown T Int32 n c f d = refl
 whole_shown T Int64 n c f d = refl

@@ -1,7 +1,7 @@
 -- The lines of entries, as protoc lays them out.
 use Rattle.std.specs.Prelude.{ℕ, zero, suc, List, [], ◌∷◌, ◌++◌, codes}
 
--- two blanks for each message around
+-- two blanks for each enclosing message
 unfoldable pub indent : ℕ → List ℕ
 indent zero = []
 indent (suc deep) = 32 ∷ 32 ∷ indent deep

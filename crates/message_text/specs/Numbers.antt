@@ -10,11 +10,11 @@ use Rattle.mrpc_table.specs.declared.table.Kind.{Kind}
 use Rattle.mrpc_table.specs.declared.table.Kind.TheVariants.{Uint32, Uint64, Bool as TheBool, Fixed32, Fixed64, Float, Double, Choice}
 use Rattle.mrpc_table.specs.declared.table.Table.{Table}
 
--- the values of the enum at a place of the table
+-- the values of the enum with this index in the table
 abbrev pub values_of : Table → ℕ → List (ℤ × List ℕ)
 values_of T i = unwrap_or (option_map (λ e. e.values) (slice_get T.enums i)) []
 
--- this is the first of the names that an enum has for a number
+-- this is the first of the enum's names for a number
 pub record IsFirstName (values : List (ℤ × List ℕ)) (n : ℤ) (name : List ℕ) : Type 0 where
   pub at : ℕ
   pub within : at < length values
@@ -25,17 +25,18 @@ pub record IsFirstName (values : List (ℤ × List ℕ)) (n : ℤ) (name : List 
 pub record HasNoName (values : List (ℤ × List ℕ)) (n : ℤ) : Type 0 where
   pub none : (k : ℕ) (d : ℤ × List ℕ) → k < length values → (slice_index_or values k d).0 ≢ n
 
--- an enum's value is shown by a name, or by its number where there is none
+-- the text of an enum's value: a name, or its number if it has no name
 pub data IsChoiceText (values : List (ℤ × List ℕ)) (n : ℤ) (text : List ℕ) : Type 0 where
   named : IsFirstName values n text → IsChoiceText values n text
   unnamed : HasNoName values n → text ≡ signed_decimal n → IsChoiceText values n text
 
--- a float is shown by a text that reads back as it, and one that is no number by `nan`
+-- the text of a float: any that reads back as it, and `nan` for a NaN
 pub data IsFloatText (f : Format) (bits : ℕ) (text : List ℕ) : Type 0 where
   not_a_number : IsTrue (nan_bits f bits) → text ≡ codes "nan" → IsFloatText f bits text
   reads_back : NotNanBits f bits → parse_float f text ≡ Some (from_bits f bits) → IsFloatText f bits text
 
--- a whole number has its decimal digits, behind `-` where it is below 0, and a truth value its name
+-- the text of an integer: decimal digits, with `-` before them if it is below 0; the text of a boolean: its
+-- name
 abbrev pub whole_text : Kind → ℕ → List ℕ
 whole_text TheBool n = if n == 0 then codes "false" else codes "true"
 whole_text Uint32 n = decimal n

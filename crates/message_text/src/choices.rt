@@ -10,7 +10,7 @@ ghost use Rattle.message_text.specs.Numbers.{values_of, IsFirstName, HasNoName, 
 use itoa::Buffer;
 use mrpc_table::{Bytes, Memory, Name, Table};
 
-// Appends the text of a number of the enum at a place of the table, given in its word form.
+// Appends the text of a number of the enum with this index in the table, given in its word form.
 pub(crate) fn put_choice(
     out: &mut Bytes,
     table: &Table,
@@ -27,7 +27,7 @@ pub(crate) fn put_choice(
     }
 }
 
-// Appends the digits of a number, behind `-` where it is negative.
+// Appends the digits of a number, with `-` before them if it is negative.
 pub(crate) fn put_signed(out: &mut Bytes, word: u64) -> Result<(), Memory>
     ensures { OnOk result (out.new ≡ out.old ++ signed_decimal (cast_signed w64 word)) }
 {
@@ -35,7 +35,7 @@ pub(crate) fn put_signed(out: &mut Bytes, word: u64) -> Result<(), Memory>
     out.append(buffer.format(word.cast_signed()).as_bytes())
 }
 
-// The values of the enum at a place; none where there is no such enum.
+// The values of the enum with this index; empty if there is no such enum.
 fn values_of(table: &Table, choices: u32) -> &[(i32, Name)]
     requires { IsValid table.now }
     ensures value { result.now ≡ values_of table.now choices }
@@ -47,7 +47,7 @@ fn values_of(table: &Table, choices: u32) -> &[(i32, Name)]
     }
 }
 
-// The first name of a number, in time by the logarithm of the values.
+// The first name of a number, found by binary search.
 fn first_name(values: &[(i32, Name)], word: u64) -> Option<&[u8]>
     requires { Ascends IsValueBelow values.now }
     ensures found { IfSome result (λ name. IsFirstName values.now (cast_signed w64 word) name.now) }
@@ -64,7 +64,7 @@ fn first_name(values: &[(i32, Name)], word: u64) -> Option<&[u8]>
     Some(value.1.as_slice())
 }
 
-// The place of the first value that isn't below a number.
+// The index of the first value that isn't below a number.
 fn first_from(values: &[(i32, Name)], word: u64) -> usize
     requires { Ascends IsValueBelow values.now }
     ensures within { result ≤ length values.now }

@@ -19,10 +19,10 @@ use crate::said::{Said, fields_at, said_near};
 use mrpc_table::{Bytes, Entries, Field, FieldValue, Kind, Memory, Table, Tree, Value, Values};
 use std::alloc::Global;
 
-/// Appends the text of a normal tree of the message at the place `msg` of the table.
+/// Appends the text of a normal tree of the message with index `msg` in the table.
 ///
-/// The only error is `Memory`; what was appended then is cut anywhere. Messages are written by recursion, which a normal
-/// tree keeps to 32 calls deep.
+/// The only error is `Memory`; the appended text may then be truncated anywhere. Messages are written by
+/// recursion, at most 32 calls deep for a normal tree.
 pub fn append_message(
     alloc: Global,
     out: &mut Bytes,

@@ -34,7 +34,7 @@ fn put_byte(out: &mut Bytes, byte: u8) -> Result<(), Memory>
     }
 }
 
-// The letter that stands for a byte behind a backslash.
+// The letter for a byte after a backslash.
 fn letter_of(byte: u8) -> Option<u8>
     ensures { result ≡ letter_of byte }
 {

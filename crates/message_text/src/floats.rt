@@ -17,7 +17,7 @@ const SIGN: u32 = 0x8000_0000;
 
 const DOUBLE_SIGN: u64 = 0x8000_0000_0000_0000;
 
-// The bits of the infinite float, and of the infinite double, beyond which there is no number.
+// The bits of the infinite float, and of the infinite double, above which all are NaN.
 const INFINITE: u32 = 0x7f80_0000;
 
 const DOUBLE_INFINITE: u64 = 0x7ff0_0000_0000_0000;
@@ -42,7 +42,7 @@ pub(crate) fn double_text(alloc: Global, bits: u64) -> Result<Bytes, Memory>
     double_digits(alloc, bits)
 }
 
-// Six digits, or nine where six don't read back or the float is a subnormal one. Whatever is shown was read back.
+// Six digits, or nine if six don't read back or the float is subnormal. Each text was read back.
 fn float_digits(alloc: Global, bits: u32) -> Result<Bytes, Memory>
     requires { NotNanBits binary32 bits }
     ensures { IfOk result (λ text. parse_float binary32 text ≡ Some (from_bits binary32 bits)) }
@@ -55,7 +55,7 @@ fn float_digits(alloc: Global, bits: u32) -> Result<Bytes, Memory>
     long_float_digits(alloc, bits)
 }
 
-// Nine digits, or those of `ryu` where nine don't read back, which always do.
+// Nine digits, or those of `ryu`, which always read back, if nine don't.
 fn long_float_digits(alloc: Global, bits: u32) -> Result<Bytes, Memory>
     requires { NotNanBits binary32 bits }
     ensures { IfOk result (λ text. parse_float binary32 text ≡ Some (from_bits binary32 bits)) }
@@ -68,7 +68,7 @@ fn long_float_digits(alloc: Global, bits: u32) -> Result<Bytes, Memory>
     Bytes::from_slice(alloc, Buffer::new().format(float).as_bytes())
 }
 
-// Fifteen digits, or seventeen where fifteen don't read back.
+// Fifteen digits, or seventeen if fifteen don't read back.
 fn double_digits(alloc: Global, bits: u64) -> Result<Bytes, Memory>
     requires { NotNanBits binary64 bits }
     ensures { IfOk result (λ text. parse_float binary64 text ≡ Some (from_bits binary64 bits)) }
@@ -113,7 +113,7 @@ fn seventeen_digits(alloc: Global, double: f64) -> Result<Bytes, Memory> {
     general(alloc, text.as_bytes(), 17)
 }
 
-// Whether a text is read as the float with these bits.
+// Whether a text reads back as the float with these bits.
 fn reads_as_float(text: &[u8], bits: u32) -> bool
     ensures { IsTrue result → parse_float binary32 text.now ≡ Some (from_bits binary32 bits) }
 {

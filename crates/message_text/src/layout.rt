@@ -1,16 +1,16 @@
-//! How the digits of a float are laid out: as C's `%g` does, which protoc uses. What stands here is read back before it is
-//! shown, so that nothing rests on it but how a float looks.
+//! The layout of a float's digits, as C's `%g` has it, which protoc uses. Each text is read back before use,
+//! so that only the look of a float depends on this module.
 
 use mrpc_table::{Bytes, Decimal, Memory, cut, number_of};
 use std::alloc::Global;
 
 const MINUS: &[u8] = b"-";
 
-// How many places behind the point a number below 1 begins at the most, without an exponent.
+// The largest x for which a number `d.ddde-x` is written without an exponent.
 const PLACES: u64 = 4;
 
-// The layout of a number that is given as `-d.ddde-x`, in so many digits at the most. Zeros at its end fall away, and an
-// exponent stands where the point would be far off. Another text stays as it is.
+// The layout of a number that is given as `-d.ddde-x`, in at most `digits` digits. Trailing zeros are
+// dropped, and an exponent is used if the point would be far off. Any other text is returned as it is.
 pub(crate) fn general(alloc: Global, text: &[u8], digits: u64) -> Result<Bytes, Memory> {
     let mut out = Bytes::new(alloc);
     put_general(alloc, &mut out, text, digits)?;
@@ -28,7 +28,7 @@ fn put_general(alloc: Global, out: &mut Bytes, text: &[u8], digits: u64) -> Resu
     }
 }
 
-// Appends the sign of a number, where it has one, and gives what stands behind it.
+// Appends the sign of a number, if it has one, and returns what follows it.
 fn put_sign<'a>(out: &mut Bytes, number: &'a [u8]) -> Result<&'a [u8], Memory> {
     match number.strip_prefix(MINUS) {
         Some(unsigned) => {
@@ -55,7 +55,7 @@ fn put_digits(out: &mut Bytes, text: &[u8]) -> Result<(), Memory> {
     Ok(())
 }
 
-// Digits without the zeros at their end; the first one stays.
+// Digits without their trailing zeros; the first digit stays.
 fn without_zeros(digits: &[u8]) -> &[u8] {
     let mut end = digits.len();
     while end > 1 && digits[end - 1] == b'0' {
@@ -72,7 +72,7 @@ fn put_shown(out: &mut Bytes, digits: &[u8], power: &[u8], most: u64) -> Result<
     }
 }
 
-// The number that a word spells; 0 where it spells none.
+// The number that a word spells; 0 if it spells none.
 fn small(word: &[u8]) -> u64 {
     match number_of(word) {
         Some(Decimal::Small(number)) => number,
@@ -80,7 +80,7 @@ fn small(word: &[u8]) -> u64 {
     }
 }
 
-// Appends a number below 1, whose first digit stands `power` places behind the point.
+// Appends a number below 1, whose first digit is `power` digits after the point.
 fn put_small(out: &mut Bytes, digits: &[u8], power: u64) -> Result<(), Memory> {
     if power > PLACES {
         return put_scientific(out, digits, b"e-", power);
@@ -90,7 +90,7 @@ fn put_small(out: &mut Bytes, digits: &[u8], power: u64) -> Result<(), Memory> {
     out.append(digits)
 }
 
-// Appends a number of at least 1, or 0, whose first digit stands `power` places in front of the last one before the
+// Appends a number of at least 1, or 0, whose first digit is `power` digits before the last one before the
 // point.
 fn put_large(out: &mut Bytes, digits: &[u8], power: u64, most: u64) -> Result<(), Memory> {
     if power >= most {
@@ -104,7 +104,7 @@ fn put_large(out: &mut Bytes, digits: &[u8], power: u64, most: u64) -> Result<()
     put_zeros(out, digits.len() as u64, whole)
 }
 
-// Appends the digits in front of a point and those behind it.
+// Appends the digits before a point and those after it.
 fn put_parts(out: &mut Bytes, parts: (&[u8], &[u8])) -> Result<(), Memory> {
     out.append(parts.0)?;
     out.append(b".")?;
@@ -126,7 +126,7 @@ fn put_scientific(out: &mut Bytes, digits: &[u8], letter: &[u8], power: u64) -> 
     put_exponent(out, power)
 }
 
-// Appends digits with a point behind the first one, where others follow.
+// Appends digits with a point after the first one, if there are others.
 fn put_mantissa(out: &mut Bytes, digits: &[u8]) -> Result<(), Memory> {
     if digits.len() < 2 {
         return out.append(digits);
@@ -134,7 +134,7 @@ fn put_mantissa(out: &mut Bytes, digits: &[u8]) -> Result<(), Memory> {
     put_parts(out, digits.split_at(1))
 }
 
-// Appends an exponent, which has two digits at the least.
+// Appends an exponent, of at least two digits.
 fn put_exponent(out: &mut Bytes, power: u64) -> Result<(), Memory> {
     if power >= 10 {
         return out.append_decimal(power);

@@ -1,13 +1,13 @@
 //! The text of a message: a tree in the text format of Protocol Buffers, as `protoc --decode` prints it.
 //!
-//! Fields stand by ascending number, each entry of a repeated field and of a map for itself, and the entries of a
-//! message between braces, two blanks further inside. An enum's value is shown by its name, and by its number where the
-//! enum has none for it. Strings and bytes are quoted, with an escape for each byte that isn't printable. Floats are
-//! shown in six digits, doubles in fifteen, or in nine and seventeen where fewer don't read back; subnormal floats are
-//! always shown in nine. `specs/Entries.antt` has the whole, `specs/Numbers.antt` numbers, and `specs/Escapes.antt`
-//! strings. The time is in proportion to the tree and the text. It stands on `mrpc_table`, on `itoa` and `ryu` for
-//! numbers, and on `fast_float`, which reads floats back. The layers above use one contract: what is appended is the text
-//! of the tree.
+//! Fields are in ascending order of their numbers. Each element of a repeated field and each pair of a map
+//! has an entry of its own. The entries of a message are between braces, indented by two more blanks. The
+//! text of an enum's value is its name, or its number if the enum has no name for it. Strings and bytes are
+//! quoted, with an escape for each byte that isn't printable. Floats have six digits and doubles fifteen, or
+//! nine and seventeen if fewer don't read back; subnormal floats always have nine. `specs/Entries.antt`
+//! defines the whole, `specs/Numbers.antt` numbers, and `specs/Escapes.antt` strings. The time is linear in
+//! the tree and the text. The crate uses `mrpc_table`, `itoa` and `ryu` for numbers, and `fast_float` to read
+//! floats back. Its one contract for the layers above: what is appended is the text of the tree.
 #![tactic(auto)]
 
 mod choices;

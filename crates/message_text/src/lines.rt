@@ -5,7 +5,7 @@ ghost use Rattle.message_text.specs.Lines.{indent, scalar_front, opening, closin
 
 use mrpc_table::{Bytes, Memory};
 
-// Inside one message more.
+// The depth inside one more message.
 pub(crate) fn deeper(deep: usize) -> Result<usize, Memory>
     ensures { IfOk result (λ inner. inner ≡ deep + 1) }
 {
@@ -15,7 +15,7 @@ pub(crate) fn deeper(deep: usize) -> Result<usize, Memory>
     }
 }
 
-// Appends what stands in front of the value of a scalar.
+// Appends what precedes the value of a scalar.
 pub(crate) fn put_scalar_front(out: &mut Bytes, name: &[u8], deep: usize) -> Result<(), Memory>
     ensures { OnOk result (out.new ≡ out.old ++ scalar_front deep name.now) }
 {
@@ -24,7 +24,7 @@ pub(crate) fn put_scalar_front(out: &mut Bytes, name: &[u8], deep: usize) -> Res
     out.append(b": ")
 }
 
-// Appends the line in front of the entries of a message.
+// Appends the line before the entries of a message.
 pub(crate) fn put_opening(out: &mut Bytes, name: &[u8], deep: usize) -> Result<(), Memory>
     ensures { OnOk result (out.new ≡ out.old ++ opening deep name.now) }
 {
@@ -33,7 +33,7 @@ pub(crate) fn put_opening(out: &mut Bytes, name: &[u8], deep: usize) -> Result<(
     out.append(b" {\n")
 }
 
-// Appends the line behind them.
+// Appends the line after them.
 pub(crate) fn put_closing(out: &mut Bytes, deep: usize) -> Result<(), Memory>
     ensures { OnOk result (out.new ≡ out.old ++ closing deep) }
 {
@@ -41,7 +41,7 @@ pub(crate) fn put_closing(out: &mut Bytes, deep: usize) -> Result<(), Memory>
     out.append(b"}\n")
 }
 
-// Appends two blanks for each message around.
+// Appends two blanks for each enclosing message.
 fn put_indent(out: &mut Bytes, deep: usize) -> Result<(), Memory>
     ensures { OnOk result (out.new ≡ out.old ++ indent deep) }
 {

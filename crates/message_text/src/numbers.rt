@@ -29,7 +29,7 @@ pub(crate) fn put_number(
     }
 }
 
-// Appends the text of a whole number or a truth value.
+// Appends the text of an integer or a boolean.
 fn put_whole(out: &mut Bytes, kind: Kind, word: u64) -> Result<(), Memory>
     ensures { OnOk result (out.new ≡ out.old ++ whole_text kind word) }
 {

@@ -1,4 +1,4 @@
-//! What a table says of a field.
+//! The declaration of a field in a table.
 
 ghost use Rattle.std.specs.Prelude.{◌≡◌, []};
 ghost use Rattle.mrpc_table.specs.Ascending.{FieldsAscend};
@@ -8,7 +8,7 @@ ghost use Rattle.message_text.specs.Entries.{name_at};
 
 use mrpc_table::{Field, Kind, Label, Table, find_field};
 
-// The fields of the message at a place of the table.
+// The fields of the message with this index in the table.
 pub(crate) fn fields_at(table: &Table, message: u32) -> &[Field]
     requires { IsValid table.now }
     ensures value { result.now ≡ fields_of table.now message }
@@ -25,8 +25,8 @@ pub(crate) struct Said<'a> {
     pub label: Label,
 }
 
-// What these fields say of a number, and the place where they say it. Trees and tables have their fields in one order,
-// so that the place at hand is tried first.
+// The declaration of a field number among these fields, and its index. Trees and tables have their fields in
+// the same order, so the index `hint` is tried first.
 pub(crate) fn said_near(fields: &[Field], number: u32, hint: usize) -> (Said<'_>, usize)
     requires { FieldsAscend fields.now }
     ensures name { result.0.name.now ≡ name_at fields.now number }
@@ -51,7 +51,7 @@ fn said_by(field: &Field) -> Said<'_>
     }
 }
 
-// No message has such a field; a number is shown without a name.
+// For a number that is no field of the message: its entry has no name.
 fn nothing_said() -> Said<'static>
     ensures name { result.name.now ≡ [] }
     ensures kind { result.kind ≡ Kind.Uint64 }

@@ -6,6 +6,6 @@ use Rattle.std.specs.declared.alloc.Global.{Global}
 abbrev pub Asks : List ℕ → Type 0
 Asks word = (word ≡ codes "--help") ⊎ (word ≡ codes "--version")
 
--- it is the only word
+-- that word is the only one
 abbrev pub AsksAlone : List (String Global) → Type 0
 AsksAlone words = (map string_bytes words ≡ codes "--help" ∷ []) ⊎ (map string_bytes words ≡ codes "--version" ∷ [])

@@ -1,4 +1,4 @@
-//! What was read, and the line of a fault that was written, kept for whoever says what stands against the input.
+//! What was read, and the line of a fault that was written, kept for the diagnostic.
 
 ghost use Rattle.std.specs.Prelude.{◌≡◌, ◌<◌, ◌≤◌, length, take};
 ghost use Rattle.std.specs.Io.KnownBytes.{Appends, Consumes, IsAtEnd, Keeps};
@@ -15,10 +15,10 @@ use std::io::Eprint;
 use std::time::Clock;
 use whole_input::CHUNK;
 
-// How the line of a fault begins.
+// How the line of a fault starts.
 const FAULT: &[u8] = b"fault ";
 
-// How long it is, at the most.
+// The most bytes of it.
 const LONGEST: usize = 64;
 
 // A source whose bytes are kept as they are read.
@@ -28,7 +28,7 @@ pub(crate) struct KeptSource<S: Source + Drop> {
     is_whole: bool,
 }
 
-// By hand, as of the sink below, so that a drop is one call where it is needed, and not a drop of each part.
+// Written by hand, like that of the sink below, so that a drop is one call, not a drop of each part.
 impl<S: Source + Drop> Drop for KeptSource<S> {
     fn drop(self) {
         let KeptSource {
@@ -40,7 +40,7 @@ impl<S: Source + Drop> Drop for KeptSource<S> {
 }
 
 impl<S: Source + Drop> KeptSource<S> {
-    // Nothing was read yet.
+    // A source of which nothing was read.
     pub(crate) fn new(alloc: Global, source: S) -> KeptSource<S> {
         KeptSource {
             source,
@@ -49,7 +49,7 @@ impl<S: Source + Drop> KeptSource<S> {
         }
     }
 
-    // All that was read; None where there was no memory to keep it.
+    // All that was read; `None` if it ran out of memory for it.
     pub(crate) fn kept(&self) -> Option<&[u8]> {
         if self.is_whole {
             Some(self.bytes.as_slice())
@@ -89,13 +89,13 @@ impl<S: Source + Drop> Source for KeptSource<S> {
     }
 }
 
-// A sink of which the line of a fault is kept, and the number of calls that a run tells of. The commands write a fault
-// in a piece of its own, and a run all that it tells. What is shown of the run is taken away before that.
+// A sink that keeps the line of a fault, and the number of calls in a run's report. The commands write a
+// fault in one write, and a run its whole report. The progress line is cleared before that.
 pub(crate) struct KeptSink<'r, R, K: Sink + Drop> {
     sink: K,
     alloc: Global,
     fault: Bytes,
-    // Whether the number of calls is looked for. In a replay it isn't, which writes each line by itself.
+    // Whether to look for the number of calls. Not in a replay, which writes each line by itself.
     counts: bool,
     calls: Option<u64>,
     progress: &'r Progress<'r, R>,
@@ -115,7 +115,7 @@ impl<'r, R, K: Sink + Drop> Drop for KeptSink<'r, R, K> {
 }
 
 impl<'r, R: Eprint + Clock, K: Sink + Drop> KeptSink<'r, R, K> {
-    // Nothing was written yet.
+    // A sink to which nothing was written.
     pub(crate) fn new(alloc: Global, sink: K, progress: &'r Progress<'r, R>) -> KeptSink<'r, R, K> {
         KeptSink {
             sink,
@@ -127,7 +127,7 @@ impl<'r, R: Eprint + Clock, K: Sink + Drop> KeptSink<'r, R, K> {
         }
     }
 
-    // From now on the number of calls is looked for in what is written.
+    // From now on it looks for the number of calls in what is written.
     pub(crate) fn look_for_calls(&mut self) {
         self.counts = true;
     }
@@ -156,12 +156,12 @@ impl<'r, R: Eprint + Clock, K: Sink + Drop> KeptSink<'r, R, K> {
 }
 
 impl<'r, R, K: Sink + Drop> KeptSink<'r, R, K> {
-    // The line of a fault that was written last; empty where there is none.
+    // The line of the fault that was written last; empty if there is none.
     pub(crate) fn fault(&self) -> &[u8] {
         self.fault.as_slice()
     }
 
-    // How many calls a run told of that was written.
+    // The number of calls in the report that was written.
     pub(crate) fn calls(&self) -> Option<u64> {
         self.calls
     }

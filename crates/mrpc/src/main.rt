@@ -1,9 +1,9 @@
-//! The program `mrpc`: the words of the command line, standard input, standard output, the file `mrpc.wire`, links over
-//! TCP and the clock handed to the top call, whose answer is the exit status.
+//! The program `mrpc`: it hands the words of the command line, standard input, standard output, the file
+//! `mrpc.wire`, links over TCP and the clock to the top call, and exits with the status that it returns.
 //!
-//! It stands on `system_io`, which makes a source, sinks and a clock of the system's, on `tcp_fabric` for the links and
-//! `link_tally` for the counts of their frames, on `mrpc_top`, which does all the work, and on `explain`, which says on
-//! standard error what stands against a faulty input.
+//! It uses `system_io` for the system's source, sinks and clock, `tcp_fabric` for the links, `link_tally` to
+//! count their frames, `mrpc_top`, which does all the work, and `explain`, which explains a faulty input on
+//! standard error.
 #![tactic(auto)]
 
 mod command_line;
@@ -37,10 +37,10 @@ use usage::{failure, usage};
 
 const VERSION: &str = "mrpc 0.1.0\n";
 
-// How many bytes of a line of the input are shown beside its fault.
+// The most bytes of an input line that a diagnostic quotes.
 const WIDTH: usize = 100;
 
-// What is said of a faulty input where there is no memory to say more.
+// The message for a faulty input when the diagnostic is out of memory.
 const SEE_FAULT: &str = "mrpc: the input has a fault, which the last line of the output names\n";
 
 fn main(rt: HostRuntime) -> ExitCode {
@@ -53,7 +53,7 @@ fn main(rt: HostRuntime) -> ExitCode {
     ExitCode::from(exit_status(&rt, &mut input, &mut out, &mut error, &progress))
 }
 
-// Does what the command line asks for, says how it ended, and gives its status.
+// Does what the command line asks for, prints how it ended, and returns its status.
 fn exit_status<R, S: Source + Drop, K: Sink + Drop, E: Sink>(
     rt: &R,
     input: &mut KeptSource<S>,
@@ -73,7 +73,7 @@ where
     }
 }
 
-// The same of these words.
+// Like `exit_status`, for these words.
 fn status_of<R, S: Source + Drop, K: Sink + Drop, E: Sink>(
     rt: &R,
     words: &Vec<String>,
@@ -104,7 +104,7 @@ where
     say_status(rt.alloc(), status, is_run.then_some(&fault), error)
 }
 
-// Says what stands against the input, which words are no command, or how many calls a run told of.
+// Prints the diagnostic of the input, or which words are no command, or the number of calls of a run.
 fn say_end<R: Eprint + Clock, S: Source + Drop, K: Sink + Drop, E: Sink>(
     alloc: Global,
     words: &[String],
@@ -126,7 +126,7 @@ fn say_end<R: Eprint + Clock, S: Source + Drop, K: Sink + Drop, E: Sink>(
     }
 }
 
-// Whether it is a run that the words name, if they name a command that sends.
+// Whether the words name a run rather than a replay, given that they name a command that sends.
 fn runs(words: &[String]) -> bool {
     match words.first() {
         Some(word) => word.as_str() != "replay",
@@ -134,8 +134,8 @@ fn runs(words: &[String]) -> bool {
     }
 }
 
-// Runs the command that the words name, with the file `mrpc.wire`, over links of 127.0.0.1, by the clock of the system, and
-// gives its status. The system's first refusal of a link is noted.
+// Runs the command that the words name, with the file `mrpc.wire`, over links of 127.0.0.1, by the clock of
+// the system, and returns its status. The system's first failure of a link is noted.
 fn run_words<R, S: Source, K: Sink>(
     rt: &R,
     words: &Vec<String>,
@@ -156,7 +156,7 @@ where
     run_counted(rt, words, input, out, fabric, progress)
 }
 
-// The same over links of a fabric, whose frames are counted.
+// Like `run_words`, over links of a fabric, whose frames are counted.
 fn run_counted<R, S: Source, K: Sink, F: Fabric + Drop>(
     rt: &R,
     words: &Vec<String>,
@@ -188,7 +188,7 @@ where
     )
 }
 
-// Writes on standard error what stands against the input. Where there is no memory for that, it says where to look.
+// Writes the diagnostic of the input to standard error. If it runs out of memory, writes where to look.
 fn tell<R, S: Source + Drop, K: Sink + Drop, E: Sink>(
     alloc: Global,
     word: &String,
@@ -205,14 +205,14 @@ fn tell<R, S: Source + Drop, K: Sink + Drop, E: Sink>(
     write_all(error, SEE_FAULT.as_bytes());
 }
 
-// Writes on standard error which words are no command. Where there is no memory for that, nothing is said.
+// Writes to standard error which words are no command. Writes nothing if it runs out of memory.
 fn say_words<E: Sink>(alloc: Global, words: &[String], error: &mut E) {
     if let Ok(line) = no_command(alloc, words) {
         write_all(error, line.as_slice());
     }
 }
 
-// Writes what the command line asks the program itself for, and gives the status.
+// Writes what the command line asks of the program itself, and returns the status.
 fn answer<K: Sink>(alloc: Global, asked: Asked, out: &mut K) -> u8 {
     let written = match asked {
         Asked::Version => write_all(out, VERSION.as_bytes()),
@@ -224,9 +224,9 @@ fn answer<K: Sink>(alloc: Global, asked: Asked, out: &mut K) -> u8 {
     if written { DONE } else { OUTPUT_FAILED }
 }
 
-// Writes on standard error why the command ended so: the usage text where the words are no command, and what failed, with
-// what the system said of a link of a run, where something did. Where that can't be written, nothing more is said. It
-// gives the status.
+// Writes to standard error why the command ended with this status: the usage text if the words are no
+// command, and what failed if something did, with the system's words for the failure of a run's link. If a
+// write fails, it writes no more. Returns the status.
 fn say_status<K: Sink>(alloc: Global, status: u8, run: Option<&SystemFault>, error: &mut K) -> u8 {
     if status == NO_COMMAND {
         if let Ok(text) = usage(alloc) {
@@ -243,7 +243,8 @@ fn say_status<K: Sink>(alloc: Global, status: u8, run: Option<&SystemFault>, err
     status
 }
 
-// Writes the system's words of the first refusal of a link. Where there is none, or no memory for them, nothing is said.
+// Writes the system's words for the first failure of a link. Writes nothing if there is none, or if it runs
+// out of memory.
 fn say_refusal<K: Sink>(alloc: Global, run: Option<&SystemFault>, error: &mut K) {
     let Some(fault) = run else {
         return;

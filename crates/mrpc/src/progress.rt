@@ -1,4 +1,4 @@
-//! What is shown of a run on a terminal.
+//! The progress of a run on a terminal.
 
 ghost use Rattle.std.specs.Prelude.{IsTrue};
 
@@ -9,25 +9,25 @@ use std::io::Eprint;
 use std::sync::atomic::{AtomicBool, AtomicU64, Ordering};
 use std::time::{Clock, Instant};
 
-// How often the line is written anew, in milliseconds.
+// The interval at which the line is rewritten, in milliseconds.
 const EVERY: u64 = 1000;
 
-// How a run goes, on standard error where that is a terminal: one line, which the worker writes anew that asks the gate
-// once it is due, and at the end a line that stays. Elsewhere nothing is shown.
+// The progress of a run, on standard error if that is a terminal: one line, rewritten by the worker that
+// calls the gate when it is due, and at the end a line that stays. Otherwise it prints nothing.
 pub(crate) struct Progress<'r, R> {
     rt: &'r R,
-    // None where the system told no time then.
+    // `None` if the system returned no time then.
     start: Option<Instant>,
     tally: Tally,
     is_shown: bool,
-    // When the first round began, where one did, and when the line is due.
+    // When the first round started, if one did, and when the line is due.
     began: AtomicU64,
     due: AtomicU64,
-    // Whether the line stands on the terminal.
+    // Whether the line is on the terminal.
     stands: AtomicBool,
 }
 
-// By hand, so that a drop is one call where it is needed, and not a drop of each part.
+// Written by hand, so that a drop is one call, not a drop of each part.
 impl<'r, R> Drop for Progress<'r, R> {
     fn drop(self) {
         let Progress {
@@ -42,11 +42,11 @@ impl<'r, R> Drop for Progress<'r, R> {
     }
 }
 
-// No round has begun.
+// No round has started.
 const NEVER: u64 = u64::MAX;
 
 impl<'r, R: Eprint + Clock> Progress<'r, R> {
-    // Of a run that hasn't begun.
+    // The progress of a run that hasn't started.
     pub(crate) fn new(
         rt: &'r R,
         alloc: Global,
@@ -63,7 +63,7 @@ impl<'r, R: Eprint + Clock> Progress<'r, R> {
         })
     }
 
-    // The milliseconds since then, or 0 where the system tells no time.
+    // The milliseconds since the start, or 0 if the system returns no time.
     fn now(&self) -> u64 {
         let Some(start) = self.start else {
             return 0;
@@ -74,12 +74,12 @@ impl<'r, R: Eprint + Clock> Progress<'r, R> {
         u64::try_from(passed.as_millis()).unwrap_or(u64::MAX)
     }
 
-    // Where the frames of the run are counted.
+    // The counters of the run's frames.
     pub(crate) fn tally(&self) -> &Tally {
         &self.tally
     }
 
-    // Writes the line, where it is due. Of several workers one does.
+    // Writes the line, if it is due. One of several workers does.
     fn show(&self) {
         let now = self.now();
         let due = self.due.load(Ordering::SeqCst);
@@ -107,14 +107,15 @@ impl<'r, R: Eprint + Clock> Progress<'r, R> {
         );
     }
 
-    // Takes the line away, where it stands, so that others can write on the terminal.
+    // Clears the line, if it is there, so that others can write to the terminal.
     pub(crate) fn clear(&self) {
         if self.stands.swap(false, Ordering::SeqCst) {
             let _written = eprint!(self.rt; "\r\x1b[K");
         }
     }
 
-    // Tells of a run that has ended how many calls there were, and how fast. Where nothing was run, nothing is told.
+    // Prints for a finished run how many calls there were, and how many per second. Prints nothing if nothing
+    // was run.
     pub(crate) fn close(&self, calls: u64) {
         let began = self.began.load(Ordering::SeqCst);
         let now = self.now();
@@ -132,7 +133,7 @@ impl<'r, R: Eprint + Clock> Progress<'r, R> {
     }
 }
 
-// How many come to a second, where so many come to so many milliseconds.
+// The number per second, given a count in some milliseconds.
 fn a_second(count: u64, millis: u64) -> u64 {
     match count.saturating_mul(1000).checked_div(millis) {
         Some(rate) => rate,

@@ -1,9 +1,9 @@
-//! How many calls a run tells of.
+//! The number of calls in a run's report.
 
 use memchr::memrchr;
 use mrpc_table::{Decimal, cut, is_word, number_of};
 
-// The number of calls that were taken, where the last line of a text is that of the counts of a run or of a drill.
+// The number of accepted calls, if the last line of a text has the counts of a run or of a drill.
 pub(crate) fn calls_told(text: &[u8]) -> Option<u64> {
     let (name, words) = cut(last_line(text), b' ')?;
     let counts = if is_word(name, b"totals") {

@@ -1,4 +1,4 @@
-//! What the program says on standard error.
+//! What the program prints on standard error.
 
 use clap::Command;
 use mrpc_top::{FABRIC_FAILED, INPUT_FAILED, NO_COMMAND, NO_MEMORY, OUTPUT_FAILED, WIRE_FAILED};
@@ -70,14 +70,14 @@ pub(crate) fn usage(alloc: Global) -> Result<String, AllocError> {
     program.render_help()
 }
 
-// What failed, and what to do about it; what the system says of it stands between, if it says anything.
+// What failed, and what to do about it; the system's words, if there are any, go between.
 #[derive(Clone, Copy)]
 pub(crate) struct Sentence {
     pub what: &'static str,
     pub advice: &'static str,
 }
 
-// What failed, of a run or of another command, for the statuses that say that something did.
+// What failed, in a run or in another command, for the statuses that report a failure.
 pub(crate) fn failure(status: u8, is_run: bool) -> Option<Sentence> {
     let (what, advice) = match status {
         NO_COMMAND => (

@@ -23,7 +23,7 @@ tickets-more n =
 abbrev IsMore : ℕ → Option (List ℕ) → Option (List ℕ) → Type 0
 IsMore n new old = IfSome new (λ tickets. IsSomeAnd old (λ before. tickets ≡ before ++ n ∷ []))
 
--- a counter below its last value tells the tickets, and one at it doesn't
+-- below its last value a counter determines its tickets, and at that value it doesn't
 tickets_told : (n : ℕ) → n < 2 ^ 64 - 1 → tickets_of n ≡ Some (range_with_len 0 n)
 unfolding tickets_of
 tickets_told n below = let test : nat_lt n (2 ^ 64 - 1) ≡ true = grind (arith, nat_tests) in cond-true (nat_lt n (2 ^ 64 - 1)) _ _ test
@@ -35,7 +35,7 @@ tickets_untold n least = let test : nat_lt n (2 ^ 64 - 1) ≡ false = grind (ari
 one_of : (n : ℕ) → (n + 1 < 2 ^ 64 - 1) ⊎ (2 ^ 64 - 1 ≤ n + 1)
 one_of n = grind arith
 
--- after one more draw the tickets are those of before and then this one, where they are told
+-- after one more draw the tickets are the earlier ones followed by this one, if they are known
 tickets_raised : (n : ℕ) → IsMore n (tickets_of (raised n)) (tickets_of n)
 tickets_raised n =
     elim (one_of n) [

@@ -1,4 +1,4 @@
--- Of races in order, those of loads up to a number and those past it.
+-- Races in order: those of loads up to a number, and those past it.
 use Rattle.std.proofs.Common.{◌≡◌, ◌<◌, ◌≤◌, ℕ, nat_lt, nat_le, List, [], ◌∷◌, ◌++◌, All, refl, ap, ◌∙◌, sym}
 use Rattle.std.proofs.Common.{append_assoc, length, subst, ◌+◌, arith, true, false}
 use Rattle.std.proofs.lemmas.Bool.{cond-true, cond-false}
@@ -15,7 +15,7 @@ pub races_past-due : (number : ℕ) (race : Race) (races : List Race) → race.l
 races_past-due number race races due =
     let test : nat_lt number race.load ≡ false = grind (arith, nat_tests) in cond-false (nat_lt number race.load) (race ∷ races_past number races) (races_past number races) test
 
--- where all races are of later loads, none is due
+-- if all races are of later loads, none is due
 pub races_up_to-none : (number : ℕ) (races : List Race) → All (λ race. number < race.load) races → races_up_to number races ≡ []
 races_up_to-none number [] later = refl
 races_up_to-none number (race ∷ races) later =

@@ -1,5 +1,5 @@
--- The word at a place after a list of stores: what one more store does, what stores elsewhere leave, and what the words
--- keep.
+-- The word at a place after a list of stores: what one more store changes, what stores elsewhere leave unchanged, and
+-- the invariant of the words.
 use Rattle.std.proofs.Common.{◌≡◌, ◌≢◌, ◌<◌, ℕ, nat_eq, true, false, List, [], ◌∷◌, ◌++◌, length, filter, map}
 use Rattle.std.proofs.Common.{replicate, set, get_or, arith, refl, sym, ap, ◌∙◌, subst, get_or-set_same}
 use Rattle.std.proofs.Common.{get_or-set_other, length-set, ⊎_elim}
@@ -27,13 +27,13 @@ pub word_after-nil : (place : ℕ) → word_after [] place ≡ 0
 unfolding word_after
 word_after-nil place = refl
 
--- stores behind others: the last of their values at the place, if they have one
+-- stores after others: the last of their values at the place, if they have one
 pub word_after-append : (stores more : List (ℕ × ℕ)) (place : ℕ) → word_after (stores ++ more) place ≡ last_or (word_after stores place) (values_at place more)
 unfolding word_after
 word_after-append stores more place =
     ap (last_or 0) (values_at-append place stores more) ∙ last_or-append 0 (values_at place stores) (values_at place more)
 
--- one more store is the place's word
+-- the word at a place is the value of the last store there
 pub word_after-same : (stores : List (ℕ × ℕ)) (place value : ℕ) → word_after (stores ++ (place, value) ∷ []) place ≡ value
 word_after-same stores place value =
     word_after-append stores ((place, value) ∷ []) place
@@ -46,7 +46,7 @@ word_after-other stores place value other apart =
     ∙ ap (λ kept. last_or (word_after stores other) (map (λ s. s.1) kept)) (let test : nat_eq place other ≡ false =
     grind (arith, nat_tests) in cond-false (nat_eq place other) ((place, value) ∷ []) [] test)
 
--- ---- the words that stand
+-- ---- the words stay those of the stores
 
 pub stands_at_first : (stores : List (ℕ × ℕ)) (words : List ℕ) (n : ℕ) → stores ≡ [] → words ≡ replicate n 0 → StandsAfter stores words
 stands_at_first stores words n none zeros = λ place inside.

@@ -1,4 +1,4 @@
--- What a listing leaves, whether it found memory or not.
+-- What listing a race leaves, out of memory or not.
 use Rattle.std.proofs.Common.{◌≡◌, ◌≤◌, ◌+◌, ℕ, nat_lt, nat_le, not, List, ◌∷◌, ◌++◌, All, length, length-append, arith, refl, ap, ◌∙◌, sym, subst}
 use Rattle.std.proofs.lemmas.Bool.Decides.{nat_tests}
 use Rattle.std.proofs.lemmas.List.Elements.{All-append, All-cons, All-filter}
@@ -25,7 +25,7 @@ All-races_with P races race one all =
     All-append P (races_up_to race.load races) (race ∷ races_past race.load races) (All-filter (λ (r : Race). nat_le r.load race.load) P races all)
     (All-cons P race (races_past race.load races) one (All-filter (λ (r : Race). nat_lt race.load r.load) P races all))
 
--- at most one race more waits, no more were listed than there are, and P still holds of each
+-- at most one more race is scheduled, no more were listed than there are, and P still holds of each
 pub record Lists (P : Race → Type 0) (old new : Waiting) : Type 0 where
   pub one_more : length new.races ≤ length old.races + 1
   pub listed : new.listed + length old.races ≤ old.listed + length new.races

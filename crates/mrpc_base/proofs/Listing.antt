@@ -1,4 +1,4 @@
--- The map of waiting races: by load, then by listing.
+-- The map of scheduled races: by load, then by listing.
 use Rattle.std.proofs.Common.{◌≡◌, ◌<◌, ◌≤◌, ◌+◌, ℕ, List, [], ◌∷◌, map, All, Some, arith, refl, sym, ap, ◌∙◌, subst, ⊎_elim}
 use Rattle.std.specs.Prelude.{slice_get}
 use Rattle.std.specs.List.{AllByRecursion}
@@ -64,7 +64,7 @@ listed_more (entry ∷ entries) load next store below =
     (All-cons P entry (insert_entry key_cmp entries (load, next) store) (omega arith) (listed_more entries load next store tail)))
     (cases_lt load entry.0.0)
 
--- keys behind a key are of no earlier load
+-- the keys after a key are of no earlier load
 later_loads : (number : ℕ) (key : ℕ × ℕ) (entries : List Entry) → number < key.0
     → AllByRecursion (λ k. key.0 ≤ k.0) (map (λ e. e.0) entries)
     → AllByRecursion (λ race. number < race.load) (map race_of entries)
@@ -112,7 +112,7 @@ from_keys : (key : ℕ × ℕ) (keys : List (ℕ × ℕ)) → AllByRecursion (Is
 from_keys key [] from = tt
 from_keys key (k ∷ keys) from = (le_from_not_gt key k from.0, from_keys key keys from.1)
 
--- where the first key is of a later load, all races are
+-- if the first key is of a later load, all races are
 pub none_due : (number : ℕ) (entries : List Entry) (key : ℕ × ℕ) → number < key.0
     → All (IsLeBy key_cmp key) (map (λ e. e.0) entries) → All (λ race. number < race.load) (map race_of entries)
 none_due number entries key later from =

@@ -4,7 +4,7 @@ use Rattle.mrpc_base.specs.Faults.{raised}
 use Rattle.mrpc_base.specs.Heap.{Race, word_after, stores_of, races_up_to, races_past, races_with}
 use Rattle.mrpc_base.specs.Reading.{given_count}
 
--- the last store counts, a store elsewhere doesn't, and a place without one is 0
+-- the last store counts, a store elsewhere doesn't, and a place without stores has 0
 last_counts : word_after ((2, 150) ∷ (3, 4) ∷ (2, 9) ∷ []) 2 ≡ 9
 unfolding word_after
 last_counts = refl

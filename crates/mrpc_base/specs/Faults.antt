@@ -1,16 +1,15 @@
--- Counts that rise by one and stand still at their last value.
+-- Counts that rise by one and saturate.
 use Rattle.std.specs.Prelude.{◌≡◌, ◌<◌, ◌⊎◌, ℕ, ◌+◌, ◌-◌, ◌^◌, ◌≤◌, min}
 
--- the count of a device's faults rose, or stands at its last value
+-- a device's count of failures rose, or has reached its last value
 abbrev pub Rose : ℕ → ℕ → Type 0
 Rose old new = (old < new) ⊎ (2 ^ 64 - 1 ≤ new)
 
--- a count after one more, or at its last value
+-- a count after one more, saturating at 2^64 - 1
 abbrev pub raised : ℕ → ℕ
 raised count = min (count + 1) (2 ^ 64 - 1)
 
--- a call that may fail has its cause: the count of faults rose where it failed, stays where it did not, and never
--- falls
+-- the cause of a failure is counted: the count of failures rises if the call failed, stays otherwise, and never falls
 pub record HasCause (failed : Type 0) (before now : ℕ) : Type 0 where
   pub rose : failed → Rose before now
   pub stays : (failed → ⊥) → now ≡ before

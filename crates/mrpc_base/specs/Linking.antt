@@ -1,4 +1,4 @@
--- What a send and a receive answer, and what a link in memory was handed and has left.
+-- The results of sends and receives, and the state of a link in memory.
 use Rattle.std.specs.Prelude.{◌≡◌, ℕ, Bool, List, [], ⊤, Option, IfSome}
 use Rattle.mrpc_base.specs.declared.link.Came.{Came}
 use Rattle.mrpc_base.specs.declared.link.Came.TheVariants.{Bytes, Idle, End, Failed, Memory}
@@ -19,15 +19,15 @@ OnNoneCame End P = P
 OnNoneCame Failed P = P
 OnNoneCame Memory P = P
 
--- no byte has come, where the bytes are told
+-- no byte was received, if the bytes are known
 abbrev pub TellsNone : Option (List ℕ) → Type 0
 TellsNone given = IfSome given (λ bytes. bytes ≡ [])
 
 -- a link in memory
 pub record Linking : Type 0 where
-  -- the frames that were handed over, in order
+  -- the frames that were sent, in order
   pub handed : List (List ℕ)
-  -- the bytes that came, and those that are left to come
+  -- the bytes that were received, and those that remain
   pub given : List ℕ
   pub left : List ℕ
   -- the most bytes that the first receive gives, the second, and so on; at 0 nothing is ready
@@ -35,10 +35,10 @@ pub record Linking : Type 0 where
   -- the numbers of the sends and of the receives that are to fail, each counted from 1
   pub failing_sends : List ℕ
   pub failing_receives : List ℕ
-  -- how many sends and receives there were, and how many of both failed; each stands still at 2^64 - 1
+  -- how many sends and receives there were, and how many of both failed; each saturates at 2^64 - 1
   pub sends : ℕ
   pub receives : ℕ
   pub faults : ℕ
-  -- whether a receive answered that the other side has finished, and whether the sending side was ended
+  -- whether a receive has returned `End`, and whether the sending side was closed
   pub ended : Bool
   pub finished : Bool

@@ -1,4 +1,4 @@
--- The code's own: the parts of a heap of plain words: the words with their stores, the races that wait, and the room
+-- The code's own: the parts of a heap of plain words: the words with their stores, the scheduled races, and the room
 -- for both.
 use Rattle.std.specs.Prelude.{◌≡◌, ◌<◌, ℕ, ◌+◌, ◌^◌, ◌≤◌, List, ◌∷◌, length, slice_index, All}
 use Rattle.mrpc_base.specs.Heap.{Race, word_after}
@@ -8,16 +8,16 @@ pub record Stored : Type 0 where
   pub size : ℕ
   pub stores : List (ℕ × ℕ)
 
--- each word is what the stores made it
+-- each word is the last value stored at its place
 abbrev pub StandsAfter : List (ℕ × ℕ) → List ℕ → Type 0
 StandsAfter stores words = (place : ℕ) → place < length words → slice_index words place ≡ word_after stores place
 
--- the races that wait, in the order in which they are made, and the number of the next listing
+-- the scheduled races, in the order in which they are made, and the number of the next listing
 pub record Waiting : Type 0 where
   pub races : List Race
   pub listed : ℕ
 
--- the race of an entry: a load and a number of listing, and a place and a value
+-- the race of an entry: a load and a number of listing, then a place and a value
 abbrev pub race_of : (ℕ × ℕ) × (ℕ × ℕ) → Race
 race_of entry = record { load = entry.0.0; place = entry.1.0; value = entry.1.1 }
 
@@ -25,20 +25,20 @@ race_of entry = record { load = entry.0.0; place = entry.1.0; value = entry.1.1 
 abbrev pub AreListedBelow : ℕ → List ((ℕ × ℕ) × (ℕ × ℕ)) → Type 0
 AreListedBelow next entries = All (λ entry. entry.0.1 < next) entries
 
--- the store of the first race, and the races behind it
+-- the store of the first race, and the races after it
 abbrev pub IsFirstRace : List Race → List Race → ℕ × ℕ → Type 0
 IsFirstRace old new store = (race : Race) × (old ≡ race ∷ new) × (store ≡ (race.place, race.value))
 
--- the same of a race of a load up to a number
+-- like `IsFirstRace`, for a race of a load up to a number
 abbrev pub IsFirstDue : ℕ → List Race → List Race → ℕ × ℕ → Type 0
 IsFirstDue number old new store = (race : Race) × (old ≡ race ∷ new) × (store ≡ (race.place, race.value))
     × (race.load ≤ number)
 
--- each load and each store that was promised room can still be counted, the stores of waiting races among them
+-- each load and store that has room can still be counted, the stores of scheduled races included
 pub record KeepsRoom (stored : Stored) (waiting : Waiting) (loads finished load_room store_room : ℕ) : Type 0 where
   pub begun : finished ≤ loads
   pub for_loads : loads + load_room < 2 ^ 64
   pub for_stores : length stored.stores + length waiting.races + store_room < 2 ^ 64
-  -- each race that was listed waits or is a store
+  -- each race that was listed is scheduled or is a store
   pub listed : waiting.listed ≤ length stored.stores + length waiting.races
   pub in_heap : All (λ race. race.place < stored.size) waiting.races

@@ -1,4 +1,4 @@
--- What a read answers, and what a source in memory has left.
+-- The results of reads, and the state of a source in memory.
 use Rattle.std.specs.Prelude.{ℕ, List, Option, None, Some, min, ⊤}
 use Rattle.mrpc_base.specs.declared.source.Got.{Got}
 use Rattle.mrpc_base.specs.declared.source.Got.TheVariants.{Bytes, End, Failed}
@@ -17,17 +17,17 @@ OnNoBytes Failed P = P
 
 -- a source in memory
 pub record Reading : Type 0 where
-  -- the bytes that are left
+  -- the bytes that remain
   pub left : List ℕ
   -- the most bytes that the first read gives, the second, and so on
   pub lengths : List ℕ
   -- the numbers of the reads that are to fail, counted from 1
   pub failing : List ℕ
-  -- how many reads there were, and how many failed; each stands still at 2^64 - 1
+  -- how many reads there were, and how many failed; each saturates at 2^64 - 1
   pub calls : ℕ
   pub faults : ℕ
 
--- the least of the length listed for a read, if one is, the buffer's length, and the number of bytes left
+-- the least of the length listed for a read, if there is one, the buffer's length, and the number of bytes that remain
 abbrev pub given_count : Option ℕ → ℕ → ℕ → ℕ
 given_count None room left = min room left
 given_count (Some most) room left = min most (min room left)

@@ -1,4 +1,4 @@
--- What a write answers, and what a sink in memory holds.
+-- The results of writes, and the state of a sink in memory.
 use Rattle.std.specs.Prelude.{ℕ, ◌<◌, List, length, take, Option, ⊤}
 use Rattle.std.specs.Io.KnownBytes.{Appends}
 use Rattle.mrpc_base.specs.declared.sink.Put.{Put}
@@ -9,7 +9,7 @@ abbrev pub OnTook : Put → (ℕ → Type 0) → Type 0
 OnTook (Took n) P = P n
 OnTook Failed P = ⊤
 
--- a front of the bytes was written, and not all of them
+-- a proper prefix of the bytes was written
 abbrev pub AppendsFront : Option (List ℕ) → Option (List ℕ) → List ℕ → Type 0
 AppendsFront old new bytes = (n : ℕ) × (n < length bytes) × Appends old new (take n bytes)
 
@@ -19,6 +19,6 @@ pub record Writing : Type 0 where
   pub written : List ℕ
   -- the numbers of the writes that are to fail, counted from 1
   pub failing : List ℕ
-  -- how many writes there were, and how many failed; each stands still at 2^64 - 1
+  -- how many writes there were, and how many failed; each saturates at 2^64 - 1
   pub calls : ℕ
   pub faults : ℕ

@@ -1,4 +1,4 @@
-//! The calls of a device in memory: how many there were, which are to fail, and how many failed.
+//! A call counter for devices in memory: how many calls there were, which are to fail, and how many failed.
 
 ghost use Rattle.std.specs.Prelude.{◌≡◌, ◌≤◌, ◌↔◌, Contains, IsPermutation, IsTrue};
 ghost use Rattle.mrpc_base.specs.Faults.{raised};
@@ -7,7 +7,7 @@ use std::marker::Model;
 
 #[derive(Drop)]
 pub(crate) struct Calls {
-    // In ascending order, so that a call is looked up by a binary search.
+    // In ascending order, for the binary search.
     failing: Vec<u64>,
     calls: u64,
     faults: u64,
@@ -25,7 +25,7 @@ impl Model for Calls {
 }
 
 impl Calls {
-    // No call yet. `failing` has the numbers of the calls that are to fail, in any order.
+    // A counter before any call. `failing` holds the numbers of the calls that are to fail, in any order.
     pub(crate) fn new(mut failing: Vec<u64>) -> Self
         ensures failing { IsPermutation failing.items result.failing }
         ensures calls { result.calls ≡ 0 }
@@ -51,7 +51,7 @@ impl Calls {
         self.faults
     }
 
-    // Counts a call, and says whether it is to fail.
+    // Counts a call, and returns whether it is to fail.
     pub(crate) fn next(&mut self) -> bool
         ensures calls { self.new.calls ≡ raised self.old.calls }
         ensures fails { IsTrue result ↔ Contains self.old.failing self.new.calls }

@@ -4,19 +4,19 @@ ghost use Rattle.std.specs.Prelude.{◌≡◌, ◌≤◌, ℕ};
 
 /// A clock. It cannot fail.
 pub trait Clock: Sync {
-    /// No moment is below it; 0 where the clock tells none.
+    /// A lower bound of all timestamps; 0 if the clock promises none.
     ghost least: { Self → ℕ };
 
-    /// The moments that it may give.
+    /// The timestamps that it may return.
     ghost gives: { Self → ℕ → Type 0 };
 
-    /// The moment, in milliseconds.
+    /// The timestamp, in milliseconds.
     fn now(&self) -> u64
         ensures least { least self.now ≤ result }
         ensures gives { gives self.now result };
 }
 
-/// A clock that stands still at a moment, in milliseconds.
+/// A clock that always returns the same timestamp, in milliseconds.
 #[derive(Clone, Copy)]
 pub struct FixedClock(pub u64);
 

@@ -11,29 +11,29 @@ use crate::Link;
 pub enum OpenFault {
     /// The fabric failed.
     Failed,
-    /// No memory was found.
+    /// Out of memory.
     Memory,
 }
 
-/// Where the links between connections come from, and where they go back to.
+/// Opens the links between connections, and takes them back afterwards.
 pub trait Fabric {
     /// One end of a connection's link.
     type L: Link + Send + Drop;
 
-    /// The links that it has back, each with its connection; their order says nothing.
+    /// The links that were returned, each with its connection number. Their order has no meaning.
     ghost back: { Self → List (ℕ × Self.L) };
 
-    /// How many ends it opened that it doesn't have back.
+    /// How many opened ends were not returned yet.
     ghost away: { Self → ℕ };
 
-    /// A count that rises where an opening fails, and stands still at 2^64 - 1.
+    /// A count that rises when an opening fails. It saturates at 2^64 - 1.
     ghost faults: { Self → ℕ };
 
-    /// That two ends are those of one link, whatever they have done since.
+    /// Two ends belong to one link, whatever calls they have had since.
     ghost pair: { Self.L → Self.L → Type 0 };
 
-    /// Opens the link between connections `a` and `b`, and gives the end of each. It makes the room that `keep` of
-    /// both ends needs.
+    /// Opens the link between connections `a` and `b`, and returns their two ends. It reserves the memory that `keep`
+    /// needs for both.
     fn open_pair(&mut self, a: u32, b: u32) -> Result<(Self::L, Self::L), OpenFault>
         ensures pair { IfOk result (λ ends. pair ends.0 ends.1) }
         ensures handed { IfOk result (λ ends. (Self.L.handed ends.0 ≡ []) × (Self.L.handed ends.1 ≡ [])) }
@@ -45,7 +45,7 @@ pub trait Fabric {
         ensures back { back self.new ≡ back self.old }
         ensures cause { HasCause (IsErrOf result OpenFault.Failed) (faults self.old) (faults self.new) };
 
-    /// Takes back an end, as that of connection `conn`, while some end that it opened is away. It takes no memory.
+    /// Takes back an end, as that of connection `conn`, while some opened end is still away. It allocates nothing.
     fn keep(&mut self, conn: u32, link: Self::L)
         requires opened { 0 < away self.old }
 
@@ -53,6 +53,6 @@ pub trait Fabric {
         ensures away { away self.new + 1 ≡ away self.old }
         ensures same_faults { faults self.new ≡ faults self.old };
 
-    /// Two ends of one link stay so, whatever each does.
+    /// Two ends of one link remain so after any calls on either.
     ghost stays_pair: { (a b c d : Self.L) → pair a b → Self.L.since a c → Self.L.since b d → pair c d };
 }

@@ -1,8 +1,8 @@
-//! Gates, which let workers through.
+//! Gates, which decide whether a worker may proceed.
 
 ghost use Rattle.std.specs.Prelude.{IsTrue};
 
-/// Whether a worker may give a connection a round. No clause says which answer comes.
+/// Decides whether a worker may give a connection a round. No clause restricts the decision.
 pub trait Gate: Sync {
     /// Whether connection `conn` may have a round now.
     fn open(&self, conn: u32) -> bool;

@@ -1,13 +1,14 @@
-//! What lies outside the service, as traits: where bytes come from ([`Source`]), where they go ([`Sink`]), a
-//! connection with a peer ([`Link`]) and what opens such connections ([`Fabric`]), the words of a shared heap as its
-//! reader loads them ([`Words`]) and as its writer stores them ([`Stores`]), the tickets of quotas ([`Tickets`]), a
-//! clock ([`Clock`]), and what the workers of a run ask ([`Gate`], [`ReadyOrder`]). It stands on no other crate. Each
-//! trait but the fabric has an object in memory, for tests and for replays. [`write_all`] writes bytes whole to any
-//! sink, however few it takes at a time.
+//! The environment of the service as traits, independent of every other crate of the project.
 //!
-//! Each trait of a device has a count of its faults, which never falls. A call answers `Failed` only where that
-//! count rose in that call, or stands at 2^64 - 1, its last value; any other answer leaves the count. So a layer
-//! above shows that it reports a fault only where there was one.
+//! A [`Source`] gives bytes and a [`Sink`] takes them. A [`Link`] connects to a peer, and a [`Fabric`] opens such
+//! links. [`Words`] is a shared heap as its reader loads it, and [`Stores`] as its writer stores to it. [`Tickets`]
+//! draws from quotas, [`Clock`] returns the time, and the workers of a run ask [`Gate`] and [`ReadyOrder`]. Each trait
+//! but the fabric has an implementation in memory, for tests and replays. [`write_all`] writes all bytes to a sink that
+//! may take fewer at a time.
+//!
+//! Each trait of a device counts its failures, and the count never falls. A call returns `Failed` only if the count
+//! rose in that call or has reached 2^64 - 1, its last value. Any other result leaves the count as it was. So a layer
+//! above can prove that it reports a failure only after a device failed.
 #![tactic(auto)]
 
 mod calls;

@@ -5,62 +5,62 @@ ghost use Rattle.std.specs.Io.KnownBytes.{Appends, Keeps};
 ghost use Rattle.mrpc_base.specs.Faults.{HasCause};
 ghost use Rattle.mrpc_base.specs.Linking.{OnCame, OnNoneCame};
 
-/// What a send answers.
+/// The result of a send.
 #[derive(Clone, Copy, PartialEq, Eq)]
 pub enum Handed {
-    /// The frame was handed over, whole.
+    /// The whole frame was sent.
     Done,
-    /// The link failed, and the frame was not handed over whole.
+    /// The link failed, and did not send the whole frame.
     Failed,
-    /// No memory was found, and the frame was not handed over.
+    /// Out of memory; the frame was not sent.
     Memory,
 }
 
-/// What a receive answers.
+/// The result of a receive.
 #[derive(Clone, Copy, PartialEq, Eq)]
 pub enum Came {
-    /// So many bytes, from 1 to the buffer's length, stand at the buffer's start.
+    /// This many bytes, from 1 to the buffer's length, were written to the start of the buffer.
     Bytes(usize),
-    /// Nothing was ready, as far as the link tells (`nothing_ready`).
+    /// Nothing was ready; `nothing_ready` is what the link promises then.
     Idle,
-    /// The other side has finished, as far as the link tells (`peer_finished`).
+    /// The peer has finished; `peer_finished` is what the link promises then.
     End,
-    /// The link failed, and took nothing of what is left.
+    /// The link failed, and consumed none of the remaining bytes.
     Failed,
-    /// No memory was found, and nothing of what is left was taken.
+    /// Out of memory; none of the remaining bytes were consumed.
     Memory,
 }
 
-/// A connection with a peer: frames go out, and bytes come in.
+/// A connection with a peer: it sends frames, and receives bytes.
 pub trait Link {
-    /// The frames that were handed over, in order.
+    /// The frames that were sent, in order.
     ghost handed: { Self → List (List ℕ) };
 
-    /// The bytes that came, where the link tells them.
+    /// The bytes that were received; `None` if the link doesn't reveal them.
     ghost given: { Self → Option (List ℕ) };
 
-    /// Whether it has answered that the other side has finished.
+    /// Whether a receive has returned `End`.
     ghost ended: { Self → Bool };
 
-    /// What an answer that nothing was ready tells of the link before and after the call.
+    /// What `Idle` implies about the link before and after the call.
     ghost nothing_ready: { Self → Self → Type 0 };
 
-    /// What an answer that the other side has finished tells of the link before and after the call.
+    /// What `End` implies about the link before and after the call.
     ghost peer_finished: { Self → Self → Type 0 };
 
-    /// A count that rises where a send or a receive fails, and stands still at 2^64 - 1.
+    /// A count that rises when a send or a receive fails. It saturates at 2^64 - 1.
     ghost faults: { Self → ℕ };
 
-    /// That the second is the first, later on: whatever a link was once, each call leaves it so.
+    /// `since first later`: `later` is a later state of the link `first`. Every call preserves it.
     ghost since: { Self → Self → Type 0 };
 
-    /// It is itself, later on.
+    /// Each link is a later state of itself.
     ghost itself: { (link : Self) → since link link };
 
-    /// What a failed send of a frame tells of the link before and after the call.
+    /// What a failed send of a frame implies about the link before and after the call.
     ghost refused: { Self → List ℕ → Self → Type 0 };
 
-    /// Hands a frame over.
+    /// Sends a frame.
     fn send(&mut self, frame: &[u8]) -> Handed
         ensures appended { result ≡ Handed.Done → handed self.new ≡ handed self.old ++ frame.now ∷ [] }
         ensures kept { result ≢ Handed.Done → handed self.new ≡ handed self.old }
@@ -71,22 +71,22 @@ pub trait Link {
 
         ensures cause { HasCause (result ≡ Handed.Failed) (faults self.old) (faults self.new) };
 
-    /// Whether it can be handed so many frames without a wait for room. A link that can't tell answers true, as each does
-    /// that doesn't say otherwise. Nothing is claimed of the answer.
+    /// Whether this many frames can be sent without waiting for room. The default returns true. No clause depends on
+    /// the result.
     fn has_room(&mut self, _frames: usize) -> bool
         ensures same { self.new ≡ self.old }
     {
         true
     }
 
-    /// Receives the next bytes into the start of `buf`. What it leaves behind them is open.
+    /// Receives the next bytes into the start of `buf`. The bytes of `buf` after them are unspecified.
     fn receive(&mut self, buf: &mut [u8]) -> Came
         requires room { 0 < length buf.old }
 
         ensures count { OnCame result (λ n. (0 < n) × (n ≤ length buf.old)) }
         ensures appended { OnCame result (λ n. Appends (given self.old) (given self.new) (take n buf.new)) }
         ensures kept { OnNoneCame result (Keeps (given self.old) (given self.new)) }
-        // A link that doesn't tell its bytes doesn't begin to later.
+        // A link that doesn't reveal its bytes never begins to.
         ensures silent { given self.old ≡ None → given self.new ≡ None }
         ensures ends { result ≡ Came.End → IsTrue (ended self.new) }
         ensures same_ended { result ≢ Came.End → ended self.new ≡ ended self.old }
@@ -98,7 +98,7 @@ pub trait Link {
 
         ensures cause { HasCause (result ≡ Came.Failed) (faults self.old) (faults self.new) };
 
-    /// Ends the sending side, which cannot be refused.
+    /// Closes the sending side. This cannot fail.
     fn finish(&mut self)
         ensures same_handed { handed self.new ≡ handed self.old }
         ensures same_given { given self.new ≡ given self.old }

@@ -1,5 +1,4 @@
-//! The loads or the stores that were made. Only contracts read their list, and it takes no bytes: code has how many
-//! they are.
+//! The loads or stores made so far. Only contracts read the list itself, which takes no memory; code has its length.
 
 ghost use Rattle.std.specs.Prelude.{◌≡◌, ◌<◌, ◌-◌, ◌^◌, List, [], ◌∷◌, ◌++◌, ℕ, length};
 ghost use Rattle.std.specs.Borrow.{ftrue};
@@ -13,7 +12,7 @@ pub(crate) struct Access {
     pub value: u64,
 }
 
-// The place and the value of each, in order.
+// The place and the value of each access, in order.
 #[derive(Drop)]
 pub(crate) struct Accesses {
     pub ghost list: { List (ℕ × ℕ) },
@@ -24,14 +23,14 @@ impl Model for Accesses {
 }
 
 impl Accesses {
-    // None was made.
+    // The empty list.
     pub(crate) fn new() -> Accesses
         ensures { result.list ≡ [] }
     {
         Accesses {}
     }
 
-    // One more.
+    // The list with one more access.
     pub(crate) fn with(_before: &Accesses, _access: &Access) -> Accesses
         ensures { result.list ≡ _before.now.list ++ (_access.now.place, _access.now.value) ∷ [] }
     {
@@ -39,7 +38,7 @@ impl Accesses {
     }
 }
 
-// The loads, or the stores, that were made.
+// The loads, or the stores, so far, with their number.
 #[derive(Drop)]
 pub(crate) struct Log {
     accesses: Accesses,
@@ -55,7 +54,7 @@ impl Model for Log {
 }
 
 impl Log {
-    // None was made.
+    // The empty log.
     pub(crate) fn new() -> Log
         ensures { result ≡ [] }
     {

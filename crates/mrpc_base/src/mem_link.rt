@@ -12,9 +12,9 @@ use crate::{Came, Handed, Link};
 use std::alloc::Global;
 use std::marker::Model;
 
-/// A link in memory. Contracts see it as a `Linking`: the frames that were handed over, the bytes that came and
-/// those that are left, the lengths and the numbers of failing sends and receives that it was made with, how many
-/// sends and receives there were and failed, and whether either side has finished.
+/// A link in memory. Contracts see it as a `Linking`: the frames sent, the bytes received and those remaining, the
+/// lengths and the numbers of failing sends and receives that it was made with, how many sends and receives there were
+/// and failed, and whether either side has finished.
 #[derive(Drop)]
 pub struct MemLink {
     alloc: Global,
@@ -23,7 +23,7 @@ pub struct MemLink {
     lengths: Vec<usize>,
     sends: Calls,
     receives: Calls,
-    // Of both.
+    // Sends and receives together.
     faults: u64,
     ended: bool,
     finished: bool,
@@ -51,12 +51,12 @@ impl Model for MemLink {
 }
 
 impl MemLink {
-    /// A link to which nothing was handed, and which has the bytes `incoming` left to give.
+    /// A link that has sent nothing, and has the bytes `incoming` to receive.
     ///
-    /// The k-th receive gives at most the k-th of `lengths` bytes, and at 0 nothing is ready; a receive past that
-    /// list gives as many as the buffer takes. The send of each number in `failing_sends`, counted from 1, fails,
-    /// and so does the receive of each number in `failing_receives`. At a receive a listed failure counts first,
-    /// then that nothing is left, and then a listed length of 0.
+    /// The k-th receive gives at most the k-th of `lengths` bytes, and at length 0 nothing is ready. A receive past
+    /// that list fills the buffer as far as it can. The send of each number in `failing_sends`, counted from 1, fails,
+    /// and so does the receive of each number in `failing_receives`. A receive checks for a listed failure first, then
+    /// for the end of the bytes, and then for a listed length of 0.
     pub fn new(
         alloc: Global,
         incoming: Vec<u8>,
@@ -68,7 +68,7 @@ impl MemLink {
         ensures given { result.given ≡ [] }
         ensures left { result.left ≡ incoming.items }
         ensures lengths { result.lengths ≡ lengths.items }
-        // In ascending order, so that each call is looked up fast.
+        // In ascending order, for the binary search.
         ensures failing_sends { IsPermutation failing_sends.items result.failing_sends }
         ensures failing_receives { IsPermutation failing_receives.items result.failing_receives }
         ensures sends { result.sends ≡ 0 }
@@ -90,35 +90,35 @@ impl MemLink {
         }
     }
 
-    /// The frames that were handed over, in order.
+    /// The frames that were sent, in order.
     pub fn handed(&self) -> &[Vec<u8>]
         ensures { map (λ frame. frame.items) result.now ≡ self.now.handed }
     {
         &self.handed
     }
 
-    /// The bytes that are left to come.
+    /// The bytes that were not received yet.
     pub fn left(&self) -> &[u8]
         ensures { result.now ≡ self.now.left }
     {
         self.incoming.left()
     }
 
-    /// How many sends and receives failed; it stands still at 2^64 - 1.
+    /// How many sends and receives failed. It saturates at 2^64 - 1.
     pub fn faults(&self) -> u64
         ensures { result ≡ self.now.faults }
     {
         self.faults
     }
 
-    /// Whether a receive answered that the other side has finished.
+    /// Whether a receive has returned `End`.
     pub fn has_ended(&self) -> bool
         ensures { result ≡ self.now.ended }
     {
         self.ended
     }
 
-    /// Whether the sending side was ended.
+    /// Whether the sending side was closed.
     pub fn is_finished(&self) -> bool
         ensures { result ≡ self.now.finished }
     {
@@ -164,7 +164,7 @@ impl Link for MemLink {
 
     ghost faults = { λ l. l.faults };
 
-    // What it was made with stays.
+    // The lists that it was made with don't change.
     ghost since = { λ old new. (new.lengths ≡ old.lengths) × (new.failing_sends ≡ old.failing_sends)
         × (new.failing_receives ≡ old.failing_receives) };
 
@@ -172,18 +172,18 @@ impl Link for MemLink {
 
     ghost itself = { λ _. (refl, refl, refl) };
 
-    // Its number is listed, or the sending side was ended.
+    // The number of the send is listed, or the sending side was closed.
     ghost refused = { λ old _ new. Contains old.failing_sends new.sends ⊎ IsTrue old.finished };
 
     fn send(&mut self, frame: &[u8]) -> Handed
-        // A send fails exactly where its number is listed, or the sending side was ended.
+        // A send fails exactly if its number is listed, or the sending side was closed.
         ensures fails { (result ≡ Handed.Failed)
             ↔ (Contains self.old.failing_sends self.new.sends ⊎ IsTrue self.old.finished) }
 
         ensures appended { result ≡ Handed.Done → self.new.handed ≡ self.old.handed ++ frame.now ∷ [] }
         ensures kept { result ≢ Handed.Done → self.new.handed ≡ self.old.handed }
 
-        // What is counted, and what stays.
+        // The counts, and what is unchanged.
         ensures sends { self.new.sends ≡ raised self.old.sends }
         ensures faults { result ≡ Handed.Failed → self.new.faults ≡ raised self.old.faults }
         ensures cause { HasCause (result ≡ Handed.Failed) self.old.faults self.new.faults }
@@ -203,8 +203,8 @@ impl Link for MemLink {
     fn receive(&mut self, buf: &mut [u8]) -> Came
         requires room { 0 < length buf.old }
 
-        // A receive fails exactly where its number is listed. Otherwise it finds the end exactly where nothing is
-        // left, and where something is, nothing is ready exactly at a listed length of 0.
+        // A receive fails exactly if its number is listed. Otherwise it returns `End` exactly if no bytes remain, and
+        // `Idle` exactly if some remain and the listed length is 0.
         ensures fails { (result ≡ Came.Failed) ↔ Contains self.old.failing_receives self.new.receives }
         ensures end { (result ≡ Came.End) ↔ (self.old.left ≡ []) × (result ≢ Came.Failed) }
         ensures idle { (result ≡ Came.Idle) ↔ (slice_get self.old.lengths self.old.receives ≡ Some 0)
@@ -213,7 +213,7 @@ impl Link for MemLink {
         ensures exact { OnCame result (λ n.
             n ≡ given_count (slice_get self.old.lengths self.old.receives) (length buf.old) (length self.old.left)) }
 
-        // The bytes that come are the next ones.
+        // The bytes received are the next ones.
         ensures count { OnCame result (λ n. (0 < n) × (n ≤ length buf.old)) }
         ensures next { OnCame result (λ n. self.old.left ≡ take n buf.new ++ self.new.left) }
         ensures appended { OnCame result (λ n. self.new.given ≡ self.old.given ++ take n buf.new) }
@@ -221,7 +221,7 @@ impl Link for MemLink {
         ensures kept { OnNoneCame result ((self.new.left ≡ self.old.left) × (self.new.given ≡ self.old.given)) }
         ensures untouched { OnNoneCame result (buf.new ≡ buf.old) }
 
-        // What is counted, and what stays.
+        // The counts, and what is unchanged.
         ensures ends { result ≡ Came.End → IsTrue self.new.ended }
         ensures same_ended { result ≢ Came.End → self.new.ended ≡ self.old.ended }
         ensures receives { self.new.receives ≡ raised self.old.receives }

@@ -9,8 +9,8 @@ use crate::{Put, Sink};
 use std::alloc::Global;
 use std::marker::Model;
 
-/// A sink that keeps what is written in memory. Contracts see it as a `Writing`: the bytes that were written,
-/// the numbers of failing writes that it was made with, and how many writes there were and failed.
+/// A sink that keeps what is written in memory. Contracts see it as a `Writing`: the bytes written, the numbers of
+/// failing writes that it was made with, and how many writes there were and failed.
 #[derive(Drop)]
 pub struct MemSink {
     written: Vec<u8>,
@@ -34,7 +34,7 @@ impl MemSink {
     /// A sink to which nothing was written. The write of each number in `failing`, counted from 1, fails.
     pub fn new(alloc: Global, failing: Vec<u64>) -> Self
         ensures written { result.written ≡ [] }
-        // In ascending order, so that each write is looked up fast.
+        // In ascending order, for the binary search.
         ensures failing { IsPermutation failing.items result.failing }
         ensures calls { result.calls ≡ 0 }
         ensures faults { result.faults ≡ 0 }
@@ -52,14 +52,14 @@ impl MemSink {
         &self.written
     }
 
-    /// How many writes failed; it stands still at 2^64 - 1.
+    /// How many writes failed. It saturates at 2^64 - 1.
     pub fn faults(&self) -> u64
         ensures { result ≡ self.now.faults }
     {
         self.calls.faults()
     }
 
-    /// How many writes there were, with those that failed; it stands still at 2^64 - 1.
+    /// How many writes there were, failed ones included. It saturates at 2^64 - 1.
     pub fn calls(&self) -> u64
         ensures { result ≡ self.now.calls }
     {
@@ -77,16 +77,16 @@ impl Sink for MemSink {
     fn write(&mut self, piece: &[u8]) -> Put
         requires some { 0 < length piece.now }
 
-        // A write whose number is listed fails; so does one that finds no memory for its piece.
+        // A write whose number is listed fails, and so does one that is out of memory.
         ensures fails { Contains self.old.failing self.new.calls → result ≡ Put.Failed }
 
-        // A piece is taken whole.
+        // A successful write takes the whole piece.
         ensures count { OnTook result (λ n. (0 < n) × (n ≤ length piece.now)) }
         ensures whole { OnTook result (λ n. n ≡ length piece.now) }
         ensures appended { OnTook result (λ n. self.new.written ≡ self.old.written ++ take n piece.now) }
         ensures kept { result ≡ Put.Failed → self.new.written ≡ self.old.written }
 
-        // What stays, and what is counted.
+        // The counts, and what is unchanged.
         ensures failing { self.new.failing ≡ self.old.failing }
         ensures calls { self.new.calls ≡ raised self.old.calls }
         ensures faults { result ≡ Put.Failed → self.new.faults ≡ raised self.old.faults }

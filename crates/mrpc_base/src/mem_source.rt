@@ -9,8 +9,8 @@ use crate::supply::Supply;
 use crate::{Got, Source};
 use std::marker::Model;
 
-/// A source over bytes in memory. Contracts see it as a `Reading`: the bytes that are left, the lengths and
-/// the numbers of failing reads that it was made with, and how many reads there were and failed.
+/// A source over bytes in memory. Contracts see it as a `Reading`: the remaining bytes, the lengths and the numbers of
+/// failing reads that it was made with, and how many reads there were and failed.
 #[derive(Drop)]
 pub struct MemSource {
     supply: Supply,
@@ -35,14 +35,14 @@ impl Model for MemSource {
     ghost invariant = { λ s. All (λ most. 0 < most) s.lengths.items };
 }
 
-// The length listed for the read after so many, if one is.
+// The length listed for the read that follows `calls` reads, if there is one.
 pub(crate) fn listed_length(lengths: &[usize], calls: u64) -> Option<usize>
     ensures { result ≡ slice_get lengths.now calls }
 {
     lengths.get(calls as usize).copied()
 }
 
-// How many bytes a read gives, where `most` is the length listed for it, if one is.
+// How many bytes a read gives; `most` is the length listed for it, if there is one.
 pub(crate) fn count_to_give(most: Option<usize>, room: usize, left: usize) -> usize
     ensures { result ≡ given_count most room left }
 {
@@ -53,15 +53,15 @@ pub(crate) fn count_to_give(most: Option<usize>, room: usize, left: usize) -> us
 }
 
 impl MemSource {
-    /// A source that has these bytes left. The read of each number in `failing`, counted from 1, fails.
-    /// The k-th read gives at most the k-th of `lengths` bytes, each at least 1; a read past that list
-    /// gives as many as the buffer takes.
+    /// A source with these bytes to read. The read of each number in `failing`, counted from 1, fails. The k-th read
+    /// gives at most the k-th of `lengths` bytes, each at least 1. A read past that list fills the buffer as far as it
+    /// can.
     pub fn new(bytes: Vec<u8>, failing: Vec<u64>, lengths: Vec<usize>) -> Self
         requires { All (λ most. 0 < most) lengths.items }
 
         ensures left { result.left ≡ bytes.items }
         ensures lengths { result.lengths ≡ lengths.items }
-        // In ascending order, so that each read is looked up fast.
+        // In ascending order, for the binary search.
         ensures failing { IsPermutation failing.items result.failing }
         ensures calls { result.calls ≡ 0 }
         ensures faults { result.faults ≡ 0 }
@@ -73,21 +73,21 @@ impl MemSource {
         }
     }
 
-    /// The bytes that are left.
+    /// The bytes that were not read yet.
     pub fn left(&self) -> &[u8]
         ensures { result.now ≡ self.now.left }
     {
         self.supply.left()
     }
 
-    /// How many reads failed; it stands still at 2^64 - 1.
+    /// How many reads failed. It saturates at 2^64 - 1.
     pub fn faults(&self) -> u64
         ensures { result ≡ self.now.faults }
     {
         self.calls.faults()
     }
 
-    /// How many reads there were, with those that failed or found nothing; it stands still at 2^64 - 1.
+    /// How many reads there were, including failed ones and those at the end. It saturates at 2^64 - 1.
     pub fn calls(&self) -> u64
         ensures { result ≡ self.now.calls }
     {
@@ -105,18 +105,18 @@ impl Source for MemSource {
     fn read(&mut self, buf: &mut [u8]) -> Got
         requires room { 0 < length buf.old }
 
-        // A read fails exactly where its number is listed, and finds the end exactly where nothing is left.
+        // A read fails exactly if its number is listed. Otherwise it returns `End` exactly if no bytes remain.
         ensures fails { (result ≡ Got.Failed) ↔ Contains self.old.failing self.new.calls }
         ensures ends { (result ≡ Got.End) ↔ (self.old.left ≡ []) × (result ≢ Got.Failed) }
         ensures exact { OnBytes result (λ n.
             n ≡ given_count (slice_get self.old.lengths self.old.calls) (length buf.old) (length self.old.left)) }
 
-        // The bytes that are given are the next ones.
+        // The bytes read are the next ones.
         ensures count { OnBytes result (λ n. (0 < n) × (n ≤ length buf.old)) }
         ensures next { OnBytes result (λ n. self.old.left ≡ take n buf.new ++ self.new.left) }
         ensures kept { OnNoBytes result (self.new.left ≡ self.old.left) }
 
-        // What stays, and what is counted.
+        // The counts, and what is unchanged.
         ensures behind { OnBytes result (λ n. drop n buf.new ≡ drop n buf.old) }
         ensures untouched { OnNoBytes result (buf.new ≡ buf.old) }
         ensures lengths { self.new.lengths ≡ self.old.lengths }

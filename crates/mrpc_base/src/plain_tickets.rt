@@ -1,4 +1,4 @@
-//! Quotas that one holder counts by itself.
+//! Quotas that a single holder counts.
 
 ghost use Rattle.std.specs.Prelude.{◌≡◌, ◌≢◌, ◌<◌, ◌≤◌, ◌⊎◌, ◌∷◌, [], ◌++◌, ℕ, IfOk, IfSome, IsSomeAnd};
 ghost use Rattle.mrpc_base.specs.Faults.{raised};
@@ -9,8 +9,8 @@ use crate::{Tickets, WINDOWS};
 use std::alloc::{AllocError, Global};
 use std::marker::Model;
 
-/// Quotas with one counter for each tenant and window. Tenants are numbered from 0. Contracts see them as
-/// `Counters`: how many tenants there are, and how many tickets were drawn of each in each window.
+/// Quotas with one counter for each tenant and window. Tenants are numbered from 0. Contracts see them as `Counters`:
+/// how many tenants there are, and how many tickets were drawn of each in each window.
 #[derive(Drop)]
 pub struct PlainTickets {
     counters: Vec<u64>,
@@ -30,7 +30,7 @@ impl Model for PlainTickets {
 }
 
 impl PlainTickets {
-    /// Quotas of `tenants` tenants, from which nothing was drawn.
+    /// Quotas of `tenants` tenants, with no tickets drawn.
     pub fn new(alloc: Global, tenants: u32) -> Result<PlainTickets, AllocError>
         ensures tenants { IfOk result (λ quotas. quotas.tenants ≡ tenants) }
         ensures undrawn { IfOk result (λ quotas. (tenant window : ℕ) → drawn_in quotas tenant window ≡ 0) }
@@ -41,7 +41,7 @@ impl PlainTickets {
         })
     }
 
-    // Counts a draw, and gives how many there were before.
+    // Counts a draw, and returns how many draws came before it.
     fn count(&mut self, tenant: u32, window: u64) -> u64
         requires known { tenant < self.old.tenants }
         requires window { window < WINDOWS }
@@ -73,7 +73,7 @@ impl Tickets for PlainTickets {
         requires known { tenant < self.old.tenants }
         requires window { window < WINDOWS }
 
-        // The ticket is the number of draws before; it stands still at 2^64 - 1.
+        // The ticket is the number of earlier draws, which saturates at 2^64 - 1.
         ensures ticket { result ≡ drawn_in self.old tenant window }
         ensures counted { drawn_in self.new tenant window ≡ raised (drawn_in self.old tenant window) }
         ensures drawn { IfSome (tickets_of (drawn_in self.new tenant window)) (λ tickets.

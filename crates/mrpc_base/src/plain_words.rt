@@ -10,15 +10,16 @@ use crate::{Room, Stores, Words};
 use std::alloc::{AllocError, Global};
 use std::marker::Model;
 
-// Room for so many stores is made at once, which takes no memory.
+// Room for stores is reserved in steps of this many, which allocates nothing.
 const ROOM_AT_ONCE: u64 = 1 << 16;
 
-/// The words of a heap in memory, which one holder loads and stores, and in which stores of others are played
-/// as races. Contracts see it as a `Heap`: its size, every load and every store so far, the races that wait, and
-/// for how many loads and stores there is room. It keeps the words alone, so loads and stores take no memory, and there
-/// is room for as many as can be counted.
+/// The words of a heap in memory. One holder loads and stores them, and races simulate the stores of others. Contracts
+/// see a `Heap`: its size, every load and store so far, the scheduled races, and for how many loads and stores there is
+/// room. It keeps only the words, so loads and stores allocate nothing, and there is room for as many as can be
+/// counted.
 ///
-/// A *submission* is a run of loads that ends with `finish_submission`; the first begins when the heap is opened.
+/// A *submission* is a run of loads that ends with `finish_submission`. The first submission starts when the heap is
+/// opened.
 #[derive(Drop)]
 pub struct PlainWords {
     words: StoredWords,
@@ -27,7 +28,7 @@ pub struct PlainWords {
     // How many loads earlier submissions made.
     finished: u64,
     load_room: u64,
-    // Beside the room that each waiting race took.
+    // In addition to the room that each scheduled race has reserved.
     store_room: u64,
 }
 
@@ -51,7 +52,7 @@ impl Model for PlainWords {
     ghost invariant = { λ h. KeepsRoom h.words h.races (length h.loads) h.finished h.load_room h.store_room };
 }
 
-// Whether so many stores can be counted besides those that were made and those of the races that wait.
+// Whether this many more stores can be counted, in addition to those made and those of the scheduled races.
 fn can_count(made: u64, waiting: u64, stores: u64) -> bool
     ensures { IsTrue result → made + waiting + stores < 2 ^ 64 }
 {
@@ -61,7 +62,7 @@ fn can_count(made: u64, waiting: u64, stores: u64) -> bool
     }
 }
 
-// Room for so many stores at least, and for some more where they can be counted, so that room is seldom made.
+// Room for at least this many stores. It returns more if they can be counted, so that room is seldom made.
 fn room_for(made: u64, waiting: u64, stores: u64) -> Option<u64>
     ensures enough { IfSome result (λ room. stores ≤ room) }
     ensures counted { IfSome result (λ room. made + waiting + room < 2 ^ 64) }
@@ -85,7 +86,7 @@ fn make_due(words: &mut StoredWords, races: &mut Races, number: u64)
     ensures races { races.new.races ≡ races_past number races.old.races }
     ensures size { words.new.size ≡ words.old.size }
     ensures listed { races.new.listed ≡ races.old.listed }
-    // Each race that was made is a store.
+    // Each race that was made is now a store.
     ensures counted { length words.new.stores + length races.new.races
         ≡ length words.old.stores + length races.old.races }
     ensures in_heap { All (λ race. race.place < words.new.size) races.new.races }
@@ -112,7 +113,7 @@ fn make_all(words: &mut StoredWords, races: &mut Races)
 }
 
 impl PlainWords {
-    /// Opens a heap of `words` words, which are all 0.
+    /// Opens a heap of `words` words, all 0.
     pub fn open(alloc: Global, words: u64) -> Result<PlainWords, AllocError>
         requires at_least { 4 ≤ words }
         requires at_most { words ≤ 65536 }
@@ -140,11 +141,11 @@ impl PlainWords {
         self.loads.len()
     }
 
-    /// Lists a store of `value` at `place` that is made right before the load `load` of this submission, counted
-    /// from 1, or at the submission's end where it has fewer loads. Races go by their loads, and those of one
-    /// load in the order of listing. A race that is listed after its load was made goes before the next load.
+    /// Schedules a store of `value` at `place` right before load number `load` of this submission, counted from 1. If
+    /// the submission has fewer loads, the store is made at its end. Races are made in the order of their loads, and
+    /// those of one load in the order of listing. A race that is listed after its load was made precedes the next load.
     ///
-    /// The race takes the room for its store here, and none of the room for other stores.
+    /// The race reserves the room for its store here, and uses none of the room for other stores.
     pub fn race(&mut self, load: u64, place: u64, value: u64) -> Room
         requires from_one { 1 ≤ load }
         requires not_first { 1 ≤ place }
@@ -168,8 +169,8 @@ impl PlainWords {
         self.races.list(load, place, value)
     }
 
-    /// Ends this submission: makes the races that are left, in order. The next load begins the next submission.
-    /// It takes no memory.
+    /// Ends this submission: makes the scheduled races, in order. The next load starts the next submission. It
+    /// allocates nothing.
     pub fn finish_submission(&mut self)
         ensures stores { self.new.stores ≡ self.old.stores ++ stores_of self.old.races }
         ensures races { self.new.races ≡ [] }
@@ -268,7 +269,7 @@ impl Stores for PlainWords {
 
     ghost room = { λ h. h.store_room };
 
-    // What its reader has done stays, and so do the races that are to come.
+    // The reader's loads and the scheduled races are unchanged.
     ghost since = { λ old new. (new.size ≡ old.size) × (new.loads ≡ old.loads) × (new.begun ≡ old.begun)
         × (new.races ≡ old.races) × (new.load_room ≡ old.load_room) };
 

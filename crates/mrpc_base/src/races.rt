@@ -1,4 +1,4 @@
-//! The races that wait for a submission's loads.
+//! The scheduled races of a submission's loads.
 
 ghost use Rattle.std.specs.Prelude.{◌≡◌, ◌<◌, ◌≤◌, ◌+◌, ◌-◌, ◌^◌, [], All, IfSome, IfNone, length};
 ghost use Rattle.mrpc_base.specs.Heap.{races_with};
@@ -9,12 +9,12 @@ use std::alloc::Global;
 use std::collections::BTreeMap;
 use std::marker::Model;
 
-// A store, and where it goes.
+// The place and the value of a store.
 type Store = (u64, u64);
 
 #[derive(Drop)]
 pub(crate) struct Races {
-    // By the number of the load, then by the number of the listing.
+    // Keyed by the number of the load, then by the number of the listing.
     waiting: BTreeMap<(u64, u64), Store>,
     // The number of the next listing.
     listed: u64,
@@ -32,7 +32,7 @@ impl Model for Races {
 }
 
 impl Races {
-    // None waits, and none was listed.
+    // No race is scheduled, and none was listed.
     pub(crate) fn new(alloc: Global) -> Self
         ensures races { result.races ≡ [] }
         ensures listed { result.listed ≡ 0 }
@@ -50,7 +50,7 @@ impl Races {
         self.waiting.len() as u64
     }
 
-    // Lists a race behind those of its load and of earlier loads.
+    // Lists a race after those of its load and of earlier loads.
     pub(crate) fn list(&mut self, load: u64, place: u64, value: u64) -> Room
         requires { self.old.listed < 2 ^ 64 - 1 }
         ensures made { result ≡ Room.Made
@@ -67,7 +67,7 @@ impl Races {
         }
     }
 
-    // Takes the store of the first race that waits, if there is one.
+    // Removes the first scheduled race, if there is one, and returns its store.
     pub(crate) fn take_first(&mut self) -> Option<Store>
         ensures first { IfSome result (IsFirstRace self.old.races self.new.races) }
         ensures none { IfNone result (self.old.races ≡ []) }
@@ -78,7 +78,7 @@ impl Races {
         Some(store)
     }
 
-    // Takes the store of the first race that waits, if it is of a load up to `number`.
+    // Removes the first scheduled race if it is of a load up to `number`, and returns its store.
     pub(crate) fn take_due(&mut self, number: u64) -> Option<Store>
         ensures first { IfSome result (IsFirstDue number self.old.races self.new.races) }
         ensures none { IfNone result (All (λ race. number < race.load) self.old.races) }

@@ -1,13 +1,13 @@
-//! In which order connections that are ready get their rounds.
+//! How many rounds a ready connection gets.
 
 ghost use Rattle.std.specs.Prelude.{◌≡◌, ℕ};
 
-/// How many rounds in a row a worker gives a connection that is ready.
+/// Decides how many rounds in a row a worker gives a connection that is ready.
 pub trait ReadyOrder: Sync {
-    /// The rounds that a connection gets, by its number and the rounds of credit that it kept.
+    /// The rounds that a connection gets, by its number and its unused credit in rounds.
     ghost grant_of: { Self → ℕ → ℕ → ℕ };
 
-    /// How many rounds in a row connection `conn` gets, which kept `kept` rounds of credit.
+    /// How many rounds in a row connection `conn` gets, with `kept` rounds of unused credit.
     fn grant(&self, conn: u32, kept: u64) -> u64
         ensures { result ≡ grant_of self.now conn kept };
 }

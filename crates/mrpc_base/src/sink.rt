@@ -1,28 +1,28 @@
-//! Sinks, which bytes are written to.
+//! Sinks, to which bytes are written.
 
 ghost use Rattle.std.specs.Prelude.{◌≡◌, ◌<◌, ◌≤◌, List, ℕ, Option, length, take};
 ghost use Rattle.std.specs.Io.KnownBytes.{Appends, Keeps};
 ghost use Rattle.mrpc_base.specs.Faults.{HasCause};
 ghost use Rattle.mrpc_base.specs.Writing.{OnTook};
 
-/// What a write answers.
+/// The result of a write.
 #[derive(Clone, Copy, PartialEq, Eq)]
 pub enum Put {
-    /// So many bytes, from 1 to the piece's length, were taken from the piece's start.
+    /// This many bytes, from 1 to the piece's length, were taken from the start of the piece.
     Took(usize),
-    /// The sink failed. One that takes nothing of a piece has failed.
+    /// The sink failed. Taking no bytes counts as a failure.
     Failed,
 }
 
-/// Where bytes go, a piece at a time.
+/// A sink of bytes, which are written a piece at a time.
 pub trait Sink {
-    /// What was written so far, where the sink tells it.
+    /// The bytes written so far; `None` if the sink doesn't reveal them.
     ghost written: { Self → Option (List ℕ) };
 
-    /// A count that rises where a write fails, and stands still at 2^64 - 1.
+    /// A count that rises when a write fails. It saturates at 2^64 - 1.
     ghost faults: { Self → ℕ };
 
-    /// Writes a piece from its start on, as much of it as the sink takes in one call.
+    /// Writes a prefix of a piece: as much as the sink takes in one call.
     fn write(&mut self, piece: &[u8]) -> Put
         requires some { 0 < length piece.now }
 

@@ -1,30 +1,30 @@
-//! Sources, which bytes are read from.
+//! Sources, from which bytes are read.
 
 ghost use Rattle.std.specs.Prelude.{◌≡◌, ◌<◌, ◌≤◌, List, ℕ, Option, length, take};
 ghost use Rattle.std.specs.Io.KnownBytes.{Consumes, IsAtEnd, Keeps};
 ghost use Rattle.mrpc_base.specs.Faults.{HasCause};
 ghost use Rattle.mrpc_base.specs.Reading.{OnBytes, OnNoBytes};
 
-/// What a read answers.
+/// The result of a read.
 #[derive(Clone, Copy, PartialEq, Eq)]
 pub enum Got {
-    /// So many bytes, from 1 to the buffer's length, stand at the buffer's start.
+    /// This many bytes, from 1 to the buffer's length, were written to the start of the buffer.
     Bytes(usize),
-    /// Nothing is left.
+    /// No bytes remain.
     End,
-    /// The source failed, and took nothing of what is left.
+    /// The source failed, and consumed none of the remaining bytes.
     Failed,
 }
 
-/// Where bytes come from, a piece at a time.
+/// A source of bytes, which are read a piece at a time.
 pub trait Source {
-    /// What is left to read, where the source tells it.
+    /// The bytes that remain to be read; `None` if the source doesn't reveal them.
     ghost left: { Self → Option (List ℕ) };
 
-    /// A count that rises where a read fails, and stands still at 2^64 - 1.
+    /// A count that rises when a read fails. It saturates at 2^64 - 1.
     ghost faults: { Self → ℕ };
 
-    /// Reads the next bytes into the start of `buf`. What it leaves behind them is open.
+    /// Reads the next bytes into the start of `buf`. The bytes of `buf` after them are unspecified.
     fn read(&mut self, buf: &mut [u8]) -> Got
         requires room { 0 < length buf.old }
 

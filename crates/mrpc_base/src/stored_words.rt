@@ -1,4 +1,4 @@
-//! The words of a heap beside the stores that made them what they are.
+//! The words of a heap, with the list of stores that produced them.
 
 ghost use Rattle.std.specs.Prelude.{◌≡◌, ◌<◌, ◌-◌, ◌^◌, [], ◌∷◌, ◌++◌, IfOk, length};
 ghost use Rattle.mrpc_base.specs.Heap.{word_after};

@@ -1,21 +1,21 @@
-//! The words of a heap, as its writer has them.
+//! The words of a heap, as its writer uses them.
 
 ghost use Rattle.std.specs.Prelude.{◌≡◌, ◌<◌, ◌≤◌, ◌+◌, ◌^◌, List, [], ◌∷◌, ◌++◌, ℕ, length};
 
 use crate::Room;
 
-/// The words of a heap, as its one writer stores them.
+/// The words of a heap, as its single writer stores them.
 pub trait Stores {
     /// How many words the heap has.
     ghost words: { Self → ℕ };
 
-    /// Every store so far, a place and a value, in order.
+    /// Every store so far, each a place and a value, in order.
     ghost stores: { Self → List (ℕ × ℕ) };
 
     /// For how many stores there is room.
     ghost room: { Self → ℕ };
 
-    /// That the second is the first, later on: whatever a heap was once, each call leaves it so.
+    /// `since first later`: `later` is a later state of the heap `first`. Every call preserves it.
     ghost since: { Self → Self → Type 0 };
 
     /// How many words the heap has.
@@ -36,7 +36,7 @@ pub trait Stores {
         ensures stores { stores self.new ≡ stores self.old }
         ensures same_heap { (first : Self) → since first self.old → since first self.new };
 
-    /// Stores `value` at `place`, which is counted from 0. Place 0 is never stored. It takes no memory.
+    /// Stores `value` at `place`, counted from 0. Place 0 is never stored. It allocates nothing.
     fn store(&mut self, place: u64, value: u64)
         requires not_first { 1 ≤ place }
         requires in_heap { place < words self.old }

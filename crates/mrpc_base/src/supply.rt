@@ -7,7 +7,7 @@ use std::marker::Model;
 #[derive(Drop)]
 pub(crate) struct Supply {
     bytes: Vec<u8>,
-    // How many bytes were given: none is moved.
+    // How many bytes were given. Giving bytes moves none of those that remain.
     given: usize,
 }
 
@@ -23,7 +23,7 @@ impl Model for Supply {
 }
 
 impl Supply {
-    // Nothing was given.
+    // No bytes were given yet.
     pub(crate) fn new(bytes: Vec<u8>) -> Self
         ensures given { result.given ≡ [] }
         ensures left { result.left ≡ bytes.items }
@@ -37,7 +37,7 @@ impl Supply {
         &self.bytes[self.given..]
     }
 
-    // Gives the next `count` bytes.
+    // Copies the next `count` bytes to the start of `buf`.
     pub(crate) fn give(&mut self, buf: &mut [u8], count: usize)
         requires room { count ≤ length buf.old }
         requires enough { count ≤ length self.old.left }

@@ -1,14 +1,14 @@
-//! The words of a heap, as its reader has them.
+//! The words of a heap, as its reader uses them.
 
 ghost use Rattle.std.specs.Prelude.{◌≡◌, ◌<◌, ◌≤◌, ◌+◌, List, [], ◌∷◌, ◌++◌, ℕ, Option, IfSome};
 ghost use Rattle.mrpc_base.specs.Heap.{Extends, word_after};
 
-/// Whether room was made.
+/// The result of making room.
 #[derive(Clone, Copy, PartialEq, Eq)]
 pub enum Room {
-    /// There is as much room as was asked for.
+    /// There is as much room as requested.
     Made,
-    /// No memory was found.
+    /// Out of memory.
     Memory,
 }
 
@@ -17,10 +17,10 @@ pub trait Words {
     /// How many words the heap has.
     ghost size: { Self → ℕ };
 
-    /// Every load so far, a place and a value, in order.
+    /// Every load so far, each a place and a value, in order.
     ghost loads: { Self → List (ℕ × ℕ) };
 
-    /// Every store so far, a place and a value, in order, where that is known.
+    /// Every store so far, each a place and a value, in order; `None` if unknown.
     ghost stores: { Self → Option (List (ℕ × ℕ)) };
 
     /// For how many loads there is room.
@@ -29,7 +29,7 @@ pub trait Words {
     /// What making room for loads may change.
     ghost after_room: { Self → Self → Type 0 };
 
-    /// What a load of a place that gives a value changes.
+    /// What a load of a value from a place changes.
     ghost after_load: { Self → ℕ → ℕ → Self → Type 0 };
 
     /// How many words the heap has.
@@ -47,7 +47,7 @@ pub trait Words {
         ensures stores { stores self.new ≡ stores self.old }
         ensures changes { after_room self.old self.new };
 
-    /// Loads the word at `place`, which is counted from 0. It takes no memory.
+    /// Loads the word at `place`, counted from 0. It allocates nothing.
     fn load(&mut self, place: u64) -> u64
         requires in_heap { place < size self.old }
         requires room { 0 < room self.old }
@@ -56,7 +56,7 @@ pub trait Words {
         ensures lowered { room self.old ≤ room self.new + 1 }
         ensures size { size self.new ≡ size self.old }
 
-        // Others may store before the load, and the word is that of all the stores before it.
+        // Others may store before the load, and the word reflects all the stores before it.
         ensures grows { Extends (stores self.old) (stores self.new) }
         ensures last { IfSome (stores self.new) (λ all. result ≡ word_after all place) }
         ensures changes { after_load self.old place result self.new };

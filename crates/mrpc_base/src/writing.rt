@@ -1,4 +1,4 @@
-//! Writing bytes whole, however few a sink takes at a time.
+//! Writing all bytes to a sink that may take fewer at a time.
 
 ghost use Rattle.std.specs.Prelude.{◌≡◌, ◌<◌, ◌≤◌, ℕ, length, take, IsTrue, true, false};
 ghost use Rattle.std.specs.Io.KnownBytes.{Appends};
@@ -7,8 +7,8 @@ ghost use Rattle.mrpc_base.specs.Writing.{AppendsFront};
 
 use crate::{Put, Sink};
 
-/// Writes all the bytes, and answers whether the sink took them. Each write is handed all that is left, so no
-/// bytes take no write. After a write that failed, a sink that tells its bytes has taken a front of them.
+/// Writes all the bytes, and returns whether the sink took them. Each write passes all the remaining bytes, so empty
+/// input makes no write. If a write fails, the sink has taken a proper prefix of the bytes, as far as it reveals them.
 pub fn write_all<K: Sink>(out: &mut K, bytes: &[u8]) -> bool
     ensures done { IsTrue result → Appends (K.written out.old) (K.written out.new) bytes.now }
     ensures front { result ≡ false → AppendsFront (K.written out.old) (K.written out.new) bytes.now }

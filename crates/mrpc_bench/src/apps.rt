@@ -1,10 +1,10 @@
-//! Has a client's calls echoed: a client, an echo and a plain service between them run in a thread each. It prints how
-//! many replies came, and the sum of their numbers. `bench/apps` times it.
+//! Has a client's calls echoed: a client, an echo and a plain service between them run in a thread each.
+//! Prints the number of replies, and the sum of their numbers. `bench/apps` times it.
 //!
 //!     mrpc_bench apps COUNT
 //!
-//! It measures `app_stub` and what that stands on. A count that is missing or out of range, from 0 to 500000, or running
-//! out of memory ends it with status 1.
+//! It measures `app_stub` and the crates below it. It ends with status 1 if the count is missing or out of
+//! its range, 0 to 500000, or if it runs out of memory.
 
 use crate::given::{count_of, table_of};
 use crate::lines::line_of;
@@ -17,7 +17,7 @@ use std::thread::Threads;
 // The table of the messages.
 const TABLE: &[u8] = b"message M\nfield 1 plain uint64 n\nmethod 0 S Get M M\n";
 
-// Has as many calls echoed as the words ask for, and gives what is printed of it.
+// Has as many calls echoed as the words ask for, and returns what to print.
 pub(crate) fn told<R>(rt: &R, alloc: Global, words: &[String]) -> Option<Bytes>
 where
     R: Threads + Wait + Sync,
@@ -26,7 +26,7 @@ where
     line_of(alloc, &[calls, numbers])
 }
 
-// What comes of so many calls, or none where there is no memory or the count is out of range.
+// The results of this number of calls; `None` if it runs out of memory or the count is out of range.
 fn echoed<R: Threads + Wait + Sync>(rt: &R, alloc: Global, count: u32) -> Option<Found> {
     if count > MAX_CALLS {
         return None;

@@ -1,14 +1,16 @@
-//! Works on a connection in one of three ways, and prints how many happenings and frames there were. `bench/conn` counts
-//! its instructions.
+//! Works on a connection in one of three ways, and prints the number of events and of frames. `bench/conn`
+//! counts its instructions.
 //!
 //!     mrpc_bench conn steps|calls|again CALLS ROUNDS
 //!
-//! The chain has four access policies of three rules, a rate and a count; a message has ten fields. `steps` lets CALLS
-//! calls stand behind the chain, from 1 to 64, and in each round attaches a policy in the middle, upgrades it, and
-//! detaches it. `again` lets them stand there, and in each round upgrades the first policy and has all of them judged
-//! again. `calls` accepts CALLS calls in each round, has them judged, and sends them.
+//! The chain has four access policies of three rules, a rate and a count policy; a message has ten fields.
+//! `steps` brings CALLS calls, 1 to 64, to the end of the chain, and in each round attaches a policy in the
+//! middle, upgrades it, and detaches it. `again` brings them there too, and in each round upgrades the first
+//! policy and has all of them judged again. `calls` accepts CALLS calls in each round, has them judged, and
+//! sends them.
 //!
-//! It measures `conn_core`. Words of no such form, a number that runs out, or memory that does, end it with status 1.
+//! It measures `conn_core`. It ends with status 1 if the words have another form, a number overflows, or it
+//! runs out of memory.
 
 ghost use Rattle.mrpc_table.specs.Valid.{IsValid};
 
@@ -28,7 +30,7 @@ enum Round {
     Again,
 }
 
-// What the words of the command line ask for.
+// The task that the words of the command line name.
 #[derive(Clone, Copy)]
 struct Task {
     round: Round,
@@ -36,14 +38,14 @@ struct Task {
     rounds: u32,
 }
 
-// What there was in the end.
+// The counts at the end.
 #[derive(Clone, Copy)]
 struct Done {
     happenings: usize,
     frames: usize,
 }
 
-// Does what the words ask for, and gives what is printed of it.
+// Does what the words ask for, and returns what to print.
 pub(crate) fn told(alloc: Global, words: &[String]) -> Option<Bytes> {
     let Done { happenings, frames } = carry_out(alloc, asked(words)?)?;
     line_of(alloc, &[happenings as u64, frames as u64])
@@ -63,7 +65,7 @@ fn task_of(round: &str, calls: &str, rounds: &str) -> Option<Task> {
     })
 }
 
-// What the words ask for; none where they have another form.
+// The task that the words name; `None` if they have another form.
 fn asked(words: &[String]) -> Option<Task> {
     match words {
         [round, calls, rounds, ..] => task_of(round.as_str(), calls.as_str(), rounds.as_str()),
@@ -71,7 +73,7 @@ fn asked(words: &[String]) -> Option<Task> {
     }
 }
 
-// What comes of a task; none where memory or a number runs out.
+// The result of a task; `None` if it runs out of memory or a number overflows.
 fn carry_out(alloc: Global, task: Task) -> Option<Done> {
     let table = table_of(alloc, TABLE)?;
     carry_out_on(alloc, &table, task)
@@ -97,7 +99,7 @@ fn do_all(work: &mut Work, task: Task) -> Option<()> {
     Some(())
 }
 
-// Lets the calls stand behind the chain, where a round doesn't send them.
+// Brings the calls to the end of the chain, unless a round sends them.
 fn prepare(work: &mut Work, task: Task) -> Option<()> {
     match task.round {
         Round::Calls => Some(()),

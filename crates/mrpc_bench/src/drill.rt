@@ -1,10 +1,10 @@
-//! Runs a drill over links in memory, by the clock of the system, and prints what its calls came to: how many were taken,
-//! sent and refused, and how many stand. `bench/run` times it.
+//! Runs a drill over links in memory, by the clock of the system, and prints the counts of its calls:
+//! accepted, sent, refused and pending. `bench/run` times it.
 //!
 //!     mrpc_bench drill COUNT
 //!
-//! It measures `scenario_run` and what that stands on. More calls than a drill may have, and a link that fails, end it
-//! with status 1.
+//! It measures `scenario_run` and the crates below it. It ends with status 1 if there are more calls than a
+//! drill may have, or a link fails.
 
 ghost use Rattle.run_plan.specs.Plans.{IsPlan};
 
@@ -24,7 +24,7 @@ use std::thread::Threads;
 use std::time::Clock;
 use system_io::SystemClock;
 
-// Runs a drill in which each client submits so many calls, and gives a line of its counts.
+// Runs a drill in which each client submits this number of calls, and returns a line of its counts.
 pub(crate) fn told<R>(rt: &R, alloc: Global, words: &[String]) -> Option<Bytes>
 where
     R: Threads + Wait + Sync + Clock,
@@ -47,7 +47,7 @@ where
     counted(rt, alloc, plan, MemFabric::new(rt, alloc, no_faults(alloc)))
 }
 
-// What the run of a plan over links of a fabric comes to; none where no memory was found or a link failed.
+// The counts of the run of a plan over links of a fabric; `None` if it runs out of memory or a link failed.
 fn counted<R, F>(rt: &R, alloc: Global, plan: &Plan, mut fabric: F) -> Option<Bytes>
 where
     R: Threads + Wait + Sync + Clock,

@@ -1,4 +1,4 @@
-//! What parts are given: words, counts, inputs and tables.
+//! The input of the parts: words, counts, inputs and tables.
 
 ghost use Rattle.std.specs.Prelude.{IfSome};
 ghost use Rattle.mrpc_table.specs.Valid.{IsValid};
@@ -8,7 +8,7 @@ use std::alloc::Global;
 use std::io::Read;
 use table_text::read_table;
 
-// What a word stands for in rows; none where no row has it.
+// The value of the row with this word; `None` if no row has it.
 pub(crate) fn named<T: Copy>(rows: &[(&str, T)], word: &str) -> Option<T> {
     for (name, meaning) in rows {
         if *name == word {
@@ -18,19 +18,19 @@ pub(crate) fn named<T: Copy>(rows: &[(&str, T)], word: &str) -> Option<T> {
     None
 }
 
-// The count that the first word says; none where there is no word, or it says none.
+// The count that the first word spells; `None` if there is no word, or it spells none.
 pub(crate) fn count_of(words: &[String]) -> Option<u32> {
     words.first()?.as_str().parse().ok()
 }
 
-// The whole of an input; none where a read failed, or no memory was found.
+// The whole of an input; `None` if a read failed, or it ran out of memory.
 pub(crate) fn text_of<I: Read>(alloc: Global, input: &mut I) -> Option<Vec<u8>> {
     let mut text = Vec::new(alloc);
     input.read_to_end(&mut text).ok()?;
     Some(text)
 }
 
-// The table of a text; none where it is at fault, or no memory was found.
+// The table of a text; `None` if it is at fault, or it ran out of memory.
 pub(crate) fn table_of(alloc: Global, text: &[u8]) -> Option<Table>
     ensures { IfSome result IsValid }
 {

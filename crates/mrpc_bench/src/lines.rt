@@ -1,9 +1,9 @@
-//! Lines of numbers, which parts print.
+//! Lines of numbers that parts print.
 
 use mrpc_table::{Bytes, Memory};
 use std::alloc::Global;
 
-// A line of numbers; none where no memory was found.
+// A line of numbers; `None` if it ran out of memory.
 pub(crate) fn line_of(alloc: Global, numbers: &[u64]) -> Option<Bytes> {
     let mut line = Bytes::new(alloc);
     put_line(&mut line, numbers).ok()?;

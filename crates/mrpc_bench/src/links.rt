@@ -1,10 +1,10 @@
-//! Hands frames of 64 bytes to a link in front of a writer, whose thread passes them on to a link in memory, and prints
-//! how many came and the sum of their first bytes. `bench/links` times it.
+//! Sends frames of 64 bytes through a link with a writer, whose thread forwards them to a link in memory.
+//! Prints the number of frames and the sum of their first bytes. `bench/links` times it.
 //!
 //!     mrpc_bench links COUNT
 //!
-//! It measures `link_queue`. A count that is missing or out of range, from 0 to 4294967295, or a link for which there is
-//! no memory ends it with status 1.
+//! It measures `link_queue`. It ends with status 1 if the count is missing or out of its range, 0 to
+//! 4294967295, or if it runs out of memory when it opens the link.
 
 use crate::discard;
 use crate::given::count_of;
@@ -16,11 +16,11 @@ use std::alloc::Global;
 use std::sync::Wait;
 use std::thread::{Threads, join};
 
-// How many frames wait at most.
+// The most frames in the queue.
 const CAPACITY: u64 = 64;
 
-// Passes as many frames on as the words ask for, and gives what is printed of it. Those for which no memory is found are
-// left out.
+// Forwards as many frames as the words ask for, and returns what to print. Skips each frame for which it runs
+// out of memory.
 pub(crate) fn told<R>(rt: &R, alloc: Global, words: &[String]) -> Option<Bytes>
 where
     R: Threads + Wait + Sync,
@@ -32,7 +32,7 @@ where
     )
 }
 
-// The link in memory, once so many frames were passed on to it.
+// The link in memory, after this number of frames were forwarded to it.
 fn pass<R: Threads + Wait + Sync>(rt: &R, alloc: Global, count: u32) -> Option<MemLink> {
     let (link, writer) = open(rt, alloc, CAPACITY, new_link(alloc)).ok()?;
     let (end, _) = join(rt, move || writer.run(), move || send_all(link, count));
@@ -49,7 +49,7 @@ fn new_link(alloc: Global) -> MemLink {
     )
 }
 
-// Sends frames that begin with their numbers, and closes the link.
+// Sends frames that start with their numbers, and closes the link.
 fn send_all<R: Wait>(mut link: QueueLink<R>, count: u32) {
     let mut frame = [0; 64];
     for number in 0..count {

@@ -1,17 +1,17 @@
-//! The program of the benchmarks: the first word names a part, and the words behind it are the part's own.
+//! The program of the benchmarks: the first word names a part, and the words after it are the part's own.
 //!
 //!     mrpc_bench apps COUNT                           calls of a client that an echo answers       bench/apps
 //!     mrpc_bench conn steps|calls|again CALLS ROUNDS  work on a connection                         bench/conn
 //!     mrpc_bench drill COUNT                          a drill that is run over links in memory     bench/run
-//!     mrpc_bench links COUNT                          frames through a link in front of a writer   bench/links
+//!     mrpc_bench links COUNT                          frames through a link with a writer          bench/links
 //!     mrpc_bench ring COUNT                           descriptors through a ring                   bench/ring
 //!     mrpc_bench scenario plan|toml                   a scenario that is read                      bench/scenario
 //!     mrpc_bench serve                                a scenario that is run over links in memory  bench/run
-//!     mrpc_bench upgrade COUNT                        upgrades while calls stand                   bench/latency
+//!     mrpc_bench upgrade COUNT                        upgrades while calls are pending             bench/latency
 //!
-//! It stands on the crates that it measures and on `bench_apps`; each part says at its head what it does, what it prints and
-//! what it measures. Words of no such form, and running out of
-//! memory, end the program with status 1, and it prints nothing.
+//! The program uses the crates that it measures, and `bench_apps`. The head of each part describes what it
+//! does, prints and measures. If the words have another form, or it runs out of memory, the program prints
+//! nothing and ends with status 1.
 #![tactic(auto)]
 
 mod apps;
@@ -52,7 +52,7 @@ fn words_of<R: Env + AllocGlobal>(rt: &R) -> io::Result<Vec<String>> {
     Ok(words)
 }
 
-// Writes what a part told, if it did, and gives the status.
+// Writes what a part returned, if anything, and returns the status.
 fn print<W: Write>(out: &mut W, told: Option<Vec<Bytes>>) -> io::Result<ExitCode> {
     let Some(texts) = told else {
         return Ok(ExitCode::FAILURE);
@@ -87,7 +87,7 @@ const PARTS: [(&str, Part); 8] = [
     ("upgrade", Part::Upgrade),
 ];
 
-// What the part prints that the words name, as texts that follow one another; none where they name none.
+// The texts that the part named by the words prints, in order; `None` if the words name no part.
 fn told_by<R, I: Read>(rt: &R, alloc: Global, words: &[String], input: &mut I) -> Option<Vec<Bytes>>
 where
     R: Threads + Wait + Sync + Clock,
@@ -114,6 +114,6 @@ fn alone(alloc: Global, text: Option<Bytes>) -> Option<Vec<Bytes>> {
     Some(texts)
 }
 
-// Values are handed over to be dropped here: what a drop comes to is proved in each function that has one. In this one it
-// is one call.
+// Values are moved in here to be dropped: what dropping a value does is proved in each function that drops
+// one. Through this function it is one call.
 pub(crate) fn discard<T: Drop>(_value: T) {}

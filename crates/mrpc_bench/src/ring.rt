@@ -1,10 +1,10 @@
-//! Passes descriptors of messages of one number through a ring, from a thread that stores the messages to a thread that
-//! copies them, and prints how many were copied and the sum of the numbers. `bench/ring` times it.
+//! Sends descriptors of messages of one number through a ring, from a thread that stores the messages to a
+//! thread that copies them. Prints how many were copied and the sum of the numbers. `bench/ring` times it.
 //!
 //!     mrpc_bench ring COUNT
 //!
-//! It measures `shared_heap`, `descriptor_ring` and `untouched_copy`. A count that is missing or out of range, from 0 to
-//! 4294967293, or running out of memory ends it with status 1.
+//! It measures `shared_heap`, `descriptor_ring` and `untouched_copy`. It ends with status 1 if the count is
+//! missing or out of its range, 0 to 4294967293, or if it runs out of memory.
 
 mod passing;
 
@@ -19,7 +19,7 @@ use std::thread::Threads;
 // The table of the messages.
 const TABLE: &[u8] = b"message M\nfield 1 plain uint64 n\nmethod 0 S Get M M\n";
 
-// Passes as many descriptors as the words ask for, and gives what is printed of it.
+// Sends as many descriptors as the words ask for, and returns what to print.
 pub(crate) fn told<R>(rt: &R, alloc: Global, words: &[String]) -> Option<Bytes>
 where
     R: Threads + Wait + Sync,
@@ -28,7 +28,7 @@ where
     line_of(alloc, &[copied, sum])
 }
 
-// What comes through the ring, or none where there is no memory or the count is out of range.
+// The results at the ring's other end; `None` if it runs out of memory or the count is out of range.
 fn passed<R: Threads + Wait + Sync>(rt: &R, alloc: Global, count: u32) -> Option<Passed> {
     if count > 4294967293 {
         return None;

@@ -1,10 +1,10 @@
-//! Reads a scenario from standard input, as a plan or as TOML alone, and prints how many lines the programs of its
-//! applications have. `bench/scenario` counts its instructions.
+//! Reads a scenario from standard input, as a plan or only as TOML, and prints how many lines the programs of
+//! its applications have. `bench/scenario` counts its instructions.
 //!
 //!     mrpc_bench scenario plan|toml
 //!
-//! It measures `scenario_reader` and the kit's `toml`. Words of no such form end it with status 1, and so does a text
-//! that says no plan, or that is no TOML.
+//! It measures `scenario_reader` and the kit's `toml`. It ends with status 1 if the words have another form,
+//! or the text is no plan or no TOML.
 
 use crate::discard;
 use crate::given::{named, text_of};
@@ -17,14 +17,14 @@ use std::alloc::Global;
 use std::io::Read;
 use toml::{Table, table_from_slice};
 
-// What a text is read as.
+// How a text is read.
 #[derive(Clone, Copy)]
 enum Form {
     Plan,
     Toml,
 }
 
-// Counts the lines of the programs of an input, and gives what is printed of it.
+// Counts the lines of the programs of an input, and returns what to print.
 pub(crate) fn told<I: Read>(alloc: Global, words: &[String], input: &mut I) -> Option<Bytes> {
     let form = named(&FORMS, words.first()?.as_str())?;
     let text = text_of(alloc, input)?;
@@ -34,7 +34,7 @@ pub(crate) fn told<I: Read>(alloc: Global, words: &[String], input: &mut I) -> O
 
 const FORMS: [(&str, Form); 2] = [("plan", Form::Plan), ("toml", Form::Toml)];
 
-// How many lines the programs of a text have; none where it isn't of the form.
+// The number of lines of the programs of a text; `None` if the text isn't of the form.
 fn lines_of(alloc: Global, form: Form, text: &[u8]) -> Option<usize> {
     match form {
         Form::Plan => lines_of_plan(alloc, text),

@@ -1,10 +1,10 @@
-//! Runs the scenario of standard input over links in memory, by the clock of the system, and prints what `mrpc run` prints
-//! of the same run over TCP. `bench/run` times it.
+//! Runs the scenario of standard input over links in memory, by the clock of the system, and prints what
+//! `mrpc run` prints for the same run over TCP. `bench/run` times it.
 //!
 //!     mrpc_bench serve
 //!
-//! It measures `scenario_run` and what that stands on. A text that says no plan ends it with status 1, and so do running
-//! out of memory and a link that fails.
+//! It measures `scenario_run` and the crates below it. It ends with status 1 if the text is no plan, it runs
+//! out of memory, or a link fails.
 
 ghost use Rattle.std.specs.Prelude.{IfSome};
 ghost use Rattle.run_plan.specs.Plans.{IsPlan};
@@ -24,7 +24,7 @@ use std::thread::Threads;
 use std::time::Clock;
 use system_io::SystemClock;
 
-// Runs the scenario of an input, and gives what the run tells, as it has it in parts.
+// Runs the scenario of an input, and returns the parts of its report.
 pub(crate) fn told<R, I: Read>(
     rt: &R,
     alloc: Global,
@@ -45,7 +45,7 @@ where
     told
 }
 
-// The plan that a text says; none where it says none, or no memory was found.
+// The plan of a text; `None` if it has none, or it ran out of memory.
 fn plan_of(alloc: Global, text: &[u8]) -> Option<Plan>
     ensures { IfSome result IsPlan }
 {
@@ -63,7 +63,7 @@ where
     served(rt, alloc, plan, MemFabric::new(rt, alloc, no_faults(alloc)))
 }
 
-// What the run of a plan over links of a fabric tells; none where no memory was found or a link failed.
+// The report of the run of a plan over links of a fabric; `None` if it runs out of memory or a link failed.
 fn served<R, F>(rt: &R, alloc: Global, plan: &Plan, mut fabric: F) -> Option<Vec<Bytes>>
 where
     R: Threads + Wait + Sync + Clock,
@@ -84,7 +84,7 @@ fn told_of(run: Run) -> Option<Vec<Bytes>> {
     if failed { None } else { Some(parts) }
 }
 
-// No call of the fabric and of its links is to fail.
+// The list under which no call of the fabric and of its links fails.
 pub(crate) fn no_faults(alloc: Global) -> ListedFaults {
     ListedFaults {
         openings: Vec::new(alloc),

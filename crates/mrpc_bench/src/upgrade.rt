@@ -1,16 +1,18 @@
-//! Upgrades a policy of a connection again and again, while calls stand on it and go one by one, and prints how long it
-//! took from each call that was taken to the next one. `bench/latency` runs it eight times side by side, and sums it up.
+//! Upgrades a policy of a connection again and again, while calls are pending on it and leave one by one.
+//! Prints the time from each accepted call to the next. `bench/latency` runs eight of these concurrently, and
+//! sums them up.
 //!
 //!     mrpc_bench upgrade COUNT
 //!
-//! The chain has an access policy of three rules, a rate, such an access policy again and a count. The rate lets one call
-//! go at each moment and holds the others, so that 64 stand whenever one was taken. A round does what a round of the
-//! service does: a step of an operator, if there is one, then the next moment is shown, a call is taken, and what can go
-//! on is judged and sent. At each 64th round the first policy is upgraded, so that all calls that stand go back to it.
+//! The chain has an access policy of three rules, a rate, another such access policy and a count policy. The
+//! rate lets one call pass at each timestamp and holds the others, so that 64 are pending whenever one was
+//! accepted. A round does what a round of the service does: an operation of an operator, if there is one;
+//! then the clock advances to the next timestamp, a call is accepted, and the calls that can advance are
+//! judged and sent. At each 64th round the first policy is upgraded, so that all pending calls go back to it.
 //!
-//! It prints a line of the nanoseconds from call to call, 64 for each of COUNT upgrades. In each 64th there is an upgrade,
-//! and in the one behind it all calls that stand are judged again. It measures `conn_core`. A count that is missing, or
-//! running out of memory, ends it with status 1.
+//! It prints a line of the nanoseconds from call to call, 64 for each of COUNT upgrades. Each 64th includes
+//! an upgrade, and in the one after it all pending calls are judged again. It measures `conn_core`. It ends
+//! with status 1 if the count is missing, or it runs out of memory.
 
 ghost use Rattle.mrpc_table.specs.Valid.{IsValid};
 
@@ -21,10 +23,10 @@ use mrpc_table::{Bytes, Table};
 use std::alloc::Global;
 use std::time::{Clock, Instant};
 
-// How many calls are taken from one upgrade to the next.
+// The number of calls from one upgrade to the next.
 const CALLS: u64 = 64;
 
-// Upgrades a policy as often as the words ask for, and gives the line of the times.
+// Upgrades a policy as often as the words ask for, and returns the line of the times.
 pub(crate) fn told<R: Clock>(rt: &R, alloc: Global, words: &[String]) -> Option<Bytes> {
     let upgrades = count_of(words)?;
     let table = table_of(alloc, TABLE)?;
@@ -42,7 +44,7 @@ fn times<R: Clock>(rt: &R, alloc: Global, table: &Table, upgrades: u32) -> Optio
     Some(times)
 }
 
-// Notes the nanoseconds from each call to the next, while 63 calls stand.
+// Records the nanoseconds from each call to the next, while 63 calls are pending.
 fn upgrade_often<R: Clock>(
     rt: &R,
     work: &mut Work,
@@ -61,7 +63,7 @@ fn upgrade_often<R: Clock>(
     Some(())
 }
 
-// A round, up to the call that is taken in it.
+// A round, up to the acceptance of its call.
 fn one_round<R: Clock>(rt: &R, work: &mut Work, round: u64) -> Option<Instant> {
     work.drain()?;
     if round % CALLS == 0 {
@@ -71,7 +73,7 @@ fn one_round<R: Clock>(rt: &R, work: &mut Work, round: u64) -> Option<Instant> {
     take(rt, work)
 }
 
-// Takes a call, and gives the time then.
+// Accepts a call, and returns the time then.
 fn take<R: Clock>(rt: &R, work: &mut Work) -> Option<Instant> {
     work.accept_one()?;
     Instant::now(rt).ok()

@@ -79,7 +79,7 @@ missed fs last n i up parts =
           differs_greater (get_or fs k d).0 n (point.1 k d le within)
     ])
 
--- what a field has weighs less than the message
+-- the content of a field weighs less than the message
 pub weight_at : (xs : List (ℕ × FieldValue)) (i : ℕ) (d : ℕ × FieldValue) → i < length xs → content_weight (content_of (get_or xs i d).1) < weight (node_of xs)
 weight_at [] i d h = absurd (omega (arith, h))
 weight_at (x ∷ xs) zero d h = omega arith

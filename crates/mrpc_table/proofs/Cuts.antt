@@ -1,4 +1,4 @@
--- A list that is cut at a separator.
+-- A list that is split at a separator.
 use Rattle.std.proofs.Common.{◌≡◌, ℕ, zero, suc, ◌+◌, ◌<◌, ◌==◌, Bool, true, false, cond, List, [], ◌∷◌, length, get_or, take, drop, refl, ap, arith}
 use Rattle.std.specs.List.{slice_split, onto_first}
 

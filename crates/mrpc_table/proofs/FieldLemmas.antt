@@ -73,13 +73,13 @@ missed fs n i up parts =
           differs_greater (get_or fs k d).number n (point.1 k d le within)
     ])
 
--- the place that a binary search found
+-- the index that a binary search found
 pub slice_get_found : (fs : List Field) → FieldsAscend fs → (n i : ℕ) → i < length fs → HoldsAt (λ y. nat_cmp y.number n ≡ Equal) fs i → slice_get fs i ≡ field_at fs n
 slice_get_found fs up n i within equal =
     let d : Field = record { number = 0; name = []; kind = Uint64; label = Plain } in
     slice_get-get_or fs i d within ∙ sym (found_at fs up n i d within (equal_is (get_or fs i d).number n (equal d)))
 
--- the place that was tried
+-- the index that was tried
 pub slice_get_tried : (fs : List Field) → FieldsAscend fs → (n i : ℕ) (f : Field) → i < length fs → f ≡ get_or fs i f → f.number ≡ n → slice_get fs i ≡ field_at fs n
 slice_get_tried fs up n i f within is same =
     slice_get-get_or fs i f within ∙ sym (found_at fs up n i f within (ap (λ (x : Field). x.number) (sym is) ∙ same))

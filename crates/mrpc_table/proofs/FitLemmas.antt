@@ -1,4 +1,4 @@
--- Parts of a tree fit where their first part fits and the rest do.
+-- Parts of a tree fit if the first part and the suffix after it fit.
 use Rattle.std.proofs.Common.{◌≡◌, ◌≢◌, ℕ, zero, suc, ◌+◌, ◌-◌, ◌<◌, ◌≤◌, ◌==◌, ◌↔◌, Bool, true, false, not, cond}
 use Rattle.std.proofs.Common.{List, [], ◌∷◌, length, drop, get_or, set, Option, Some, refl, ap, sym, subst, ◌∙◌}
 use Rattle.std.proofs.Common.{arith, inl, inr, drop-cons, get_or-set_same, get_or-set_other, IsTrue, length-drop}
@@ -26,7 +26,7 @@ use Rattle.mrpc_table.specs.declared.table.Table.{Table}
 use Rattle.mrpc_table.specs.declared.tree.FieldValue.{FieldValue}
 use Rattle.mrpc_table.specs.declared.tree.Value.{Value}
 
--- the list from a place on, with the element there in front
+-- the suffix of a list at an index is the element there and the suffix after it
 from_here : {X : Type 0} (xs : List X) (i : ℕ) (x : X) → i < length xs → x ≡ get_or xs i x → drop i xs ≡ x ∷ drop (i + 1) xs
 from_here xs i x within at =
     let e : i + 1 ≡ suc i = omega arith in
@@ -44,7 +44,7 @@ keys_end k es i le = short_ascends k (drop (i - 1) es) (omega (arith, length-dro
 
 -- ---- fields
 
--- what the field in front must be
+-- what the first field must satisfy
 pub record FirstFits (T : Table) (f : Field) (room last n : ℕ) (taken : List Bool) (c : Content) : Type 0 where
   pub above : last < n
   pub content : ContentFits T f room c
@@ -120,7 +120,7 @@ taken_up taken (Member p) m placed free h o =
           rw apart (omega arith)
     ]
 
--- ---- the first field and the rest
+-- ---- the first field and the suffix
 
 pub rest_down : (T : Table) (fs : List Field) (room last n : ℕ) (taken : List Bool) (f : Field) (c : Content) (t : Node) → field_at fs n ≡ Some f → IsPlaced (length taken) f.label
     → RestFits T fs room last taken (field n c t) → FirstFits T f room last n taken c × RestFits T fs room n (taken_after taken f.label) t
@@ -153,7 +153,7 @@ depth_positive (field n c t) = omega (arith, depth_positive t)
 pub no_room : (T : Table) (msg : ℕ) (t : Node) → FitsWithin T msg 0 t → ⊥
 no_room T msg t h = omega (arith, h.depth, depth_positive t)
 
--- ---- what a message says of the field of a number
+-- ---- what a message declares of the field with a number
 
 pub found_all : (P : Field → Type 0) (fs : List Field) (n : ℕ) (f : Field) → All P fs → field_at fs n ≡ Some f → P f
 found_all P [] n f all e = absurd cc
@@ -271,7 +271,7 @@ pairs_is T f room key (p ∷ ps) r is some fit both = (
   λ h. both.1 (let same : h.content.0 ≡ key = cc (h.content.1, is) in subst (λ (k : Kind). KeysAscend k (pairs_of (p ∷ ps))) same h.content.4),
 )
 
--- a list that is tested by its length has an element
+-- a list whose length isn't 0 has an element
 pub has_some : {X : Type 0} (shown xs : List X) (n : ℕ) → shown ≡ xs → length shown ≡ n → false ≡ (n == 0) → xs ≢ []
 has_some shown xs n same len test none =
     let zero_long : n ≡ 0 = sym len ∙ ap length (same ∙ none) in

@@ -28,7 +28,7 @@ o = nat_list_cmp_total
 flip-greater : (x y : List ℕ) → ord x y ≡ Greater → ord y x ≡ Less
 flip-greater x y h = o.antisymm y x ∙ ap ordering_reverse h
 
--- an entry at its key's place; a key that is there stays as it is
+-- an entry inserted by its key; an entry with the same key is kept instead
 abbrev ins : Kind → E → List E → List E
 ins k e [] = e ∷ []
 ins k e (f ∷ fs) = elim (ord (code k e) (code k f)) [ Less ↦ e ∷ f ∷ fs | Equal ↦ f ∷ fs | Greater ↦ f ∷ ins k e fs ]
@@ -190,7 +190,7 @@ heads-same k e f ps qs Greater q a b h = absurd (let bad : Some f ≡ None = sym
 heads-same k e f ps qs Equal q a b h =
     let same : Some e ≡ Some f = sym (found-itself k e ps) ∙ h e ∙ ap (λ r. cond (is_eq r) (Some f) (found k (code k e) qs)) q in cc
 
--- ascending entries are known by what is found in them
+-- ascending entries are determined by what is found in them
 pub asc-same : (k : Kind) (ps qs : List E) → Asc k ps → Asc k qs → ((w : E) → found k (code k w) ps ≡ found k (code k w) qs) → ps ≡ qs
 asc-same k [] [] a b h = refl
 asc-same k [] (f ∷ qs) a b h = absurd (let bad : None ≡ Some f = h f ∙ found-itself k f qs in cc)
@@ -372,7 +372,7 @@ not-lt-gt Less h = refl
 not-lt-gt Equal h = refl
 not-lt-gt Greater h = h
 
--- what stands before a place of sorted entries has no key above the one there
+-- the sorted entries before an index have no key above the one there
 pub sorted-up : (k : Kind) (es : List E) → AreSorted k es → (i : ℕ) (y : E) → i < length es → y ≡ get_or es i y → AllUpTo k (take i es) y
 sorted-up k [] s i y within is = absurd (omega (arith, within))
 sorted-up k (e ∷ es) s zero y within is = tt

@@ -1,4 +1,4 @@
--- Entries of a map at their keys' places.
+-- Entries of a map in the order of their keys.
 use Rattle.std.proofs.Common.{◌≡◌, ◌≢◌, ℕ, ◌≤◌, List, [], ◌∷◌, false, true, refl, ap, sym, ◌∙◌, arith}
 use Rattle.std.specs.List.{AllByRecursion}
 use Rattle.std.specs.Ordering.{nat_cmp, ordering_then, ordering_reverse}
@@ -35,7 +35,7 @@ then-less Less h = refl
 then-less Equal h = absurd (cc)
 then-less Greater h = absurd (cc)
 
--- a key with a lesser code stands before
+-- a key with a lesser code is before
 key-before : (T : Table) (k : Kind) (i j : Item) → IsNoMessage k → IsItem T k i → IsItem T k j → key_cmp k i j ≡ Less → IsBefore k i j
 key-before T k (number m) (number n) plain a b h = ranked (rank k m) (rank k n) Less (sym (then-less (nat_cmp (rank k m) (rank k n)) h))
 key-before T k (run a) (run b) plain c d h = h
@@ -48,7 +48,7 @@ key-before T k (run c) (node t) plain a b h = absurd (plain b.0 b.1)
 key-flip : (k : Kind) (i j : Item) → key_cmp k i j ≡ Greater → key_cmp k j i ≡ Less
 key-flip k i j h = nat_list_cmp_total.antisymm (key_code k j) (key_code k i) ∙ ap ordering_reverse h
 
--- a pair is put in front, left out, or put behind the first
+-- a pair is inserted first, left out, or inserted after the first
 put-go : (P : Pairs → Type 0) (i j l w : Item) (ps rest : Pairs) (r : Ordering)
     → (r ≡ Less → P (pair i j (pair l w ps))) → P (pair l w ps) → (r ≡ Greater → P (pair l w rest))
     → P (elim r [ Less ↦ pair i j (pair l w ps) | Equal ↦ pair l w ps | Greater ↦ pair l w rest ])
@@ -86,7 +86,7 @@ put-ascend T key k i j (pair l w ps) plain a h up =
     up
     (λ e. put-ascend_from T key k l i j ps plain a h.2 (key-before T key l i plain h.0 a (key-flip key i l e)) up)
 
--- what is kept of entries that are each of their kinds
+-- entries whose keys and values are each of their kinds
 abbrev pub AreOfKinds : Table → Kind → Kind → List (Item × Item) → Type 0
 AreOfKinds T key k es = AllByRecursion (λ e. IsItem T key e.0 × IsItem T k e.1) es
 

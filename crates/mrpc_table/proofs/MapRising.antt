@@ -1,4 +1,4 @@
--- Entries whose keys ascend are kept as they stand.
+-- Entries whose keys ascend are kept as they are.
 use Rattle.std.proofs.Common.{◌≡◌, ℕ, zero, suc, ◌<◌, List, [], ◌∷◌, length, get_or, map, refl, ap, sym, ◌∙◌, arith}
 use Rattle.std.specs.declared.cmp.Ordering.TheVariants.{Less, Equal, Greater}
 use Rattle.mrpc_table.specs.Node.{Item, Pairs, pair}
@@ -18,7 +18,7 @@ rise-kept k (e ∷ f ∷ fs) h =
     sym (ap (with_pair k (item_of e.0) (item_of e.1)) (sym (rise-kept k (f ∷ fs) h.1))
     ∙ put-less k (item_of e.0) (item_of e.1) (item_of f.0) (item_of f.1) (pairs_of fs) h.0)
 
--- the same, place by place
+-- the keys ascend, index by index
 abbrev pub RiseBelow : Kind → List (Value × Value) → ℕ → Type 0
 RiseBelow k es n = (i j : ℕ) (d : Value × Value) → j ≡ suc i → j < n → entry_cmp k (get_or es i d) (get_or es j d) ≡ Less
 

@@ -1,4 +1,4 @@
--- Numbers ascend in a tree and in the messages inside it.
+-- Numbers ascend in a tree and in the messages in it.
 use Rattle.std.proofs.Common.{◌≡◌, ℕ, ◌==◌, Bool, true, false, if◌then◌else◌, List, Option, Some, subst}
 use Rattle.mrpc_table.specs.Node.{Node, Content, one, many, pairs, Item, number, run, node, no_fields, field, content_at, NumbersAscend}
 use Rattle.mrpc_table.specs.PathTrees.{AscendsFrom, HoldsAscending, IsAscendingItem}
@@ -12,7 +12,7 @@ pub numbers-ascend : (last : ℕ) (t : Node) → AscendsFrom last t → NumbersA
 numbers-ascend last no_fields up = tt
 numbers-ascend last (field n c t) up = (up.0, numbers-ascend n t up.2)
 
--- what a tree has under a number ascends inside
+-- the content under a number of an ascending tree ascends too
 chosen-ascends : (same : Bool) (d : Content) (other : Option Content) (c : Content) → HoldsAscending d → ((e : Content) → other ≡ Some e → HoldsAscending e)
     → (if same then Some d else other) ≡ Some c → HoldsAscending c
 chosen-ascends true d other c here there at = let e : d ≡ c = cc at in subst HoldsAscending e here
@@ -22,7 +22,7 @@ pub content-ascends : (t : Node) (last n : ℕ) → AscendsFrom last t → (c : 
 content-ascends no_fields last n up c at = cc
 content-ascends (field m d t) last n up c at = chosen-ascends (m == n) d (content_at t n) c up.1 (content-ascends t m n up.2) at
 
--- the fields of a normal tree ascend, inside it too
+-- the fields of a normal tree ascend, and so do those of the messages in it
 mutual
   pub fields-ascend : (T : Table) (fs : List Field) (last : ℕ) (t : Node) → HasFields T fs last t → AscendsFrom last t
   fields-ascend T fs last no_fields has = tt

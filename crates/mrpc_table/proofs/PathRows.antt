@@ -86,7 +86,7 @@ through_a_number = refl
 to_no_field : leads [] (Small 9) ≡ None
 to_no_field = refl
 
--- no number is cut to 32 bits
+-- no number is truncated to 32 bits
 above_32_bits : leads [] (Small 4294967297) ≡ None
 above_32_bits = refl
 

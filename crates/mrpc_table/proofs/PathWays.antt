@@ -1,6 +1,6 @@
--- The way of a path, as far as it was walked.
+-- The part of a path that was followed so far.
 use Rattle.std.proofs.Common.{ℕ, ◌+◌, List, ◌++◌}
 
--- a way with numbers in front of it
+-- numbers before those of a path
 abbrev pub behind_way : List ℕ → List ℕ × ℕ → List ℕ × ℕ
 behind_way ns w = (ns ++ w.0, w.1)

@@ -7,7 +7,7 @@ use Rattle.mrpc_table.specs.PathWords.{path_of_parts, begins_path, decimal_of}
 use Rattle.mrpc_table.specs.declared.path.PathWord.{PathWord}
 use Rattle.mrpc_table.proofs.Cuts.{has_part}
 
--- a path with numbers in front of it
+-- numbers before those of a path
 abbrev pub behind_numbers : List Decimal → PathWord → PathWord
 behind_numbers ns p = record { way = ns ++ p.way; last = p.last }
 

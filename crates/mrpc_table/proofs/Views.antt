@@ -1,4 +1,4 @@
--- What a tree stands for once a part was appended to it.
+-- The data of a tree after a part was appended to it.
 use Rattle.std.proofs.Common.{◌≡◌, ℕ, ◌+◌, ◌<◌, List, [], ◌∷◌, ◌++◌, length, take, get_or, refl, ap, sym, ◌∙◌}
 use Rattle.std.proofs.lemmas.List.{take_more}
 use Rattle.mrpc_table.specs.Node.{field, item, pair, push_field, push_item, push_pair}
@@ -18,7 +18,7 @@ pub pairs_of-last : (ps : List (Value × Value)) (p : Value × Value) → pairs_
 pairs_of-last [] p = refl
 pairs_of-last (q ∷ ps) p = ap (pair (item_of q.0) (item_of q.1)) (pairs_of-last ps p)
 
--- a list that stands for the first parts of another goes on to stand for one part more
+-- if a list represents a prefix of another, one more part on both keeps that
 pub node_of-more : (fs gs : List (ℕ × FieldValue)) (i : ℕ) (f g : ℕ × FieldValue) → i < length gs → g ≡ get_or gs i g
     → f.0 ≡ g.0 → content_of f.1 ≡ content_of g.1 → node_of fs ≡ node_of (take i gs)
     → node_of (fs ++ f ∷ []) ≡ node_of (take (i + 1) gs)

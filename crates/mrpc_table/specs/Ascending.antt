@@ -9,6 +9,6 @@ use Rattle.mrpc_table.specs.declared.table.Field.{Field}
 abbrev pub FieldsAscend : List Field → Type 0
 FieldsAscend fs = Ascends (λ f g. f.number < g.number) fs
 
--- the fields of each message of the table
+-- the fields of each message of the table ascend
 pub record AllAscend (T : Table) : Type 0 where
   pub each : (i : ℕ) → FieldsAscend (fields_of T i)

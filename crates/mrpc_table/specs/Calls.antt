@@ -7,7 +7,7 @@ use Rattle.mrpc_table.specs.declared.call.Sort.TheVariants.{Request, Reply}
 use Rattle.mrpc_table.specs.declared.table.Method.{Method}
 use Rattle.mrpc_table.specs.declared.table.Table.{Table}
 
--- a request has the number 0, and a reply that of the request it answers
+-- a request has the number 0, and a reply has that of the request it answers
 abbrev pub sort_of : ℕ → Sort
 sort_of number = if number == 0 then Request else Reply
 
@@ -23,11 +23,11 @@ message_of_method Reply m = m.output
 abbrev pub message_of : Table → ℕ → Sort → ℕ
 message_of T method sort = unwrap_or (option_map (message_of_method sort) (slice_get T.methods method)) 0
 
--- the message that a call of a method has, by the call's number
+-- the message that a call of a method carries, by the call's number
 abbrev pub message_at : Table → ℕ → ℕ → ℕ
 message_at T method number = message_of T method (sort_of number)
 
--- the table has the call's method, and its tree is a normal one of the message that such a call has
+-- the table has the call's method, and the call's tree is a normal tree of its message
 pub record IsCallOf (T : Table) (call : Call) : Type 0 where
   pub method : call.method < length T.methods
   pub tree : IsNormal T (message_at T call.method call.number) call.tree

@@ -1,4 +1,4 @@
--- The code's own: each message inside a message weighs less than it, by which functions on trees end.
+-- The code's own: each message in a message weighs less than it, so that functions on trees terminate.
 use Rattle.std.specs.Prelude.{◌≤◌, ℕ, max, List, [], ◌∷◌}
 use Rattle.std.proofs.Common.{arith}
 use Rattle.mrpc_table.specs.View.{item_of, items_of, pairs_of, content_of, node_of}

@@ -1,9 +1,9 @@
--- The first fault of a text in lines, whatever stands against a line there.
+-- The first fault of a text in lines, for any relation of reasons to lines.
 use Rattle.std.specs.Prelude.{ℕ, ◌-◌, ◌+◌, ◌<◌}
 
--- A line, counted from 1, is the first at fault, and this is its first reason: `IsAgainst i q` says that the reason q
--- stands against the line at the place i, counted from 0, and of several reasons at one line the one whose place in
--- the order is the least counts.
+-- A line, counted from 1, is the first at fault, and this is its first reason. `IsAgainst i q` means that the line at
+-- index i, counted from 0, has the reason q. If a line has several reasons, the one with the least rank in the order
+-- counts.
 pub record IsFirstFault {Reason : Type 0} (IsAgainst : ℕ → Reason → Type 0) (order_of : Reason → ℕ) (line : ℕ)
     (reason : Reason) : Type 0 where
   pub counted : 0 < line

@@ -1,5 +1,4 @@
--- The code's own: what a part of a tree must be for the tree to be normal, with as many messages inside one another as
--- there is room for.
+-- The code's own: what each part of a tree must satisfy for the tree to be normal, within a bound on the depth.
 use Rattle.std.specs.Prelude.{◌≡◌, ◌≢◌, ℕ, ◌+◌, ◌<◌, ◌≤◌, Bool, true, false, not, if◌then◌else◌, List, slice_index_or, slice_set}
 use Rattle.mrpc_table.specs.Node.{Node, Content, one, many, pairs, Item, Items, no_items, Pairs, no_pairs}
 use Rattle.mrpc_table.specs.Normal.{fields_of, HasFields, OneMemberEach, members_in, TakesOne, TakesMany, IsItem, AreItems, ArePairs, KeysAscend, depth, content_depth, item_depth, items_depth, pairs_depth}
@@ -15,7 +14,7 @@ pub record FitsWithin (T : Table) (msg : ℕ) (room : ℕ) (t : Node) : Type 0 w
   pub oneofs : OneMemberEach (fields_of T msg) t
   pub depth : depth t ≤ room
 
--- the rest of a tree fits behind a field of number `last`, where these oneofs have a member
+-- the suffix of a tree after the field of number `last` is normal, if these oneofs have a member already
 pub record RestFits (T : Table) (fs : List Field) (room last : ℕ) (taken : List Bool) (t : Node) : Type 0 where
   pub fields : HasFields T fs last t
   pub oneofs : (o : ℕ) → (if slice_index_or taken o false then 1 else 0) + members_in fs o t ≤ 1
@@ -43,7 +42,7 @@ pub record PairsFit (T : Table) (key k : Kind) (room : ℕ) (ps : Pairs) : Type 
   pub pairs : ArePairs T key k ps
   pub depth : pairs_depth ps ≤ room
 
--- which oneofs have a member, by their places: the one of a label has none yet, and then has one
+-- which oneofs have a member, by their index: that of a label has none yet, and then has one
 abbrev pub is_free : List Bool → Label → Bool
 is_free taken (Member o) = not (slice_index_or taken o false)
 is_free taken _ = true

@@ -6,7 +6,8 @@ use Rattle.std.specs.Str.Parse.{digits_value}
 use Rattle.mrpc_table.specs.declared.words.Decimal.{Decimal}
 use Rattle.mrpc_table.specs.declared.words.Decimal.TheVariants.{Small, Large}
 
--- a text is cut at its line feeds: a whole line stands before each, and the rest after the last of them
+-- a text is split at its line feeds: each piece but the last is a whole line, and the last is what follows the last
+-- line feed
 abbrev pub pieces_of : List ℕ → List (List ℕ)
 pieces_of text = slice_split (λ c. c == 10) text
 
@@ -16,7 +17,7 @@ whole_lines text = take (length (pieces_of text) - 1) (pieces_of text)
 abbrev pub rest_of : List ℕ → List ℕ
 rest_of text = unwrap_or (slice_get (pieces_of text) (length (pieces_of text) - 1)) []
 
--- how many lines end in a text
+-- how many line feeds a text has
 abbrev pub line_count : List ℕ → ℕ
 line_count text = count_by (λ c. c == 10) text
 
@@ -32,12 +33,12 @@ is_decimal (c ∷ cs) = list_all is_ascii_digit (c ∷ cs) && (not (c == 48) || 
 abbrev pub number_of : List ℕ → Option ℕ
 number_of word = if is_decimal word then Some (digits_value 10 word) else None
 
--- a number of 64 bits, or one above them
+-- a number of at most 64 bits, or a larger one
 abbrev pub in_64_bits : ℕ → Decimal
 in_64_bits n = if nat_lt n (2 ^ 64) then Small n else Large
 
--- what a number counts as: one of more than 64 bits as the least of these, since all of them lie above each size and
--- outside of every range
+-- the size of a number: one of more than 64 bits counts as 2^64, since all of them are above each size and outside of
+-- every range
 abbrev pub magnitude : Decimal → ℕ
 magnitude (Small n) = n
 magnitude Large = 2 ^ 64
@@ -46,6 +47,6 @@ magnitude Large = 2 ^ 64
 abbrev pub IsIn : (least most n : ℕ) → Type 0
 IsIn least most n = (least ≤ n) × (n ≤ most)
 
--- words, each behind a space
+-- words, each after a space
 abbrev pub behind_spaces : List (List ℕ) → List ℕ
 behind_spaces words = flat_map (λ w. 32 ∷ w) words

@@ -9,7 +9,7 @@ use Rattle.mrpc_table.specs.Node.{Item, number, run, node, Pairs, no_pairs, pair
 use Rattle.mrpc_table.specs.Words.{rank}
 use Rattle.mrpc_table.specs.declared.table.Kind.{Kind}
 
--- keys as numbers of their kind, or by bytes
+-- a key as a list of numbers, which compare as numbers of the kind, or by bytes
 abbrev pub key_code : Kind → Item → List ℕ
 key_code k (number n) = 0 ∷ rank k n ∷ []
 key_code k (run bytes) = 1 ∷ bytes
@@ -18,7 +18,7 @@ key_code k (node t) = 2 ∷ []
 abbrev pub key_cmp : Kind → Item → Item → Ordering
 key_cmp k i j = slice_cmp nat_cmp (key_code k i) (key_code k j)
 
--- a pair at its key's place in ascending order; a key that is there stays as it is
+-- a pair inserted in ascending order of keys; a pair with the same key is kept instead
 abbrev pub with_pair : Kind → Item → Item → Pairs → Pairs
 with_pair key k v no_pairs = pair k v no_pairs
 with_pair key k v (pair l w ps) = elim (key_cmp key k l) [

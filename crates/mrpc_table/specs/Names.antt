@@ -16,7 +16,7 @@ abbrev pub is_name_form : List ℕ → Bool
 is_name_form [] = false
 is_name_form (c ∷ cs) = is_name_start c && list_all is_name_byte cs
 
--- the parts of a full name: what stands between its dots
+-- the parts of a full name, between its dots
 abbrev pub parts_of : List ℕ → List (List ℕ)
 parts_of name = slice_split (λ c. c == 46) name
 
@@ -24,7 +24,7 @@ parts_of name = slice_split (λ c. c == 46) name
 abbrev pub is_full_form : List ℕ → Bool
 is_full_form name = list_all is_name_form (parts_of name)
 
--- a name has at most 64 bytes; a full name has such parts, and at most 255 bytes together
+-- a name has at most 64 bytes; a full name has such parts, and at most 255 bytes in total
 abbrev pub is_short : List ℕ → Bool
 is_short name = nat_le (length name) MAX_NAME
 

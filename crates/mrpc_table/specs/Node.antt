@@ -1,4 +1,4 @@
--- A message as data: its fields in order, each a number with what the field has.
+-- A message as data: its fields in order, each a number with the content of the field.
 use Rattle.std.specs.Prelude.{ℕ, ◌<◌, ◌==◌, if◌then◌else◌, List, Option, Some, None}
 
 mutual
@@ -24,27 +24,27 @@ mutual
     no_pairs : Pairs
     pair : Item → Item → Pairs → Pairs
 
--- what a message has under a number: the content of its first field of that number
+-- the content of a message's first field with a number
 abbrev pub content_at : Node → ℕ → Option Content
 content_at no_fields n = None
 content_at (field m c t) n = if m == n then Some c else content_at t n
 
--- the numbers of a message's fields ascend from above `last`
+-- the numbers of a message's fields ascend, from above `last`
 abbrev pub NumbersAscend : ℕ → Node → Type 0
 NumbersAscend last no_fields = Unit {0}
 NumbersAscend last (field n c t) = (last < n) × NumbersAscend n t
 
--- the fields, and one more at the end
+-- the fields with one more at the end
 abbrev pub push_field : Node → ℕ → Content → Node
 push_field no_fields n c = field n c no_fields
 push_field (field m d t) n c = field m d (push_field t n c)
 
--- the items, and one more at the end
+-- the items with one more at the end
 abbrev pub push_item : Items → Item → Items
 push_item no_items i = item i no_items
 push_item (item j js) i = item j (push_item js i)
 
--- the code's own: the pairs, and one more at the end
+-- the code's own: the pairs with one more at the end
 abbrev pub push_pair : Pairs → Item → Item → Pairs
 push_pair no_pairs k v = pair k v no_pairs
 push_pair (pair l w ps) k v = pair l w (push_pair ps k v)

@@ -1,4 +1,4 @@
--- How a proof tells two trees apart: each has a code of its own.
+-- How a proof distinguishes two trees: each has a code of its own.
 use Rattle.std.specs.Prelude.{◌≡◌, refl}
 use Rattle.std.specs.Coded.{Coded, coded_ℕ, coded_list}
 use Rattle.std.proofs.Common.{ap}

@@ -1,6 +1,6 @@
--- Which trees a message has, and which of them are in normal form: numbers ascend, no default stands
--- under implicit presence, no repeated field or map is empty, a map's keys ascend, a oneof has one
--- member at most (Protocol Buffers, "Field Presence", "Maps", "Oneof"; the normal form is this project's own).
+-- The trees of a message, and which of them are in normal form: numbers ascend, no field with implicit presence has its
+-- default, no repeated field or map is empty, a map's keys ascend, a oneof has at most one member (Protocol Buffers,
+-- "Field Presence", "Maps", "Oneof"; the normal form is this project's own).
 use Rattle.std.specs.Prelude.{◌≡◌, ◌≢◌, ◌==◌, ℕ, ◌+◌, ◌<◌, ◌≤◌, max, List, [], All, Option, Some, option_map, find, slice_get, unwrap_or, cond}
 use Rattle.std.specs.Str.{IsUtf8}
 use Rattle.std.specs.Ordering.{nat_cmp}
@@ -16,28 +16,28 @@ use Rattle.mrpc_table.specs.declared.table.Label.TheVariants.{Plain, Optional, R
 use Rattle.mrpc_table.specs.declared.table.Field.{Field}
 use Rattle.mrpc_table.specs.declared.table.Table.{Table}
 
--- the message at a place of the table, and the field of a number in a message
+-- the message at an index of the table, and the field with a number in a message
 abbrev pub fields_of : Table → ℕ → List Field
 fields_of T i = unwrap_or (option_map (λ m. m.fields) (slice_get T.messages i)) []
 
 abbrev pub field_at : List Field → ℕ → Option Field
 field_at fs n = find (λ f. f.number == n) fs
 
--- the kind of the field of a number
+-- the kind of the field with a number
 abbrev pub kind_at : List Field → ℕ → Kind
 kind_at fs n = unwrap_or (option_map (λ f. f.kind) (field_at fs n)) Uint64
 
--- the label of the field of a number
+-- the label of the field with a number
 abbrev pub label_at : List Field → ℕ → Label
 label_at fs n = unwrap_or (option_map (λ f. f.label) (field_at fs n)) Plain
 
--- a number of 0, or a run of nothing
+-- the number 0, or an empty run
 abbrev pub IsDefault : Item → Type 0
 IsDefault (number n) = n ≡ 0
 IsDefault (run bytes) = bytes ≡ []
 IsDefault (node t) = ⊥
 
--- one key stands before another: as numbers of the kind, or by bytes
+-- one key is before another: as numbers of the kind, or by bytes
 abbrev pub IsBefore : Kind → Item → Item → Type 0
 IsBefore k (number m) (number n) = rank k m < rank k n
 IsBefore k (run a) (run b) = slice_cmp nat_cmp a b ≡ Less
@@ -52,12 +52,12 @@ abbrev pub KeysAscend : Kind → Pairs → Type 0
 KeysAscend k no_pairs = Unit {0}
 KeysAscend k (pair key value ps) = AscendFrom k key ps
 
--- 1 for the label of a member of the oneof at a place, else 0
+-- 1 for the label of a member of the oneof at an index, else 0
 abbrev pub membership : Label → ℕ → ℕ
 membership (Member o) p = cond (o == p) 1 0
 membership _ p = 0
 
--- how many fields of the tree are members of the oneof at place o
+-- how many fields of the tree are members of the oneof at index o
 abbrev pub members_in : List Field → ℕ → Node → ℕ
 members_in fs o no_fields = 0
 members_in fs o (field n c t) = unwrap_or (option_map (λ f. membership f.label o) (field_at fs n)) 0 + members_in fs o t
@@ -65,14 +65,14 @@ members_in fs o (field n c t) = unwrap_or (option_map (λ f. membership f.label 
 abbrev pub OneMemberEach : List Field → Node → Type 0
 OneMemberEach fs t = (o : ℕ) → members_in fs o t ≤ 1
 
--- one value stands under the label; under implicit presence it is no default
+-- a field with this label may have the one value; under implicit presence it isn't the default
 abbrev pub TakesOne : Label → Item → Type 0
 TakesOne Plain i = IsDefault i → ⊥
 TakesOne Optional i = Unit {0}
 TakesOne (Member o) i = Unit {0}
 TakesOne _ i = ⊥
 
--- a list of elements stands under the label
+-- a field with this label may have a list of elements
 abbrev pub TakesMany : Label → Type 0
 TakesMany Repeated = Unit {0}
 TakesMany Packed = Unit {0}
@@ -85,12 +85,12 @@ IsRun Octets bytes = All (λ b. b < 256) bytes
 IsRun _ bytes = ⊥
 
 abbrev mutual
-  -- fields of these, by numbers that ascend from above `last`
+  -- each field is one of these, by numbers that ascend from above `last`
   pub HasFields : Table → List Field → ℕ → Node → Type 0
   HasFields T fs last no_fields = Unit {0}
   HasFields T fs last (field n c t) = (last < n) × HasContent T fs n c × HasFields T fs n t
 
-  -- what the field of a number may have
+  -- the field with a number may have the content
   pub HasContent : Table → List Field → ℕ → Content → Type 0
   HasContent T fs n (one i) = (f : Field) × (field_at fs n ≡ Some f) × TakesOne f.label i × IsItem T f.kind i
   HasContent T fs n (many is) = (f : Field) × (field_at fs n ≡ Some f) × TakesMany f.label × (is ≢ no_items)
@@ -112,7 +112,7 @@ abbrev mutual
   ArePairs T key k no_pairs = Unit {0}
   ArePairs T key k (pair i j ps) = IsItem T key i × IsItem T k j × ArePairs T key k ps
 
--- how deep messages nest, the root counting 1; a map's entry counts nothing
+-- how deep messages nest, the root counting 1; a map's entry adds no depth
 abbrev mutual
   pub depth : Node → ℕ
   depth no_fields = 1
@@ -136,7 +136,7 @@ abbrev mutual
   pairs_depth no_pairs = 0
   pairs_depth (pair i j ps) = max (max (item_depth i) (item_depth j)) (pairs_depth ps)
 
--- a tree in normal form of the message at a place of the table
+-- a tree in normal form of the message at an index of the table
 pub record IsNormal (T : Table) (msg : ℕ) (t : Node) : Type 0 where
   pub fields : HasFields T (fields_of T msg) 0 t
   pub oneofs : OneMemberEach (fields_of T msg) t

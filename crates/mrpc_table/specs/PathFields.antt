@@ -1,4 +1,4 @@
--- Where a path leads in a message of a table (this project's own rule language).
+-- The field that a path leads to in a message of a table (this project's own rule language).
 use Rattle.std.specs.Prelude.{ℕ, ◌^◌, nat_lt, Bool, true, false, if◌then◌else◌, List, [], ◌∷◌, Option, Some, None, option_map, option_and_then}
 use Rattle.mrpc_table.specs.Normal.{fields_of, field_at}
 use Rattle.mrpc_table.specs.declared.words.Decimal.{Decimal}
@@ -12,17 +12,17 @@ use Rattle.mrpc_table.specs.declared.table.Label.TheVariants.{Plain, Member}
 use Rattle.mrpc_table.specs.declared.path.Path.{Path}
 use Rattle.mrpc_table.specs.declared.path.PathWord.{PathWord}
 
--- the field of a number in a message; no field has a number of more than 32 bits
+-- the field with a number in a message; no field number has more than 32 bits
 abbrev pub field_numbered : Table → ℕ → Decimal → Option Field
 field_numbered T msg (Small n) = if nat_lt n (2 ^ 32) then field_at (fields_of T msg) n else None
 field_numbered T msg Large = None
 
--- the message that a field on the way has
+-- the message of a field along the path
 abbrev pub message_of_kind : Kind → Option ℕ
 message_of_kind (Message i) = Some i
 message_of_kind _ = None
 
--- the label of a field on the way: one that has one message at most, and no field with a message is optional
+-- the label of a field along the path: it has at most one message, and no field with a message is optional
 abbrev pub has_one_message : Label → Bool
 has_one_message Plain = true
 has_one_message (Member o) = true
@@ -34,7 +34,7 @@ step_of f = if has_one_message f.label then option_map (λ i. (f.number, i)) (me
 abbrev pub step_in : Table → ℕ → Decimal → Option (ℕ × ℕ)
 step_in T msg n = option_and_then step_of (field_numbered T msg n)
 
--- the numbers of a way and the message at its end
+-- the numbers along a path, and the message at its end
 abbrev pub way_in : Table → ℕ → List Decimal → Option (List ℕ × ℕ)
 way_in T msg [] = Some ([], msg)
 way_in T msg (n ∷ ns) = option_and_then (λ s. option_map (λ w. (s.0 ∷ w.0, w.1)) (way_in T s.1 ns)) (step_in T msg n)

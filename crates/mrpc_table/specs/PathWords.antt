@@ -1,4 +1,4 @@
--- Which words spell a path (this project's own format).
+-- The words that spell a path (this project's own format).
 use Rattle.std.specs.Prelude.{ℕ, ◌==◌, nat_le, if◌then◌else◌, List, [], ◌∷◌, length, Option, None, option_map, option_and_then}
 use Rattle.std.specs.List.{slice_split}
 use Rattle.mrpc_table.specs.Lines.{number_of, in_64_bits}
@@ -10,7 +10,7 @@ use Rattle.mrpc_table.specs.declared.path.PathWord.{PathWord}
 abbrev pub decimal_of : List ℕ → Option Decimal
 decimal_of word = option_map in_64_bits (number_of word)
 
--- the numbers of a path
+-- the path of one number
 abbrev pub ends_path : Decimal → PathWord
 ends_path n = record { way = []; last = n }
 

@@ -1,4 +1,4 @@
--- What the texts of policies have in common: the reasons against their lines, in order, what a fault says, and the
+-- What the texts of policies share: the reasons of faults in their lines, in order, the meaning of a fault, and the
 -- index of a method (this project's own format).
 use Rattle.std.specs.Prelude.{◌≡◌, ℕ, ◌^◌, nat_lt, if◌then◌else◌, List, [], ◌∷◌, Option, Some, None}
 use Rattle.mrpc_table.specs.FirstFault.{IsFirstFault}
@@ -14,7 +14,7 @@ abbrev pub index_of : Decimal → Option ℕ
 index_of (Small n) = if nat_lt n (2 ^ 16) then Some n else None
 index_of Large = None
 
--- the order of the reasons: at one line the first counts
+-- the order of the reasons: if a line has several, the first counts
 abbrev pub order_of : RuleReason → ℕ
 order_of Word = 0
 order_of Number = 1
@@ -23,12 +23,13 @@ order_of Known = 3
 order_of Path = 4
 order_of Default = 5
 
--- what a fault says of lines, by what stands against them; running out of memory says nothing
+-- a fault names the first line at fault with its first reason, by the reasons of each line; running out of memory
+-- depends on no line
 abbrev pub IsFaultOf : (ℕ → RuleReason → Type 0) → RuleFault → Type 0
 IsFaultOf IsAgainst (fault.At line reason) = IsFirstFault IsAgainst order_of line reason
 IsFaultOf IsAgainst fault.Memory = Unit {0}
 
--- each line says what stands at its place
+-- each line means the item at its index
 abbrev pub SayEach : {X : Type 0} → (List ℕ → Option X) → List (List ℕ) → List X → Type 0
 SayEach said [] [] = Unit {0}
 SayEach said (line ∷ lines) (x ∷ xs) = (said line ≡ Some x) × SayEach said lines xs

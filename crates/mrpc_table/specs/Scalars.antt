@@ -7,11 +7,11 @@ use Rattle.mrpc_table.specs.declared.table.Kind.TheVariants.{Int32, Int64, Uint3
 use Rattle.mrpc_table.specs.declared.table.Table.{Table}
 use Rattle.mrpc_table.specs.Text.{kind_text}
 
--- a scalar has one name in all tables, and so in one without types
+-- a scalar has the same name in all tables, and so in one without types
 abbrev pub no_table : Table
 no_table = record { messages = []; enums = []; methods = [] }
 
--- a kind, by the word that the text of a table has for it
+-- a kind, with the word for it in the text of a table
 abbrev pub named : Kind → List ℕ × Kind
 named k = (kind_text no_table k, k)
 

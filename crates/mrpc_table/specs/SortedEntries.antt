@@ -1,4 +1,4 @@
--- Entries of a map by their keys, as they are sorted and kept.
+-- Entries of a map by their keys, sorted and without equal keys.
 use Rattle.std.specs.Prelude.{◌≡◌, ◌≢◌, ℕ, ◌<◌, ◌≤◌, false, List, [], ◌∷◌, ◌++◌, length, slice_index_or}
 use Rattle.std.specs.Ordering.{nat_cmp, is_lt}
 use Rattle.std.specs.declared.cmp.Ordering.{Ordering}
@@ -10,11 +10,11 @@ use Rattle.mrpc_table.specs.declared.tree.Value.{Value}
 use Rattle.mrpc_table.specs.declared.table.Kind.{Kind}
 use Rattle.mrpc_table.specs.MapEntries.{key_code}
 
--- an entry as it is seen
+-- the data of an entry
 abbrev pub items_of_entry : Value × Value → Item × Item
 items_of_entry e = (item_of e.0, item_of e.1)
 
--- the code's own: the bytes by which an entry stands among the others, those of its key
+-- the code's own: the list by which entries are ordered, that of their key
 abbrev pub code : Kind → Value × Value → List ℕ
 code k e = key_code k (item_of e.0)
 
@@ -27,7 +27,7 @@ abbrev pub AreSorted : Kind → List (Value × Value) → Type 0
 AreSorted k es = (i j : ℕ) (d : Value × Value) → i ≤ j → j < length es
     → is_lt (entry_cmp k (slice_index_or es j d) (slice_index_or es i d)) ≡ false
 
--- the code's own: an entry stands in place of the last one where that has its key, and else behind it
+-- the code's own: an entry replaces the last one if that has its key, and else is appended
 pub data IsEntryAdded (k : Kind) (old : List (Value × Value)) (e : Value × Value)
     (new : List (Value × Value)) : Type 0 where
   replaced : (front : List (Value × Value)) (l : Value × Value) → old ≡ front ++ l ∷ [] → entry_cmp k l e ≡ Equal
@@ -35,7 +35,7 @@ pub data IsEntryAdded (k : Kind) (old : List (Value × Value)) (e : Value × Val
   appended : ((front : List (Value × Value)) (l : Value × Value) → old ≡ front ++ l ∷ [] → entry_cmp k l e ≢ Equal)
       → new ≡ old ++ e ∷ [] → IsEntryAdded k old e new
 
--- the code's own: each key is above the one before it
+-- the code's own: each key is above the previous one
 abbrev pub KeysRise : Kind → List (Value × Value) → Type 0
 KeysRise k [] = Unit {0}
 KeysRise k (e ∷ []) = Unit {0}

@@ -1,5 +1,5 @@
--- The canonical text of a table (this project's own): enums by ascending full name, each with its values,
--- messages by ascending full name, each with its fields, and the methods, a line for each.
+-- The canonical text of a table (this project's own): enums by ascending full name, each with its values, messages by
+-- ascending full name, each with its fields, and the methods, a line for each.
 use Rattle.std.specs.Prelude.{ℕ, ℤ, List, [], ◌∷◌, ◌++◌, codes, option_map, slice_get, unwrap_or}
 use Rattle.std.specs.List.{flat_map, enumerate_from, join_with_byte}
 use Rattle.std.specs.Fmt.{decimal, signed_decimal}
@@ -13,7 +13,7 @@ use Rattle.mrpc_table.specs.declared.table.Choices.{Choices}
 use Rattle.mrpc_table.specs.declared.table.Method.{Method}
 use Rattle.mrpc_table.specs.declared.table.Table.{Table}
 
--- the name of a message and of an enum, by its place
+-- the name of a message and of an enum, by its index
 abbrev pub message_name : Table → ℕ → List ℕ
 message_name T i = unwrap_or (option_map (λ m. m.name) (slice_get T.messages i)) []
 
@@ -47,7 +47,7 @@ label_text T oneofs Packed = codes "packed"
 label_text T oneofs (Map key) = codes "map:" ++ kind_text T key
 label_text T oneofs (Member o) = codes "oneof:" ++ unwrap_or (slice_get oneofs o) []
 
--- a line: its words with a space between each two, and a line feed
+-- a line: its words, separated by spaces, and a line feed
 abbrev pub spaced : List (List ℕ) → List ℕ
 spaced words = join_with_byte 32 words
 

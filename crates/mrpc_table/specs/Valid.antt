@@ -1,4 +1,4 @@
--- Which tables are valid: those that a canonical text within the limits can write.
+-- Which tables are valid: those that a canonical text within the limits can represent.
 use Rattle.std.specs.Prelude.{◌≡◌, ◌⊎◌, ℕ, ℤ, pos, ◌+◌, ◌<◌, ◌≤◌, ◌&&◌, ◌||◌, nat_lt, nat_le, Bool, List, [], ◌∷◌, ◌++◌, length, All, Contains, IsTrue, map, FitsSigned}
 use Rattle.std.specs.Int.{w32}
 use Rattle.std.specs.Ordering.{nat_cmp, int_cmp}
@@ -18,13 +18,13 @@ use Rattle.mrpc_table.specs.declared.table.Choices.{Choices}
 use Rattle.mrpc_table.specs.declared.table.Method.{Method}
 use Rattle.mrpc_table.specs.declared.table.Table.{Table}
 
--- each element stands in the relation to the next
+-- each element is in the relation to the next
 abbrev pub Ascends : {X : Type 0} → (X → X → Type 0) → List X → Type 0
 Ascends R [] = Unit {0}
 Ascends R (x ∷ []) = Unit {0}
 Ascends R (x ∷ y ∷ xs) = R x y × Ascends R (y ∷ xs)
 
--- no element stands twice
+-- no element occurs twice
 abbrev pub AreDistinct : {X : Type 0} → List X → Type 0
 AreDistinct [] = Unit {0}
 AreDistinct (x ∷ xs) = (Contains xs x → ⊥) × AreDistinct xs
@@ -38,12 +38,12 @@ pub record IsFieldNumber (n : ℕ) : Type 0 where
   pub small : n ≤ MAX_FIELD_NUMBER
   pub unreserved : (n < FIRST_RESERVED_NUMBER) ⊎ (LAST_RESERVED_NUMBER < n)
 
--- the same as a test
+-- `IsFieldNumber` as a test
 abbrev pub is_field_number : ℕ → Bool
 is_field_number n =
     (nat_lt 0 n && nat_le n MAX_FIELD_NUMBER) && (nat_lt n FIRST_RESERVED_NUMBER || nat_lt LAST_RESERVED_NUMBER n)
 
--- the message or enum that a kind names is one of the table
+-- the table has the message or enum that a kind names
 abbrev pub IsKnown : Table → Kind → Type 0
 IsKnown T (OfMessage i) = i < length T.messages
 IsKnown T (Choice i) = i < length T.enums
@@ -53,7 +53,7 @@ abbrev pub IsMessageKind : Kind → Type 0
 IsMessageKind (OfMessage i) = Unit {0}
 IsMessageKind _ = ⊥
 
--- which labels go with a kind, in a message with this many oneofs
+-- the labels that a field of a kind may have, in a message with this many oneofs
 abbrev pub GoesWith : ℕ → Label → Kind → Type 0
 GoesWith oneofs Plain k = Unit {0}
 GoesWith oneofs Optional k = IsMessageKind k → ⊥
@@ -68,8 +68,8 @@ pub record IsField (T : Table) (oneofs : ℕ) (f : Field) : Type 0 where
   pub label : GoesWith oneofs f.label f.kind
   pub kind : IsKnown T f.kind
 
--- oneofs are placed in the order of their least member numbers: read by ascending number, a member is
--- of a oneof that was met before, or of the next one
+-- oneofs are in the order of their least member numbers: by ascending number, a member belongs to an earlier oneof, or
+-- to the next one
 abbrev pub Joins : ℕ → Label → Type 0 → Type 0 → Type 0
 Joins met (Member o) same next = ((o < met) × same) ⊎ ((o ≡ met) × next)
 Joins met _ same next = same

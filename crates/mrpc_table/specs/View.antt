@@ -1,4 +1,4 @@
--- The data that a tree stands for.
+-- The data that a tree represents.
 use Rattle.std.specs.Prelude.{ℕ, List, [], ◌∷◌}
 use Rattle.mrpc_table.specs.Node.{Node, no_fields, field, Content, one, many, pairs, Item, number, run, node, Items, no_items, item, Pairs, no_pairs, pair}
 use Rattle.mrpc_table.specs.declared.tree.FieldValue.{FieldValue}

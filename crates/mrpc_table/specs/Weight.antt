@@ -1,4 +1,4 @@
--- How many parts a message has: a number that is larger than that of each message in it.
+-- The number of parts of a message, which is larger than that of each message in it.
 use Rattle.std.specs.Prelude.{ℕ, ◌+◌}
 use Rattle.mrpc_table.specs.Node.{Node, no_fields, field, Content, one, many, pairs, Item, number, run, node, Items, no_items, item, Pairs, no_pairs, pair}
 

@@ -30,7 +30,7 @@ IsWordForm Text n = ⊥
 IsWordForm Octets n = ⊥
 IsWordForm (Message i) n = ⊥
 
--- the kinds whose word form is a number below zero from 2^63 on
+-- the kinds for which a word of 2^63 or more is a number below zero
 abbrev pub is_signed : Kind → Bool
 is_signed Int32 = true
 is_signed Int64 = true
@@ -63,7 +63,7 @@ is_key (Message i) = false
 is_key (Choice i) = false
 is_key _ = true
 
--- where a word of the kind stands in the order of its numbers
+-- the rank of a word of the kind in the order of its numbers
 abbrev pub rank : Kind → ℕ → ℕ
 rank k n = elim (is_signed k) [ true ↦ (n + 2 ^ 63) % 2 ^ 64 | false ↦ n ]
 
@@ -77,7 +77,7 @@ abbrev pub key_kind : Label → Kind
 key_kind (Map key) = key
 key_kind _ = Uint64
 
--- a label of a field that has one value at most
+-- the label of a field that has at most one value
 abbrev pub has_one_value : Label → Bool
 has_one_value Plain = true
 has_one_value Optional = true

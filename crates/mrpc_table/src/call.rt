@@ -5,17 +5,17 @@ ghost use Rattle.mrpc_table.specs.Calls.{sort_of, is_of_sort};
 
 use crate::tree::Tree;
 
-/// Which of the two messages of a method a call has.
+/// Which of the two messages of a method a call carries.
 #[derive(Clone, Copy, PartialEq, Eq)]
 pub enum Sort {
     /// The arguments: a message of the method's input type.
     Request,
-    /// The answer: a message of its output type.
+    /// The result: a message of the method's output type.
     Reply,
 }
 
 impl Sort {
-    /// The sort of a call by its number: a request has the number 0, and a reply that of the request it answers.
+    /// The kind of a call by its number: a request has the number 0, and a reply has that of the request it answers.
     pub fn of_number(number: u32) -> Sort
         ensures { result ≡ sort_of number }
     {
@@ -27,7 +27,7 @@ impl Sort {
     }
 }
 
-/// A request or a reply, with its private copy.
+/// A request or a reply, with a private copy of its message.
 #[derive(Drop)]
 pub struct Call {
     /// The connection, from 1.
@@ -36,14 +36,14 @@ pub struct Call {
     pub seq: u32,
     /// The index of its method in the table.
     pub method: u16,
-    /// 0 of a request; of a reply the number of the answered request.
+    /// 0 for a request; for a reply, the number of the answered request.
     pub number: u32,
-    /// The arguments of a request, or the answer.
+    /// The arguments of a request, or the result.
     pub tree: Tree,
 }
 
 impl Call {
-    /// Whether the call is of a sort.
+    /// Whether the call is of a kind.
     pub fn is_of(&self, sort: Sort) -> bool
         ensures { result ≡ is_of_sort sort self.now.number }
     {

@@ -1,4 +1,4 @@
-//! Equal trees in memory of their own.
+//! Copies of trees.
 
 ghost use Rattle.std.specs.Prelude.{◌≡◌, IfOk};
 ghost use Rattle.mrpc_table.specs.View.{item_of, content_of};
@@ -8,7 +8,7 @@ use crate::tree::{FieldValue, Tree, Value};
 use std::alloc::Global;
 
 impl Tree {
-    /// An equal tree, in time in proportion to its parts.
+    /// An equal tree in memory of its own. Takes time linear in the parts of the tree.
     #[cycle(copied)]
     pub fn copied(&self, alloc: Global) -> Result<Tree, Memory>
         ensures { IfOk result (λ t. t ≡ self.now) }

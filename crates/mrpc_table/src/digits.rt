@@ -1,4 +1,4 @@
-//! Digits of a base, and the number that they spell.
+//! Digits of a base, and the number that they denote.
 
 ghost use Rattle.std.specs.Prelude.{◌≡◌, ◌≤◌, ◌<◌, ◌^◌, min};
 ghost use Rattle.std.specs.Char.{digit_value};
@@ -7,7 +7,7 @@ ghost use Rattle.mrpc_table.specs.Lines.{in_64_bits};
 
 use crate::words::Decimal;
 
-/// What a byte is worth as a digit: 0 to 9, 10 to 35 for a letter of either case, and 36 for any other byte.
+/// The value of a byte as a digit: 0 to 9, 10 to 35 for a letter of either case, and 36 for any other byte.
 pub fn digit_value(byte: u8) -> u8
     ensures { result ≡ digit_value byte }
 {
@@ -28,10 +28,10 @@ pub fn digit_value(byte: u8) -> u8
     }
 }
 
-// Larger than each number of 64 bits, and small enough that a digit can follow.
+// Larger than each 64-bit number, and small enough that one more digit can't overflow.
 const LARGE: u128 = 0x1_0000_0000_0000_0000;
 
-/// The number that digits spell, or 2 to the power of 64 where it is larger.
+/// The number that digits denote, capped at 2^64.
 #[tactic(auto, using(crate::proofs::CappedValues::capped_more))]
 pub fn number_capped(digits: &[u8], base: u8) -> u128
     requires { base ≤ 16 }
@@ -45,7 +45,7 @@ pub fn number_capped(digits: &[u8], base: u8) -> u128
     number
 }
 
-/// The number that digits of a base spell.
+/// The number that digits of a base denote.
 pub fn decimal_of(digits: &[u8], base: u8) -> Decimal
     requires small { base ≤ 16 }
     requires positive { 0 < base }

@@ -1,4 +1,4 @@
-//! Where the field of a number stands among the fields of a message.
+//! Search for a field of a message by its number.
 
 ghost use Rattle.std.specs.Prelude.{◌≡◌, ◌<◌, length, IsTrue, IfSome, IfNone, None, slice_get};
 ghost use Rattle.mrpc_table.specs.Ascending.{FieldsAscend};
@@ -6,8 +6,8 @@ ghost use Rattle.mrpc_table.specs.Normal.{field_at};
 
 use crate::table::Field;
 
-/// The place of the field of a number, in time by the logarithm of the fields. Records and the fields of trees mostly
-/// stand in order, so that the place at hand is tried first, and then the next one.
+/// The index of the field with a number. Records, and the fields of trees, are mostly in order, so it tries the index
+/// `hint` first and then the next one. Otherwise it takes time logarithmic in the number of fields.
 pub fn find_field(fields: &[Field], number: u32, hint: usize) -> Option<usize>
     requires { FieldsAscend fields.now }
     ensures bound { IfSome result (λ place. place < length fields.now) }
@@ -24,7 +24,7 @@ pub fn find_field(fields: &[Field], number: u32, hint: usize) -> Option<usize>
     search(fields, number)
 }
 
-// Whether the field of a number stands at a place.
+// Whether the field with a number is at an index.
 fn stands_at(fields: &[Field], number: u32, place: usize) -> bool
     requires { FieldsAscend fields.now }
     ensures bound { IsTrue result → place < length fields.now }
@@ -36,7 +36,7 @@ fn stands_at(fields: &[Field], number: u32, place: usize) -> bool
     }
 }
 
-// The same without a place at hand.
+// Like `find_field`, without a hint.
 pub(crate) fn search(fields: &[Field], number: u32) -> Option<usize>
     requires { FieldsAscend fields.now }
     ensures bound { IfSome result (λ place. place < length fields.now) }

@@ -3,7 +3,7 @@
 ghost use Rattle.std.specs.Prelude.{◌≡◌, ◌+◌, ◌*◌, ◌<◌, length, slice_index, IfSome};
 ghost use Rattle.hex.specs.Hex.{encode_lower, lower_digits};
 
-// The place behind two digits for each byte, where they begin at `start`.
+// The offset after two digits for each byte, if the first digit is at `start`.
 pub(crate) fn end_of_digits(start: usize, bytes: usize) -> Option<usize>
     ensures { IfSome result (λ end. end ≡ start + 2 * bytes) }
 {
@@ -23,7 +23,7 @@ pub(crate) fn write_digits(digits: &mut [u8], bytes: &[u8])
     }
 }
 
-// The digit of a number. With no look-up in a table many bytes are done at once.
+// The digit of a number. Without a table look-up, the compiler can convert many bytes at once.
 fn digit(number: u8) -> u8
     requires { number < 16 }
     ensures { result ≡ slice_index lower_digits number }

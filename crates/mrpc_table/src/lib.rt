@@ -1,19 +1,17 @@
-//! Tables, trees and their parts: what a proto3 schema says, and what a message has.
+//! Tables, trees and their parts: what a proto3 schema declares, and what a message contains.
 //!
-//! A [`Table`] lists the messages, enums and methods of a schema; a [`Tree`] is one message, its
-//! fields by ascending number. A clause sees a list type of this crate as a plain list, and a
-//! `Tree` as the data of `specs/Node.antt`. It stands on no crate of the project. The layers above
-//! use one contract: `IsValid` says which tables there are and `table_text` what their canonical
-//! text is, and `IsNormal` says which trees a message has.
+//! A [`Table`] lists the messages, enums and methods of a schema. A [`Tree`] is one message, its fields by ascending
+//! number. Contracts see a list type of this crate as a plain list, and a `Tree` as the data of `specs/Node.antt`. This
+//! crate depends on no crate of the project. The layers above use one contract: `IsValid` defines the valid tables,
+//! `table_text` their canonical text, and `IsNormal` the trees of a message.
 //!
-//! Beside these stands what the layers above have in common. [`Call`] is a request or a reply with its message, and
-//! [`Sort`] says which of the two (`specs/Calls.antt`). A [`Path`] leads to a field of a message: field numbers joined
-//! by dots, of which each but the last is a message ([`PathWord::read`], [`PathWord::resolve`], [`message_behind`];
-//! `specs/PathWords.antt`, `PathFields.antt`, `PathTrees.antt`). [`Lines`] are the lines of a policy and [`RuleFault`]
-//! says why they are no text of one (`specs/PolicyLines.antt`, over `FirstFault.antt`). All texts of the project are
-//! read with one vocabulary of lines and words (`specs/Lines.antt`). A map's entries come in any order, and with equal
-//! keys, from bytes as from words; [`last_of_each`] brings them into the order of a message in normal form
-//! (`specs/MapEntries.antt`).
+//! It also has what the layers above share. [`Call`] is a request or a reply with its message, and [`Sort`] is which of
+//! the two (`specs/Calls.antt`). A [`Path`] leads to a field of a message: field numbers joined by dots, each but the
+//! last being a message ([`PathWord::read`], [`PathWord::resolve`], [`message_behind`]; `specs/PathWords.antt`,
+//! `PathFields.antt`, `PathTrees.antt`). [`Lines`] are the lines of a policy, and a [`RuleFault`] is why they are no
+//! policy (`specs/PolicyLines.antt`, over `FirstFault.antt`). All texts of the project share one vocabulary of lines
+//! and words (`specs/Lines.antt`). The entries of a map may come in any order and with equal keys. [`last_of_each`]
+//! brings them into the order of a message in normal form (`specs/MapEntries.antt`).
 #![tactic(auto)]
 
 mod call;

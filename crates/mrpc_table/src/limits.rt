@@ -1,52 +1,52 @@
 //! The limits of tables, names, sets of files, trees, paths and heaps, which the definitions share.
 
-/// How many messages a table has at most.
+/// The most messages of a table.
 pub const MAX_MESSAGES: usize = 256;
 
-/// How many enums a table has at most.
+/// The most enums of a table.
 pub const MAX_ENUMS: usize = 256;
 
-/// How many methods a table has at most.
+/// The most methods of a table.
 pub const MAX_METHODS: usize = 256;
 
-/// How many fields a message has at most, and so how many oneofs.
+/// The most fields of a message, and so the most oneofs.
 pub const MAX_FIELDS: usize = 128;
 
-/// How many values an enum has at most.
+/// The most values of an enum.
 pub const MAX_VALUES: usize = 1024;
 
-/// How many bytes a table's text has at most.
+/// The most bytes of a table's text.
 pub const MAX_TEXT: usize = 65536;
 
-/// How many bytes a name has at most, and a part of a full name.
+/// The most bytes of a name, and of each part of a full name.
 pub const MAX_NAME: usize = 64;
 
-/// How many bytes a full name has at most.
+/// The most bytes of a full name.
 pub const MAX_FULL_NAME: usize = 255;
 
-/// How many files a set has at most.
+/// The most files of a set.
 pub const MAX_FILES: usize = 64;
 
-/// The largest number of a field.
+/// The largest field number.
 pub const MAX_FIELD_NUMBER: u64 = 536_870_911;
 
-/// The first of the numbers that no field has: Protocol Buffers keeps them for itself.
+/// The first of the numbers that no field has: Protocol Buffers reserves them for its implementation.
 pub const FIRST_RESERVED_NUMBER: u64 = 19_000;
 
 /// The last of the numbers that no field has.
 pub const LAST_RESERVED_NUMBER: u64 = 19_999;
 
-/// How deep messages nest at most in a tree in normal form, the root counting 1.
+/// How deep messages may nest in a tree in normal form; the root has depth 1.
 pub const MAX_DEPTH: u32 = 32;
 
-/// How many numbers a path has at most.
+/// The most numbers of a path.
 pub const MAX_PATH: usize = 32;
 
-/// How many words a heap has at least: word 0 belongs to nobody.
+/// The least words of a heap; word 0 is never used.
 pub const MIN_HEAP: u64 = 4;
 
-/// How many words a heap has at most.
+/// The most words of a heap.
 pub const MAX_HEAP: u64 = 65536;
 
-/// How many words are loaded of a graph at most, whatever limit a script sets.
+/// The most words that are loaded of a graph, whatever limit a script sets.
 pub const MAX_LOADS: u64 = 16384;

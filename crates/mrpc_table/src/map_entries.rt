@@ -1,7 +1,7 @@
 //! The entries of a map: each key once, by ascending key, with the value of its last entry.
 //!
-//! A map's entries may come in any order, and with equal keys, from bytes as from words; they are brought into the
-//! order of a message in normal form, as `specs/MapEntries.antt` says.
+//! The entries of a map may come in any order and with equal keys. This module brings them into the order of a message
+//! in normal form, as `specs/MapEntries.antt` defines it.
 
 ghost use Rattle.std.specs.Prelude.{◌≡◌, [], ◌∷◌, ◌++◌, if◌then◌else◌, map, IfOk, OnOk, IsTrue};
 ghost use Rattle.std.specs.Ordering.{is_eq};
@@ -13,8 +13,8 @@ use crate::{Entries, Kind, Memory, Value};
 use std::alloc::Global;
 use std::cmp::Ordering;
 
-/// What is kept of a map's entries: each key once, by ascending key, with the value of its last entry. It takes
-/// the time of a sort. `Memory` comes only where no memory was found.
+/// The entries of a map in normal form: each key once, by ascending key, with the value of its last entry. It takes the
+/// time of a sort. `Memory` is returned only when it is out of memory.
 pub fn last_of_each(alloc: Global, entries: Entries, key: Kind) -> Result<Entries, Memory>
     ensures { IfOk result
         (λ ps. pairs_of ps.items ≡ last_of_each key (map items_of_entry entries.items)) }
@@ -27,7 +27,7 @@ pub fn last_of_each(alloc: Global, entries: Entries, key: Kind) -> Result<Entrie
     last_of_sorted(alloc, sorted, key)
 }
 
-// Whether each key is above the one before it.
+// Whether each key is above the previous one.
 fn ascends(entries: &Entries, key: Kind) -> bool
     ensures { IsTrue result → KeysRise key entries.now.items }
 {
@@ -39,7 +39,7 @@ fn ascends(entries: &Entries, key: Kind) -> bool
     true
 }
 
-// The same, where equal keys stand one behind another in ascending order.
+// Like `last_of_each`, for entries that are sorted by key.
 fn last_of_sorted(alloc: Global, sorted: Entries, key: Kind) -> Result<Entries, Memory>
     requires { AreSorted key sorted.items }
     ensures { IfOk result
@@ -52,7 +52,7 @@ fn last_of_sorted(alloc: Global, sorted: Entries, key: Kind) -> Result<Entries, 
     Ok(kept)
 }
 
-// Appends an entry, in place of the last one where that has the same key.
+// Appends an entry, or replaces the last one if that has the same key.
 fn add_entry(kept: &mut Entries, entry: (Value, Value), key: Kind) -> Result<(), Memory>
     ensures { OnOk result (IsEntryAdded key kept.old.items entry kept.new.items) }
 {
@@ -70,7 +70,7 @@ fn add_entry(kept: &mut Entries, entry: (Value, Value), key: Kind) -> Result<(),
     }
 }
 
-// Appends an entry unless another one takes its place.
+// Appends an entry unless its key is the same.
 fn keep_unless(kept: &mut Entries, entry: (Value, Value), same: bool) -> Result<(), Memory>
     ensures { OnOk result
         (kept.new.items ≡ (if same then kept.old.items else kept.old.items ++ entry ∷ [])) }
@@ -88,7 +88,7 @@ fn is_same(key: Kind, a: &Value, b: &Value) -> bool
     compare(key, a, b).is_eq()
 }
 
-// Keys as numbers of their kind, or by bytes.
+// Compares keys as numbers of their kind, or by bytes.
 fn compare(key: Kind, a: &Value, b: &Value) -> Ordering
     ensures { result ≡ key_cmp key (item_of a.now) (item_of b.now) }
 {

@@ -1,4 +1,4 @@
-//! What holds of the entries that are kept. The function does nothing; its clauses hold.
+//! Laws of the entries that `last_of_each` keeps. The function does nothing; its clauses are the laws.
 
 ghost use Rattle.std.specs.Prelude.{◌≡◌, ◌≢◌, ◌≤◌, ℕ, List, ◌∷◌};
 ghost use Rattle.std.specs.List.{AllByRecursion};
@@ -9,12 +9,12 @@ ghost use Rattle.mrpc_table.specs.declared.table.Kind.TheVariants.{Message};
 ghost use Rattle.mrpc_table.specs.declared.table.Table.{Table};
 ghost use Rattle.mrpc_table.specs.MapEntries.{last_of_each};
 
-/// What is kept of some entries is in normal form where each key and each value is.
+/// The kept entries are in normal form if each key and each value is.
 pub fn kept_entries_are_normal()
     ensures kinds { (T : Table) (key k : Kind) (es : List (Item × Item))
         → AllByRecursion (λ e. IsItem T key e.0 × IsItem T k e.1) es
         → ArePairs T key k (last_of_each key es) }
-    // The keys ascend, where they are no messages.
+    // The keys ascend, unless they are messages.
     ensures ascend { (T : Table) (key k : Kind) (es : List (Item × Item)) → ((i : ℕ) → key ≢ Message i)
         → AllByRecursion (λ e. IsItem T key e.0 × IsItem T k e.1) es → KeysAscend key (last_of_each key es) }
     ensures depth { (key : Kind) (room : ℕ) (es : List (Item × Item))

@@ -1,4 +1,4 @@
-//! The one answer that is free: no memory was found.
+//! The error that has no cause in the input: out of memory.
 
 ghost use Rattle.std.specs.Prelude.{◌≡◌};
 ghost use Rattle.mrpc_table.specs.declared.memory.Memory.{Memory};
@@ -6,7 +6,7 @@ ghost use Rattle.mrpc_table.specs.declared.memory.Memory.{Memory};
 use std::alloc::{AllocError, AllocFailed};
 use thiserror::Error;
 
-/// A call that takes memory found none.
+/// Out of memory.
 #[derive(Clone, Copy, Debug, PartialEq, Eq, Error)]
 #[error("out of memory")]
 pub struct Memory;

@@ -15,10 +15,10 @@ use crate::table::{Field, Kind, Label, Message, Table};
 use crate::tree::{FieldValue, Tree, Value};
 use std::cmp::Ordering;
 
-/// Whether the tree is a normal tree of the message: its fields are of the message and ascend, each
-/// number is a word form of its kind, strings are UTF-8, no default stands under implicit presence, no
-/// repeated field or map is empty, map keys ascend, a oneof has one member at most, and messages nest
-/// at most 32 deep. A deeper tree is left where the 33rd message begins.
+/// Whether the tree is a normal tree of the message. Its fields belong to the message, in ascending order. Each number
+/// is a word form of its kind, and strings are UTF-8. No field with implicit presence has its default, and no repeated
+/// field or map is empty. Map keys ascend, a oneof has at most one member, and messages nest at most 32 deep. In a
+/// deeper tree the check stops at the 33rd level.
 pub fn fits(tree: &Tree, table: &Table, msg: u32) -> bool
     requires valid { IsValid table.now }
     requires known { msg < length table.now.messages }
@@ -41,7 +41,7 @@ fn tree_fits(tree: &Tree, table: &Table, msg: u32, room: u32) -> bool
     fields_fit(tree, message, &mut taken, table, room)
 }
 
-// `taken` says of each oneof whether it has a member.
+// `taken` records for each oneof whether it has a member.
 #[cycle(fits)]
 fn fields_fit(tree: &Tree, message: &Message, taken: &mut [bool], table: &Table, room: u32) -> bool
     requires valid { IsValid table.now }
@@ -140,7 +140,7 @@ fn item_fits(value: &Value, kind: Kind, table: &Table, room: u32) -> bool
     }
 }
 
-// Whether the oneof of a label has no member yet; now it has one.
+// Marks the oneof of a label as having a member, and returns whether it had none before.
 fn take_member(taken: &mut [bool], label: Label) -> bool
     requires { IsPlaced (length taken.old) label }
     ensures free { result ≡ is_free taken.old label }

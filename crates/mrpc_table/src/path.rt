@@ -8,9 +8,9 @@ use crate::table::{Kind, Label};
 use crate::words::Decimal;
 use std::alloc::Global;
 
-/// A way into a tree, and the field at its end.
+/// A path into a tree, and the field at its end.
 pub struct Path {
-    /// The numbers of the messages on the way, the outermost first, 31 at most.
+    /// The numbers of the messages along the path, the outermost first, 31 at most.
     pub way: Sequence<u32>,
     /// The number of the field at the end.
     pub number: u32,
@@ -20,7 +20,7 @@ pub struct Path {
     pub label: Label,
 }
 
-// By hand, so that a drop is one call where it is needed, and not a drop of each part.
+// Written by hand, so that a drop is one call, and not a drop of each part.
 impl Drop for Path {
     fn drop(self) {
         let Path {
@@ -40,7 +40,7 @@ pub struct PathWord {
     pub last: Decimal,
 }
 
-// By hand, so that a drop is one call where it is needed, and not a drop of each part.
+// Written by hand, so that a drop is one call, and not a drop of each part.
 impl Drop for PathWord {
     fn drop(self) {
         let PathWord { way: _way, last: _ } = self;

@@ -1,4 +1,4 @@
-//! The message behind a way into a tree.
+//! The message at the end of a path into a tree.
 
 ghost use Rattle.std.specs.Prelude.{◌≡◌, IfSome};
 ghost use Rattle.std.specs.Option.{option_copied};
@@ -18,7 +18,7 @@ fn message_under(tree: &Tree, number: u32) -> Option<&Tree>
     }
 }
 
-/// The message behind the messages of these numbers.
+/// The message that is reached through the messages with these numbers.
 pub fn message_behind<'a>(tree: &'a Tree, way: &[u32]) -> Option<&'a Tree>
     requires { IsAscending tree.now }
     ensures message { option_copied result ≡ message_behind tree.now way.now }

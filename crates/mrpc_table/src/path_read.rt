@@ -11,8 +11,8 @@ use crate::words::{cut, number_of};
 use std::alloc::Global;
 
 impl PathWord {
-    /// The numbers that a word spells, joined by dots. None where it has too many parts, or one that is no
-    /// number. It takes time in proportion to the word.
+    /// The numbers that a word spells, joined by dots. `None` if there are too many parts, or one is not a number.
+    /// Takes time linear in the word.
     pub fn read(alloc: Global, word: &[u8]) -> Result<Option<PathWord>, Memory>
         ensures { IfOk result (λ p. p ≡ path_of word.now) }
     {

@@ -1,4 +1,4 @@
-//! Where a path leads in a message of a table.
+//! Resolves a path in a message of a table.
 
 ghost use Rattle.std.specs.Prelude.{◌≡◌, IfOk, option_map};
 ghost use Rattle.std.specs.Option.{option_copied};
@@ -12,7 +12,7 @@ use crate::table::{Field, Kind, Label, Table};
 use crate::words::Decimal;
 use std::alloc::Global;
 
-// The field of a number; no field has a number of more than 32 bits.
+// The field with a number; no field number has more than 32 bits.
 fn field_numbered(table: &Table, msg: u32, number: Decimal) -> Option<&Field>
     requires { IsValid table.now }
     ensures { option_copied result ≡ field_numbered table.now msg number }
@@ -29,7 +29,7 @@ fn has_one_message(label: Label) -> bool
     matches!(label, Label::Plain | Label::Member(_))
 }
 
-// A field on the way: its number, and the message that it has.
+// A field along the path: its number, and the message that it contains.
 fn step_in(table: &Table, msg: u32, number: Decimal) -> Option<(u32, u32)>
     requires { IsValid table.now }
     ensures { result ≡ step_in table.now msg number }
@@ -41,7 +41,7 @@ fn step_in(table: &Table, msg: u32, number: Decimal) -> Option<(u32, u32)>
     }
 }
 
-// The numbers of a way and the message at its end.
+// The numbers along a path, and the message at its end.
 fn way_in(
     alloc: Global,
     table: &Table,
@@ -64,8 +64,8 @@ fn way_in(
 }
 
 impl PathWord {
-    /// Where the numbers lead in a message of the table: each but the last is a field of message kind that is
-    /// plain or a member of a oneof, and the last is any field. None where a number is no such field.
+    /// The field that the numbers lead to in a message of the table. Each number but the last must be a field of
+    /// message kind that is plain or a member of a oneof; the last is any field. `None` if a number is no such field.
     pub fn resolve(&self, alloc: Global, table: &Table, msg: u32) -> Result<Option<Path>, Memory>
         requires { IsValid table.now }
         ensures { IfOk result (λ p. p ≡ path_in table.now msg self.now) }

@@ -1,4 +1,4 @@
-//! The lines of policies, and why lines are no text of one.
+//! The lines of policies, and why lines are no policy.
 
 ghost use Rattle.std.specs.Prelude.{◌≡◌, ◌+◌, ◌^◌, ◌<◌};
 ghost use Rattle.mrpc_table.specs.declared.policy_lines.RuleFault.TheVariants.{Memory as NoMemory};
@@ -12,20 +12,20 @@ use thiserror::Error;
 /// The lines of a policy, without their line feeds.
 pub type Lines = Sequence<Bytes>;
 
-/// What is wrong with a line. Of several reasons at one line, the first of this list counts.
+/// What is wrong with a line. If a line has several reasons, the first of this list counts.
 #[derive(Clone, Copy, Debug)]
 pub enum RuleReason {
-    /// A line, or its value, that is out of form, a 65th rule or clear, or no clear at all.
+    /// A line or its value has the wrong form, it is a 65th rule or clear, or there is no clear at all.
     Word,
-    /// An index above 65535, or a value out of the range of its kind.
+    /// An index is above 65535, or a value is out of the range of its kind.
     Number,
-    /// A rule's name that is no name of at most 64 bytes, or is `default`.
+    /// The name of a rule is no name of at most 64 bytes, or is `default`.
     Name,
-    /// A rule's name that stands before.
+    /// The name of a rule occurs on an earlier line.
     Known,
-    /// A method or a field that the table lacks, or an OP that doesn't go with the field.
+    /// The table lacks the method or the field, or OP doesn't apply to the field.
     Path,
-    /// A line behind the default, or no default.
+    /// A line follows the default, or there is no default.
     Default,
 }
 
@@ -50,13 +50,13 @@ pub enum RuleFault {
     /// The first line at fault, from 1, with its first reason.
     #[error("line {line}: {reason}")]
     At { line: u64, reason: RuleReason },
-    /// No memory was found.
+    /// Out of memory.
     #[error("out of memory")]
     Memory,
 }
 
 impl RuleFault {
-    /// The fault of the line at a place, counted from 0.
+    /// The fault of the line at an index, counted from 0.
     pub fn at(place: usize, reason: RuleReason) -> RuleFault
         requires { place < 2 ^ 63 }
         ensures { result ≡ RuleFault.At (place + 1) reason }

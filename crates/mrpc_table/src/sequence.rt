@@ -1,4 +1,4 @@
-//! A list that is kept in a vector. Clauses see the list, and neither room nor place.
+//! A list over a vector. Contracts see only the list, neither its capacity nor its address.
 
 ghost use Rattle.std.specs.Prelude.{◌≡◌, ◌≤◌, ◌<◌, ◌+◌, ◌↔◌, ℕ, List, [], ◌∷◌, ◌++◌, ◌⊎◌, length, map, IsTrue, OnOk, OnErr, IfOk};
 ghost use Rattle.std.specs.Fmt.{decimal};
@@ -17,7 +17,7 @@ pub struct Sequence<T> {
     items: Vec<T>,
 }
 
-// By hand, so that a drop is one call where it is needed, and not a drop of each part.
+// Written by hand, so that a drop is one call, and not a drop of each part.
 impl<T: Drop> Drop for Sequence<T> {
     fn drop(self) {
         let Sequence { items: _items } = self;
@@ -33,12 +33,11 @@ impl<T> Model for Sequence<T> {
 /// A list of bytes.
 pub type Bytes = Sequence<u8>;
 
-/// The bytes of a name: a letter or `_`, then letters, digits and `_`; in a full name, such names
-/// joined by dots.
+/// The bytes of a name: a letter or `_`, then letters, digits and `_`. A full name is such names joined by dots.
 pub type Name = Sequence<u8>;
 
 impl<T> Sequence<T> {
-    /// The list without an item. It takes no memory.
+    /// An empty list. It allocates nothing.
     pub fn new(alloc: Global) -> Sequence<T>
         ensures { result ≡ [] }
     {
@@ -47,7 +46,7 @@ impl<T> Sequence<T> {
         }
     }
 
-    /// A list without an item, with room for `room` items.
+    /// An empty list with capacity for `room` items.
     pub fn with_room(alloc: Global, room: usize) -> Result<Sequence<T>, Memory>
         ensures { IfOk result (λ s. s ≡ []) }
     {
@@ -56,14 +55,14 @@ impl<T> Sequence<T> {
         })
     }
 
-    /// The list that the vector has. It takes no memory.
+    /// The list of a vector's items. It allocates nothing.
     pub fn from_vec(items: Vec<T>) -> Sequence<T>
         ensures { result ≡ items.items }
     {
         Sequence { items }
     }
 
-    /// The vector of the items. It takes no memory.
+    /// The vector of the items. It allocates nothing.
     pub fn into_vec(self) -> Vec<T>
         ensures { result.items ≡ self }
     {
@@ -85,7 +84,7 @@ impl<T> Sequence<T> {
         self.items.len()
     }
 
-    /// Whether there is no item.
+    /// Whether the list has no items.
     pub fn is_empty(&self) -> bool
         ensures { IsTrue result ↔ (self.now ≡ []) }
     {
@@ -93,7 +92,7 @@ impl<T> Sequence<T> {
     }
 
     // Inlined, since a call would move the item once more.
-    /// Appends an item. Without memory the list stays, and the item is dropped.
+    /// Appends an item. If it is out of memory, the list is unchanged and the item is dropped.
     #[inline(always)]
     pub fn push(&mut self, item: T) -> Result<(), Memory>
     where
@@ -107,7 +106,7 @@ impl<T> Sequence<T> {
 }
 
 impl Sequence<u8> {
-    /// Takes all bytes away. The room stays.
+    /// Removes all bytes. The capacity is kept.
     pub fn clear(&mut self)
         ensures { self.new ≡ [] }
     {
@@ -130,7 +129,7 @@ impl Sequence<u8> {
         Sequence::from_slice(alloc, self.as_slice())
     }
 
-    /// Appends the bytes of a slice. Without memory the list stays.
+    /// Appends the bytes of a slice. If it is out of memory, the list is unchanged.
     pub fn append(&mut self, bytes: &[u8]) -> Result<(), Memory>
         ensures ok { OnOk result (self.new ≡ self.old ++ bytes.now) }
         ensures err { OnErr result (self.new ≡ self.old) }
@@ -139,7 +138,7 @@ impl Sequence<u8> {
         Ok(())
     }
 
-    /// Appends the digits of a decimal number. Without memory the list stays.
+    /// Appends the digits of a decimal number. If it is out of memory, the list is unchanged.
     pub fn append_decimal(&mut self, number: u64) -> Result<(), Memory>
         ensures ok { OnOk result (self.new ≡ self.old ++ decimal number) }
         ensures err { OnErr result (self.new ≡ self.old) }
@@ -148,8 +147,8 @@ impl Sequence<u8> {
         self.append(buffer.format(number).as_bytes())
     }
 
-    /// Appends a space and the digits of a decimal number, as a further word of a line. Without memory the list stays,
-    /// or has the space alone.
+    /// Appends a space and the digits of a decimal number, as a further word of a line. If it is out of memory, the
+    /// list is unchanged or has only the space appended.
     pub fn append_word(&mut self, number: u64) -> Result<(), Memory>
         ensures ok { OnOk result (self.new ≡ self.old ++ 32 ∷ decimal number) }
         ensures err { OnErr result ((self.new ≡ self.old) ⊎ (self.new ≡ self.old ++ 32 ∷ [])) }
@@ -169,7 +168,7 @@ impl Sequence<u8> {
         self.append(word)
     }
 
-    /// Appends bytes, and behind them the digits of decimal numbers, each as a further word of a line. The only error is
+    /// Appends bytes, and then the digits of decimal numbers, each as a further word of a line. The only error is
     /// `Memory`.
     pub fn append_row(&mut self, front: &[u8], numbers: &[u64]) -> Result<(), Memory>
         ensures { OnOk result (self.new ≡ self.old ++ (front.now ++ behind_spaces (map decimal numbers.now))) }
@@ -181,7 +180,8 @@ impl Sequence<u8> {
         Ok(())
     }
 
-    /// Appends bytes in lower-case hexadecimal digits, two for each byte. Without memory the list stays.
+    /// Appends bytes as lower-case hexadecimal digits, two for each byte. If it is out of memory, the list is
+    /// unchanged.
     pub fn append_hex(&mut self, bytes: &[u8]) -> Result<(), Memory>
         ensures ok { OnOk result (self.new ≡ self.old ++ encode_lower bytes.now) }
         ensures err { OnErr result (self.new ≡ self.old) }

@@ -1,5 +1,5 @@
-//! What a schema says: messages with their fields, enums with their values, methods of services.
-//! Messages and enums are named by their place in the table, from 0.
+//! The declarations of a schema: messages with their fields, enums with their values, and methods of services. A
+//! message or an enum is named by its index in the table, from 0.
 
 ghost use Rattle.std.specs.Prelude.{◌≡◌, ◌<◌, ◌↔◌, length, IsTrue};
 ghost use Rattle.std.specs.Option.{option_copied};
@@ -44,20 +44,20 @@ pub enum Kind {
     Float,
     /// `double`: eight bytes, little-endian, whose bits are never compared.
     Double,
-    /// `string`: UTF-8 text behind its length.
+    /// `string`: UTF-8 text after its length.
     Text,
-    /// `bytes`: bytes behind their length.
+    /// `bytes`: bytes after their length.
     Octets,
-    /// A message behind its length, by its place in the table.
+    /// A message after its length; the number is its index in the table.
     Message(u32),
-    /// An enum by its place in the table: a varint, sign extended to 64 bits.
+    /// An enum by its index in the table: a varint, sign extended to 64 bits.
     Choice(u32),
 }
 
 impl Kind {
     ghost use Rattle.mrpc_table.specs.Words.{nested_message};
 
-    /// The scalar kind of a name of proto3.
+    /// The scalar kind with a proto3 name.
     pub fn of_name(name: &[u8]) -> Option<Kind>
         ensures { result ≡ scalar_of name.now }
     {
@@ -96,7 +96,7 @@ impl Kind {
         }
     }
 
-    /// Whether its values are numbers: neither text, bytes nor messages.
+    /// Whether the values of this kind are numbers: neither text, bytes nor messages.
     pub fn is_numeric(self) -> bool
         ensures { result ≡ is_numeric self }
     {
@@ -119,7 +119,7 @@ impl Kind {
         }
     }
 
-    /// Whether a map's keys may have it: integral, bool or string.
+    /// Whether the keys of a map may have this kind: integral, bool or string.
     pub fn is_key(self) -> bool
         ensures { result ≡ is_key self }
     {
@@ -140,7 +140,7 @@ impl Kind {
         }
     }
 
-    /// Where the word form of a number stands in the order of the numbers of this kind.
+    /// The rank of a number, given in its word form, among the numbers of this kind.
     pub fn rank(self, word: u64) -> u64
         ensures { result ≡ rank self word }
     {
@@ -185,7 +185,7 @@ impl Kind {
         }
     }
 
-    /// The message that this kind names, by its place in the table; 0 where it names none.
+    /// The message that this kind names, by its index in the table; 0 if it names none.
     pub fn message(self) -> u32
         ensures { result ≡ nested_message self }
     {
@@ -216,25 +216,25 @@ impl Kind {
     }
 }
 
-/// How often a field stands, and how it is written.
+/// How many values a field has, and how they are encoded.
 #[derive(Clone, Copy, PartialEq, Eq)]
 pub enum Label {
-    /// Once, with implicit presence; a message is there or not.
+    /// At most one value, with implicit presence; a message is present or not.
     Plain,
-    /// Once, with explicit presence.
+    /// At most one value, with explicit presence.
     Optional,
-    /// Any number of times, one record for each element.
+    /// Any number of values, one record for each element.
     Repeated,
-    /// Any number of times, all elements in one record.
+    /// Any number of values, all elements in one record.
     Packed,
     /// A map with keys of this kind; the field's own kind is that of its values.
     Map(Kind),
-    /// A member of the oneof at this place of its message.
+    /// A member of the oneof at this index of its message.
     Member(u32),
 }
 
 impl Label {
-    /// The kind of a map's keys; of what is no map `uint64`.
+    /// The kind of a map's keys; `uint64` for any other label.
     pub fn key(self) -> Kind
         ensures { result ≡ key_kind self }
     {
@@ -255,7 +255,7 @@ pub struct Field {
     pub label: Label,
 }
 
-// By hand, so that a drop is one call where it is needed, and not a drop of each part.
+// Written by hand, so that a drop is one call, and not a drop of each part.
 impl Drop for Field {
     fn drop(self) {
         let Field {
@@ -270,10 +270,10 @@ impl Drop for Field {
 /// The fields of a message, by ascending number.
 pub type Fields = Sequence<Field>;
 
-/// Names, as those of the oneofs of a message.
+/// A list of names, such as those of the oneofs of a message.
 pub type Names = Sequence<Name>;
 
-/// A message of the schema. Its oneofs stand in the order of their least member numbers.
+/// A message of the schema. Its oneofs are in the order of their least member numbers.
 pub struct Message {
     /// The full name.
     pub name: Name,
@@ -281,7 +281,7 @@ pub struct Message {
     pub oneofs: Names,
 }
 
-// By hand, so that a drop is one call where it is needed, and not a drop of each part.
+// Written by hand, so that a drop is one call, and not a drop of each part.
 impl Drop for Message {
     fn drop(self) {
         let Message {
@@ -293,7 +293,7 @@ impl Drop for Message {
 }
 
 impl Message {
-    /// The field of a number, in time by the logarithm of the fields.
+    /// The field with a number. Takes time logarithmic in the number of fields.
     pub fn field(&self, number: u32) -> Option<&Field>
         requires { FieldsAscend self.now.fields }
         ensures { option_copied result ≡ field_at self.now.fields number }
@@ -316,7 +316,7 @@ pub struct Choices {
     pub values: ChoiceValues,
 }
 
-// By hand, so that a drop is one call where it is needed, and not a drop of each part.
+// Written by hand, so that a drop is one call, and not a drop of each part.
 impl Drop for Choices {
     fn drop(self) {
         let Choices {
@@ -326,7 +326,7 @@ impl Drop for Choices {
     }
 }
 
-/// A method of a service. Its input and output are places of messages in the table.
+/// A method of a service. Its input and output are indices of messages in the table.
 pub struct Method {
     /// The full name of its service.
     pub service: Name,
@@ -335,7 +335,7 @@ pub struct Method {
     pub output: u32,
 }
 
-// By hand, so that a drop is one call where it is needed, and not a drop of each part.
+// Written by hand, so that a drop is one call, and not a drop of each part.
 impl Drop for Method {
     fn drop(self) {
         let Method {
@@ -356,15 +356,14 @@ pub type Enums = Sequence<Choices>;
 /// Methods, by their index.
 pub type Methods = Sequence<Method>;
 
-/// What a schema says. `IsValid` of `specs/Valid.antt` says when it is one that a canonical text
-/// can write.
+/// The declarations of a schema. `IsValid` of `specs/Valid.antt` defines when a canonical text can represent it.
 pub struct Table {
     pub messages: Messages,
     pub enums: Enums,
     pub methods: Methods,
 }
 
-// By hand, so that a drop is one call where it is needed, and not a drop of each part.
+// Written by hand, so that a drop is one call, and not a drop of each part.
 impl Drop for Table {
     fn drop(self) {
         let Table {
@@ -378,7 +377,7 @@ impl Drop for Table {
 impl Table {
     ghost use Rattle.mrpc_table.specs.Calls.{message_of, message_at};
 
-    /// The fields of the message at a place; none where there is no such message.
+    /// The fields of the message at an index; empty if there is no such message.
     pub fn fields(&self, message: u32) -> &[Field]
         ensures value { result.now ≡ fields_of self.now message }
         ensures ascend { AllAscend self.now → FieldsAscend result.now }
@@ -389,7 +388,7 @@ impl Table {
         }
     }
 
-    /// The field of a number in the message at a place, in time by the logarithm of its fields.
+    /// The field with a number in the message at an index. Takes time logarithmic in the number of its fields.
     pub fn field(&self, message: u32, number: u32) -> Option<&Field>
         requires { IsValid self.now }
         ensures { option_copied result ≡ field_at (fields_of self.now message) number }
@@ -400,8 +399,8 @@ impl Table {
         }
     }
 
-    /// The message that the requests, or the replies, of a method have, by its place in the table: the method's
-    /// input or its output.
+    /// The message that the requests or the replies of a method carry, by its index in the table: the method's input or
+    /// its output.
     pub fn message_of(&self, method: u16, sort: Sort) -> u32
         requires valid { IsValid self.now }
         requires known { method < length self.now.methods }
@@ -415,7 +414,7 @@ impl Table {
         }
     }
 
-    /// The message that a call of a method has, by the call's number, which tells its sort.
+    /// The message that a call of a method carries. The call's number determines whether it is a request or a reply.
     pub fn message_at(&self, method: u16, number: u32) -> u32
         requires valid { IsValid self.now }
         requires known { method < length self.now.methods }

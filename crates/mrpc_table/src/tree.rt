@@ -9,17 +9,17 @@ ghost use Rattle.mrpc_table.specs.Weight.{weight, content_weight};
 use crate::sequence::Bytes;
 use std::marker::Model;
 
-/// A message: its fields, by ascending number where it is in normal form.
+/// A message: its fields, by ascending number if it is in normal form.
 #[cycle(tree)]
 #[derive(Drop)]
 pub struct Tree {
     pub fields: Numbered,
 }
 
-/// Field numbers with what each field has.
+/// Field numbers, each with the content of the field.
 pub type Numbered = Vec<(u32, FieldValue)>;
 
-/// What a field has.
+/// The content of a field.
 #[cycle(tree)]
 #[derive(Drop)]
 pub enum FieldValue {
@@ -34,16 +34,16 @@ pub enum FieldValue {
 /// The elements of a repeated field, in order.
 pub type Values = Vec<Value>;
 
-/// The entries of a map, in a normal tree by ascending key.
+/// The entries of a map; by ascending key in a normal tree.
 pub type Entries = Vec<(Value, Value)>;
 
 /// One value.
 #[cycle(tree)]
 #[derive(Drop)]
 pub enum Value {
-    /// A number, a truth value or an enum's value, in the word form of its kind.
+    /// A number, a bool or an enum value, in the word form of its kind.
     Number(u64),
-    /// The bytes of a string or of bytes.
+    /// The bytes of a `string` or `bytes` value.
     Run(Bytes),
     /// A message.
     Node(Tree),
@@ -70,7 +70,7 @@ impl Model for Tree {
 }
 
 impl Tree {
-    /// What the tree has under a number, in time by the logarithm of its fields.
+    /// The content of the field with a number. Takes time logarithmic in the number of fields.
     pub fn content(&self, number: u32) -> Option<&FieldValue>
         requires { NumbersAscend 0 self.now }
         ensures content { option_map content_of (option_copied result) ≡ content_at self.now number }
@@ -82,8 +82,8 @@ impl Tree {
     }
 }
 
-/// The place of the field of a number among the fields of a tree: at once where each smaller number has a field in the
-/// tree, and else in time by the logarithm of the fields.
+/// The index of the field with a number among the fields of a tree. Takes constant time if the tree has a field for
+/// each smaller number, and otherwise time logarithmic in the number of fields.
 pub fn find_content(fields: &[(u32, FieldValue)], number: u32) -> Option<usize>
     requires { NumbersAscend 0 (node_of fields.now) }
     ensures within { IfSome result (λ place. place < length fields.now) }

@@ -1,4 +1,4 @@
-//! The words of lines: what stands between separators, names, and decimal numbers.
+//! The words of lines: the text between separators, names, and decimal numbers.
 
 ghost use Rattle.std.specs.Prelude.{◌≡◌, ◌+◌, ◌≤◌, ◌==◌, ◌∷◌, [], length, option_map, MatchOption, IfSome, IsTrue, ◌↔◌};
 ghost use Rattle.std.specs.List.{slice_split, list_all};
@@ -10,7 +10,7 @@ ghost use Rattle.mrpc_table.specs.Lines.{is_decimal, line_count, number_of, in_6
 use crate::digits::decimal_of;
 use crate::limits::{MAX_FULL_NAME, MAX_NAME};
 
-/// What stands before the first separator, and what stands behind it; none where it doesn't stand there.
+/// The text before the first separator, and the text after it; `None` if the separator doesn't occur.
 pub fn cut(text: &[u8], separator: u8) -> Option<(&[u8], &[u8])>
     ensures parts { MatchOption result (slice_split (λ c. c == separator) text.now ≡ text.now ∷ [])
         (λ p. slice_split (λ c. c == separator) text.now
@@ -25,7 +25,7 @@ pub fn cut(text: &[u8], separator: u8) -> Option<(&[u8], &[u8])>
     None
 }
 
-/// How many lines end in the text.
+/// How many line feeds the text has.
 pub fn line_count(text: &[u8]) -> usize
     ensures count { result ≡ line_count text.now }
     ensures small { result ≤ length text.now }
@@ -33,21 +33,21 @@ pub fn line_count(text: &[u8]) -> usize
     text.iter().filter(|byte| **byte == b'\n').count()
 }
 
-/// Whether the word is this one.
+/// Whether the word equals `expected`.
 pub fn is_word<'a>(word: &'a [u8], expected: &'a [u8]) -> bool
     ensures { result ≡ bytes_eq word.now expected.now }
 {
     word == expected
 }
 
-/// Whether a name may begin with the byte: an ASCII letter or `_`.
+/// Whether the byte can be the first of a name: an ASCII letter or `_`.
 pub fn is_name_start(byte: u8) -> bool
     ensures { result ≡ is_name_start byte }
 {
     (byte >= 65 && byte <= 90) || (byte >= 97 && byte <= 122) || byte == 95
 }
 
-/// Whether the byte may stand in a name: an ASCII letter, a digit or `_`.
+/// Whether the byte can occur in a name: an ASCII letter, a digit or `_`.
 pub fn is_name_byte(byte: u8) -> bool
     ensures { result ≡ is_name_byte byte }
 {
@@ -77,7 +77,7 @@ pub fn is_name(word: &[u8]) -> bool
     is_name_form(word) && is_short(word)
 }
 
-/// Whether the word is names of any length, joined by dots.
+/// Whether the word consists of names of any length, joined by dots.
 pub fn is_full_form(word: &[u8]) -> bool
     ensures { result ≡ is_full_form word.now }
 {
@@ -91,14 +91,14 @@ pub fn is_full_form(word: &[u8]) -> bool
     is_name_form(rest)
 }
 
-/// Whether the word is a full name: names joined by dots, each of 64 bytes at most, and 255 bytes at most together.
+/// Whether the word is a full name: names joined by dots, each of 64 bytes at most, and 255 bytes at most in total.
 pub fn is_full_name(word: &[u8]) -> bool
     ensures { IsTrue result ↔ IsFullName word.now }
 {
     is_full_form(word) && is_short_full(word)
 }
 
-/// Whether the word has at most 64 bytes, as many as a name may have.
+/// Whether the word has at most 64 bytes, the limit of a name.
 pub fn is_short(word: &[u8]) -> bool
     ensures { result ≡ is_short word.now }
 {
@@ -118,7 +118,7 @@ fn has_short_parts(word: &[u8]) -> bool
     is_short(rest)
 }
 
-/// Whether the word has at most 255 bytes, and at most 64 between each two dots, as many as a full name may have.
+/// Whether the word has at most 255 bytes, and at most 64 in each part between dots: the limits of a full name.
 pub fn is_short_full(word: &[u8]) -> bool
     ensures { result ≡ is_short_full word.now }
 {
@@ -140,17 +140,17 @@ fn is_decimal(word: &[u8]) -> bool
     }
 }
 
-/// A number as a word spells it.
+/// The number that a word spells.
 #[derive(Clone, Copy, PartialEq, Eq)]
 pub enum Decimal {
-    /// A number of 64 bits.
+    /// A number of at most 64 bits.
     Small(u64),
-    /// A larger one.
+    /// A larger number.
     Large,
 }
 
-/// The number that a word spells: decimal digits without sign or leading zero, however many. None where the word isn't
-/// such digits.
+/// The number that a word spells: decimal digits without sign or leading zero, of any length. `None` if the word is
+/// anything else.
 pub fn number_of(word: &[u8]) -> Option<Decimal>
     ensures { result ≡ option_map in_64_bits (number_of word.now) }
 {

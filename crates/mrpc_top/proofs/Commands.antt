@@ -29,7 +29,8 @@ no_script never command text s e fault spelled =
     let f : IsFaulty Replay text = subst (λ (k : Command). IsFaulty k text) e fault in
     never text s f.0 f.1 spelled f.2
 
--- a text is of one table and one stream, and then has no fault; and a stream that is decoded has none
+-- a text has one table and one stream, and then no fault in its lines; and a stream that is decoded has no
+-- fault
 pub record DecodingLaw : Type 0 where
   pub parts : (text stream other : List ℕ) (T U : Table) → Holds text T stream → Holds text U other → (T ≡ U) × (stream ≡ other)
   pub no_text_fault : (text stream word : List ℕ) (T : Table) (line : ℕ) → Holds text T stream → IsTextFault text line word → ⊥
@@ -47,7 +48,7 @@ pub no_decoding : DecodingLaw → (command : Command) (text : List ℕ) (o o' : 
 no_decoding law command text o o' e fault d =
     no_fault_of law text o o' d (subst (λ (k : Command). IsFaulty k text) e fault)
 
--- a text isn't both checked and at fault, nor an audit both answered and at fault
+-- a text isn't both checked and at fault, nor an audit both judged and at fault
 abbrev pub NotBoth : Type 0
 NotBoth = (text word : List ℕ) (T : Table) (spot : Spot) → ChecksAs text T → IsCheckFault text spot word → ⊥
 
@@ -66,7 +67,7 @@ no_audit never command text o o' e fault d =
     let f : HasAuditFault text = subst (λ (k : Command). IsFaulty k text) e fault in
     never text d.answer f.1 f.0 d.is_answer f.2
 
--- what is said of the command and the text that were found holds of the same ones
+-- what holds for the command and the text that were found holds for equal ones
 pub stops-of : (found command : Command) (whole text : List ℕ) (out out' wire wire' : Option (List ℕ)) → found ≡ command
     → whole ≡ text → StopsOn found whole out out' wire wire' → StopsOn command text out out' wire wire'
 stops-of found command whole text out out' wire wire' same is stops =

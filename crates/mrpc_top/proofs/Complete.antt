@@ -1,4 +1,4 @@
--- An input that has no fault is worked on.
+-- An input without a fault is worked on.
 use Rattle.std.proofs.Common.{◌≡◌, ◌≢◌, ◌∙◌, ◌⊎◌, ◌<◌, ◌≤◌, ap, arith, inl, inr, length, length-append, refl}
 use Rattle.std.proofs.Common.{sym, ℕ, List, [], ◌∷◌, Option, Some, None}
 use Rattle.std.specs.Prelude.{String}
@@ -12,7 +12,7 @@ use Rattle.whole_input.specs.Reading.{ReadsPast}
 use Rattle.mrpc_top.specs.declared.command.Command.{Command}
 use Rattle.mrpc_top.specs.declared.command.Command.TheVariants.{Replay, Decode, Check, Audit}
 
--- what is refused is at fault
+-- a rejected text is at fault
 pub refused-faulty : (command : Command) (text : List ℕ) (out out' : Option (List ℕ)) → Refuses command text out out'
     → IsFaulty command text
 refused-faulty Replay text out out' r = (r.line, r.reason, r.fault)
@@ -49,7 +49,7 @@ same-word Audit Audit e = refl
 pub one-command : (words : List (String Global)) (a b : Command) → Names words a → Names words b → a ≡ b
 one-command words a b one other = same-word a b (ap first_byte (sym one ∙ other))
 
--- of what was read past the limit, more was left
+-- if more than the limit was read, more than the limit was left to read
 pub past-limit : (left left' : Option (List ℕ)) (text : List ℕ) → ReadsPast INPUT_LIMIT left left' → left ≡ Some text
     → INPUT_LIMIT < length text
 past-limit None left' text past is = absurd cc
@@ -58,7 +58,7 @@ past-limit (Some bytes) (Some more) text past is =
     let same : bytes ≡ text = cc in
     omega (arith, past.1, ap length past.2, length-append past.0 more, ap length same)
 
--- the statuses that are left
+-- the remaining statuses
 pub done-or-short : (status : ℕ) → status ≤ 6 → status ≢ 1 → status ≢ 2 → status ≢ 4 → status ≢ 5 → status ≢ 6
     → (status ≡ 0) ⊎ (status ≡ 3)
 done-or-short status most a b c d e =

@@ -1,4 +1,4 @@
--- Bytes that are known, over writes.
+-- The output bytes over several writes, if they are known.
 use Rattle.std.proofs.Common.{ℕ, List, [], ◌++◌, Option, Some, None, sym, ap, ◌∙◌, append_assoc, append-nil}
 use Rattle.std.specs.Io.KnownBytes.{Appends}
 

@@ -1,4 +1,4 @@
--- Parts that are written one after another.
+-- Parts that are written in order.
 use Rattle.std.proofs.Common.{◌≡◌, ℕ, zero, suc, ◌+◌, ◌<◌, ◌≤◌, List, [], ◌∷◌, ◌++◌, Option, length, take, drop, get_or, refl, sym}
 use Rattle.std.proofs.Common.{ap, ◌∙◌, subst, append-nil, take-suc, drop-cons, arith}
 use Rattle.std.proofs.lemmas.List.{take-append-drop, take-append-le}
@@ -17,7 +17,7 @@ front-of (b ∷ before) part rest many (suc k) is few =
     ap (λ t. b ∷ t) (front-of before part rest many k (omega (arith, is)) few)
 
 module _ (parts : List (List ℕ)) (i : ℕ) (part : List ℕ) (less : i < length parts) (at : part ≡ get_or parts i part) where
-  -- behind the parts before it comes the part at a place
+  -- the parts before an index, followed by the part there
   pub joined-next : concat (take (i + 1) parts) ≡ concat (take i parts) ++ part
   joined-next =
       let place : i + 1 ≡ suc i = omega arith in
@@ -25,7 +25,7 @@ module _ (parts : List (List ℕ)) (i : ℕ) (part : List ℕ) (less : i < lengt
       ∙ concat-append (take i parts) (get_or parts i part ∷ [])
       ∙ ap (λ t. concat (take i parts) ++ t) (append-nil (get_or parts i part) ∙ sym at)
 
-  -- so a front of the part is in a front of all
+  -- so a prefix of the part, after those parts, is a prefix of all
   pub front-next : (old mid new : Option (List ℕ)) (many : ℕ) → many ≤ length part → Appends old mid (concat (take i parts))
       → Appends mid new (take many part) → WritesFront old new (concat parts)
   front-next old mid new many few so more =

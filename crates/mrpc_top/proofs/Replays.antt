@@ -1,4 +1,4 @@
--- What a replay that ends early has written.
+-- The output of a replay that ends early.
 use Rattle.std.proofs.Common.{◌≡◌, ◌∙◌, ◌<◌, ◌≤◌, ap, arith, inl, inr, length, refl, subst, sym, ℕ, List, ◌∷◌, Option, Some}
 use Rattle.std.specs.Prelude.{String}
 use Rattle.std.specs.declared.alloc.Global.{Global}
@@ -45,7 +45,7 @@ is_replay words Audit a b =
     let e : 97 ≡ 114 = ap first_byte (sym a ∙ b) in
     absurd (omega (arith, e))
 
--- what an input that was read to its end had left is its text
+-- what was left of an input that was read to its end is its text
 pub fault_of_whole : (left : Option (List ℕ)) (whole text : List ℕ) → length whole ≤ INPUT_LIMIT → IsAllOf left whole
     → left ≡ Some text → HasFault Replay text → HasScriptFault whole
 fault_of_whole left whole text short all is (inl long) =

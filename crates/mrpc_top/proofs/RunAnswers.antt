@@ -1,4 +1,4 @@
--- What was run may be told so, and the fault of a scenario is told by its line.
+-- A run may print its report, and prints the fault of a scenario as its line.
 use Rattle.std.proofs.Common.{◌≡◌, ◌∙◌, ◌⊎◌, ◌+◌, ◌*◌, ◌<◌, ◌≤◌, ap, arith, inl, inr, length, refl, subst, sym, ℕ, List, [], Option, Some}
 use Rattle.std.specs.Prelude.{All, Bool}
 use Rattle.std.specs.List.{flat_map}
@@ -35,7 +35,7 @@ use Rattle.mrpc_top.proofs.KnownBytes.{appends-nothing}
 module _ {C L : Type 0} (of_clock : ClockMembers C) (of_link : LinkMembers L) (pair : L → L → Type 0) (clock : C)
     (back back' : List (ℕ × L)) (running : Running) (left : Option (List ℕ)) (plan : Plan) (totals : List (ℕ × Counts))
     (one failed : Bool) (its : one ≡ failed) where
-  -- what the laws of drills say
+  -- the conclusions of the laws of drills
   abbrev NoneStands : Type 0
   NoneStands = (calls : ℕ) (clock : C) (conns : List (ServedConn L)) (told : List Shown)
       → TellsRun of_clock of_link (drill calls) clock conns told → (counts_told told).standing ≡ 0
@@ -50,7 +50,7 @@ module _ {C L : Type 0} (of_clock : ClockMembers C) (of_link : LinkMembers L) (p
       → TellsRun of_clock of_link (drill calls) clock conns told → All (NeverFailed of_link) conns
       → ArePairs (λ s. s.link) (HaveMet of_link) conns → 4 * calls ≤ (counts_told told).took
 
-  -- the text of the run of what a scenario says may be told
+  -- a run may print the report of its scenario's plan
   pub tells-scenario : (told : List ℕ) → running ≡ Scenario → IsPlanOf running left plan
       → HasRun of_clock of_link pair plan clock back back' told totals one
       → MayTell of_clock of_link pair clock back back' failed running left told
@@ -60,7 +60,7 @@ module _ {C L : Type 0} (of_clock : ClockMembers C) (of_link : LinkMembers L) (p
       subst (λ (r : Running). IsPlanOf r left plan → MayTell of_clock of_link pair clock back back' failed r left told) (sym is)
       (λ plan_is. (plan_is.0, plan_is.1, record { plan = plan; says = plan_is.2; totals = totals; ran = same })) says
 
-  -- and the line of the counts of the run of a drill, whose numbers the laws of drills give
+  -- and it may print the line of a drill's counts, whose numbers come from the laws of drills
   pub tells-drill : (calls : ℕ) (text told : List ℕ) → SumsCount → NoneStands → AllWent → AllCame → running ≡ Drill calls
       → IsPlanOf running left plan → HasRun of_clock of_link pair plan clock back back' text totals one
       → IsDrillLine calls totals told → MayTell of_clock of_link pair clock back back' failed running left told
@@ -104,7 +104,7 @@ pub not_faulty : (status : ℕ) → (status ≡ NO_MEMORY) ⊎ (status ≡ OUTPU
 not_faulty status (inl memory) faulty = omega (arith, memory, faulty)
 not_faulty status (inr failed) faulty = omega (arith, failed, faulty)
 
--- what an input that was read to its end had left is its text
+-- what was left of an input that was read to its end is its text
 pub fault_of_read : (left : Option (List ℕ)) (whole text : List ℕ) → length whole ≤ INPUT_LIMIT → IsAllOf left whole
     → left ≡ Some text → HasRunFault Scenario text → (at : Entry) × (reason : ScenarioReason) × HasFault whole at reason
 fault_of_read left whole text short all is (inl long) =
@@ -114,7 +114,7 @@ fault_of_read left whole text short all is (inr fault) =
     let same : text ≡ whole = subst (λ (l : Option (List ℕ)). IsAllOf l whole) is all in
     (fault.0, fault.1, subst (λ (t : List ℕ). HasFault t fault.0 fault.1) same fault.2)
 
--- an output that is as it was has got nothing
+-- nothing was written to an output that is unchanged
 pub nothing-told : {K : Type 0} (written : K → Option (List ℕ)) (old new : K) → new ≡ old
     → Appends (written old) (written new) []
 nothing-told {K} written old new same =

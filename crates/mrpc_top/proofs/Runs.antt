@@ -1,4 +1,4 @@
--- Words have one thing run at most, and then they name no other command.
+-- Words name at most one run, and then no other command.
 use Rattle.std.proofs.Common.{◌≡◌, ◌∙◌, ◌<◌, ◌≤◌, ap, arith, refl, subst, sym, ℕ, List, [], ◌∷◌, None, Option, Some}
 use Rattle.std.specs.Prelude.{IfNone, String, codes, length, map, slice_index_or, string_bytes, unwrap_or}
 use Rattle.std.specs.declared.alloc.Global.{Global}
@@ -28,7 +28,7 @@ abbrev second_word : List (List ℕ) → List ℕ
 second_word (a ∷ b ∷ words) = b
 second_word _ = []
 
--- nothing is named by two words of which this is said
+-- two words that aren't `drill` and a number of calls name no run
 pub no_drill : (words : List (String Global)) (word number : List ℕ) → map string_bytes words ≡ word ∷ number ∷ []
     → ((calls : ℕ) → word ≡ codes "drill" → IsCallCount number calls → ⊥) → (running : Running)
     → NamesRun words running → ⊥
@@ -61,7 +61,7 @@ no_command words (Drill calls) command run names =
     let e : 2 ≡ 1 = ap length (sym run.1 ∙ names) in
     absurd (omega (arith, e))
 
--- a word spells one number of calls at most
+-- a word spells at most one number of calls
 pub one_count : (word : List ℕ) (calls many : ℕ) → IsCallCount word calls → IsCallCount word many → many ≡ calls
 one_count word calls many a b = ap (λ n. unwrap_or n 0) (sym b.number ∙ a.number)
 

@@ -1,4 +1,4 @@
--- What a command answers, and what it writes.
+-- What a command returns, and what it writes.
 use Rattle.std.specs.Prelude.{◌≡◌, ℕ, ◌<◌, ◌⊎◌, List, [], ◌∷◌, codes, length, map, Option, String, string_bytes}
 use Rattle.std.specs.declared.alloc.Global.{Global}
 use Rattle.std.specs.Io.KnownBytes.{Appends}
@@ -23,7 +23,7 @@ command_word Decode = codes "decode"
 command_word Check = codes "check"
 command_word Audit = codes "audit"
 
--- the words are that of the command alone
+-- the words are the word of the command alone
 abbrev pub Names : List (String Global) → Command → Type 0
 Names words command = map string_bytes words ≡ command_word command ∷ []
 
@@ -43,9 +43,9 @@ WorksOn Decode text out out' wire wire' = DecodesText text out out'
 WorksOn Check text out out' wire wire' = ChecksText text out out'
 WorksOn Audit text out out' wire wire' = AuditsText text out out'
 
--- ---- what a command writes of a faulty text
+-- ---- what a command writes for a faulty text
 
--- the command wrote the first fault of a text, `decode` behind the lines of the frames in front of it
+-- the command wrote the first fault of a text, for `decode` after the lines of the frames before it
 abbrev pub Refuses : Command → List ℕ → Option (List ℕ) → Option (List ℕ) → Type 0
 Refuses Replay text out out' = RefusesScript text out out'
 Refuses Decode text out out' = CutsText text out out'
@@ -54,7 +54,7 @@ Refuses Audit text out out' = RefusesAudit text out out'
 
 -- ---- faulty texts
 
--- for the command a text has a first fault
+-- a text has a first fault for the command
 abbrev pub IsFaulty : Command → List ℕ → Type 0
 IsFaulty Replay text = HasScriptFault text
 IsFaulty Decode text = HasDecodeFault text
@@ -68,8 +68,8 @@ abbrev pub IsDone : Command → Option (List ℕ) → Option (List ℕ) → Opti
     → Option (List ℕ) → Type 0
 IsDone command left out out' wire wire' = (text : List ℕ) × IsInput left text × WorksOn command text out out' wire wire'
 
--- an input has a fault for the command: it is too long, or its text has a first fault; the fault's line was written, of
--- `decode` behind the lines of the frames in front of it
+-- an input has a fault for the command: it is too long, or its text has a first fault; the fault's line was
+-- written, for `decode` after the lines of the frames before it
 abbrev pub IsRefused : Command → Option (List ℕ) → Option (List ℕ) → Option (List ℕ) → Option (List ℕ) → Type 0
 IsRefused command left left' out out' =
     (ReadsPast INPUT_LIMIT left left' × Appends out out' (fault_line INPUT_LIMIT (codes "Input")))
@@ -81,14 +81,14 @@ HasFault command text = (INPUT_LIMIT < length text) ⊎ IsFaulty command text
 
 -- ---- replays whose frames can't be written
 
--- an input is that of a script, which was run up to a sending that failed
+-- an input is that of a script, which was run up to a send that failed
 abbrev pub IsBroken : Option (List ℕ) → Option (List ℕ) → Option (List ℕ) → Option (List ℕ) → Option (List ℕ) → Type 0
 IsBroken left out out' wire wire' = (text : List ℕ) × IsInput left text × BreaksText text out out' wire wire'
 
 -- ---- commands that end early
 
--- The command ended early on a text, and what it wrote is in front of what it may write: `StopsText` says it of a replay,
--- of the others that it is a front of what they write where they work on the text or refuse it.
+-- The command ended early on a text, and its output is a prefix of what it may write. For a replay this is
+-- `StopsText`; for the others, a prefix of what they write if they work on the text or reject it.
 abbrev pub StopsOn : Command → List ℕ → Option (List ℕ) → Option (List ℕ) → Option (List ℕ) → Option (List ℕ)
     → Type 0
 StopsOn Replay text out out' wire wire' = StopsText text out out' wire wire'
@@ -96,8 +96,8 @@ StopsOn Decode text out out' wire wire' = EndsEarly (DecodesText text) (CutsText
 StopsOn Check text out out' wire wire' = EndsEarly (ChecksText text) (RefusesProto text) out out'
 StopsOn Audit text out out' wire wire' = EndsEarly (AuditsText text) (RefusesAudit text) out out'
 
--- A command ended early, and what it wrote is in front of what it may write: nothing; some of the line of its fault,
--- where the input is too long; or what `StopsOn` says.
+-- A command ended early, and its output is a prefix of what it may write: nothing; a prefix of the line of
+-- its fault, if the input is too long; or what `StopsOn` allows.
 pub data IsCutShort (command : Command) (left left' out out' wire wire' : Option (List ℕ)) : Type 0 where
   unread : Appends out out' [] → Appends wire wire' [] → IsCutShort command left left' out out' wire wire'
   too_long : ReadsPast INPUT_LIMIT left left' → WritesFront out out' (fault_line INPUT_LIMIT (codes "Input"))

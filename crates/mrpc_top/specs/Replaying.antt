@@ -1,4 +1,4 @@
--- What `replay` makes of a text.
+-- What `replay` does with a text.
 use Rattle.std.specs.Prelude.{ℕ, List, [], Option}
 use Rattle.std.specs.Io.KnownBytes.{Appends}
 use Rattle.script_words.specs.Reasons.{reason_word}
@@ -12,7 +12,7 @@ use Rattle.text_commands.specs.FaultLines.{WritesFront, fault_line}
 abbrev pub RunsText : List ℕ → Option (List ℕ) → Option (List ℕ) → Option (List ℕ) → Option (List ℕ) → Type 0
 RunsText text out out' wire wire' = (script : Script) × Spells text script × Replays script out out' wire wire'
 
--- a text is that of a script, which was run up to a sending that failed
+-- a text is that of a script, which was run up to a send that failed
 abbrev pub BreaksText : List ℕ → Option (List ℕ) → Option (List ℕ) → Option (List ℕ) → Option (List ℕ) → Type 0
 BreaksText text out out' wire wire' = (script : Script) × Spells text script × Breaks script out out' wire wire'
 
@@ -20,15 +20,15 @@ BreaksText text out out' wire wire' = (script : Script) × Spells text script ×
 abbrev pub HasScriptFault : List ℕ → Type 0
 HasScriptFault text = (line : ℕ) × (reason : ScriptReason) × IsFault text line reason
 
--- a text was refused as a script: its first fault was written
+-- a text was rejected as a script: its first fault was written
 pub record RefusesScript (text : List ℕ) (out out' : Option (List ℕ)) : Type 0 where
   pub line : ℕ
   pub reason : ScriptReason
   pub fault : IsFault text line reason
   pub written : Appends out out' (fault_line line (reason_word reason))
 
--- A replay of a text ended early, and what it wrote is in front of what it may write: nothing, some of the line of the
--- text's first fault and no frame, or some of what follows from its script.
+-- A replay of a text ended early, and its output is a prefix of what it may write: nothing, a prefix of the
+-- line of the text's first fault and no frame, or a prefix of what follows from its script.
 pub data StopsText (text : List ℕ) (out out' wire wire' : Option (List ℕ)) : Type 0 where
   before_all : Appends out out' [] → Appends wire wire' [] → StopsText text out out' wire wire'
   in_fault : (line : ℕ) (reason : ScriptReason) → IsFault text line reason

@@ -38,7 +38,7 @@ pub record IsCallCount (word : List ℕ) (calls : ℕ) : Type 0 where
 abbrev pub IsDrill : List (String Global) → ℕ → Type 0
 IsDrill words calls = (word : List ℕ) × (map string_bytes words ≡ codes "drill" ∷ word ∷ []) × IsCallCount word calls
 
--- the words have the scenario of an input run, or the drill of so many calls of each client
+-- the words run the scenario of an input, or the drill with this number of calls of each client
 abbrev pub NamesRun : List (String Global) → Running → Type 0
 NamesRun words Scenario = map string_bytes words ≡ codes "run" ∷ []
 NamesRun words (Drill calls) = IsDrill words calls
@@ -46,9 +46,9 @@ NamesRun words (Drill calls) = IsDrill words calls
 abbrev pub IsRunning : List (String Global) → Type 0
 IsRunning words = (running : Running) × NamesRun words running
 
--- ---- what is told
+-- ---- what a run prints
 
--- what a drill tells: how many calls were taken, sent, refused and left standing
+-- the line of a drill: how many calls were accepted, sent, refused and are pending at the end
 abbrev pub drill_line : ℕ → Counts → List ℕ
 drill_line calls counts = line (codes "drill" ∷ decimal calls ∷ codes "took" ∷ decimal counts.took
     ∷ codes "sent" ∷ decimal counts.sent ∷ codes "refused" ∷ decimal counts.refused
@@ -56,16 +56,17 @@ drill_line calls counts = line (codes "drill" ∷ decimal calls ∷ codes "took"
 
 module _ {C L : Type 0} (of_clock : ClockMembers C) (of_link : LinkMembers L) (pair : L → L → Type 0) (clock : C)
     (back back' : List (ℕ × L)) where
-  -- the plan that a text says was run, and this is the text of its run
+  -- the plan of a text was run, and this is the report of its run
   pub record TellsScenario (failed : Bool) (text told : List ℕ) : Type 0 where
     pub plan : Plan
     pub says : IsTextOf text plan
     pub totals : List (ℕ × Counts)
     pub ran : HasRun of_clock of_link pair plan clock back back' told totals failed
 
-  -- The drill was run, and this line has the counts of all lines of the run's text. None stands, and as many calls were
-  -- taken as were sent and refused. Where no link failed, and the two ends of each have met, as those of links in memory
-  -- do, at least those were taken that its four clients submit.
+  -- The drill was run, and this line has the counts of all lines of the run's report. No call is pending, and
+  -- as many calls were accepted as were sent and refused. If no link failed, and the two ends of each link
+  -- have met, as those of links in memory do, at least as many calls were accepted as its four clients
+  -- submit.
   pub record TellsDrill (failed : Bool) (calls : ℕ) (told : List ℕ) : Type 0 where
     pub text : List ℕ
     pub totals : List (ℕ × Counts)
@@ -76,7 +77,8 @@ module _ {C L : Type 0} (of_clock : ClockMembers C) (of_link : LinkMembers L) (p
     pub all_came : failed ≡ false → ArePairs (λ s. s.link) (HaveMet of_link) ran.conns
         → 4 * calls ≤ (counts_told ran.told).took
 
-  -- what was run may tell this, where a link failed or none did: of an input that had so much left, or of a drill
+  -- the run may print this, given whether a link failed: for an input that had so much left to read, or for a
+  -- drill
   abbrev pub MayTell : Bool → Running → Option (List ℕ) → List ℕ → Type 0
   MayTell failed Scenario left told = (text : List ℕ) × IsInput left text × TellsScenario failed text told
   MayTell failed (Drill calls) left told = TellsDrill failed calls told
@@ -101,14 +103,14 @@ MayRefuse (Drill calls) left left' told = ⊥
 
 module _ {C L : Type 0} (of_clock : ClockMembers C) (of_link : LinkMembers L) (pair : L → L → Type 0) (clock : C)
     (back back' : List (ℕ × L)) where
-  -- what was run wrote what it tells, where a link failed or none did
+  -- the run wrote its report, given whether a link failed
   pub record WritesRun (failed : Bool) (running : Running) (left out out' : Option (List ℕ)) : Type 0 where
     pub told : List ℕ
     pub may : MayTell of_clock of_link pair clock back back' failed running left told
     pub written : Appends out out' told
 
-  -- A run ended early, and what it wrote is in front of what it may write: nothing, some of what it tells, or some of
-  -- the line of a fault.
+  -- A run ended early, and its output is a prefix of what it may write: nothing, a prefix of its report, or a
+  -- prefix of the line of a fault.
   pub data StopsRun (running : Running) (left left' out out' : Option (List ℕ)) : Type 0 where
     silent : Appends out out' [] → StopsRun running left left' out out'
     in_telling : (failed : Bool) (told : List ℕ)
@@ -123,12 +125,12 @@ pub record WritesRefusal (running : Running) (left left' out out' : Option (List
   pub may : MayRefuse running left left' told
   pub written : Appends out out' told
 
--- what a run asks of its input: it was read to its end, and it says a plan; a drill asks nothing
+-- what a run requires of its input: it was read to its end, and it is a valid plan; a drill requires nothing
 abbrev pub HasPlan : Running → Option (List ℕ) → Type 0
 HasPlan Scenario left = (text : List ℕ) × IsInput left text × (plan : Plan) × IsTextOf text plan
 HasPlan (Drill calls) left = Unit {0}
 
--- an input has a fault as that of a scenario: it is too long, or has a first fault
+-- an input has a fault as a scenario: it is too long, or has a first fault
 abbrev pub HasRunFault : Running → List ℕ → Type 0
 HasRunFault Scenario text =
     (INPUT_LIMIT < length text) ⊎ ((at : Entry) × (reason : ScenarioReason) × HasFault text at reason)

@@ -1,4 +1,4 @@
--- Which plan is run, and what is told of its run: the code's own. No public definition takes a word from here.
+-- Which plan is run, and what its run prints: the code's own. No public definition takes a word from here.
 use Rattle.std.specs.Prelude.{◌≡◌, ℕ, List, Option}
 use Rattle.std.specs.Io.KnownBytes.{Appends}
 use Rattle.drill_plan.specs.Drill.{drill}
@@ -12,20 +12,20 @@ use Rattle.mrpc_top.specs.Runs.{drill_line}
 use Rattle.mrpc_top.specs.declared.run.Running.{Running}
 use Rattle.mrpc_top.specs.declared.run.Running.TheVariants.{Scenario, Drill}
 
--- the plan is what an input says that had so much left, or that of a drill
+-- the plan is that of an input with so much left to read, or that of a drill
 abbrev pub IsPlanOf : Running → Option (List ℕ) → Plan → Type 0
 IsPlanOf Scenario left plan = (text : List ℕ) × IsInput left text × IsTextOf text plan
 IsPlanOf (Drill calls) left plan = plan ≡ drill calls
 
--- what a drill tells, by the counts of its run
+-- the line of a drill, by the counts of its run
 pub record IsDrillLine (calls : ℕ) (totals : List (ℕ × Counts)) (told : List ℕ) : Type 0 where
   pub sound : IsTotals totals
   pub line : told ≡ drill_line calls (sums_of totals)
 
--- it was written
+-- the line was written
 abbrev pub WritesLine : (calls : ℕ) → List (ℕ × Counts) → (out out' : Option (List ℕ)) → Type 0
 WritesLine calls totals out out' = (told : List ℕ) × IsDrillLine calls totals told × Appends out out' told
 
--- some of it was, from its front
+-- a prefix of the line was written
 abbrev pub WritesLineFront : (calls : ℕ) → List (ℕ × Counts) → (out out' : Option (List ℕ)) → Type 0
 WritesLineFront calls totals out out' = (told : List ℕ) × IsDrillLine calls totals told × WritesFront out out' told

@@ -1,4 +1,4 @@
-//! The commands that run nothing: the words of a command line, the whole input, and the answer.
+//! The commands that run no connections: from the words of a command line and the whole input to the output.
 
 ghost use Rattle.std.specs.Prelude.{◌≡◌, ◌≢◌, ◌↔◌, ◌≤◌, ◌⊎◌, List, ℕ, length, IfSome, IfNone, Some};
 ghost use Rattle.mrpc_base.specs.Faults.{HasCause, Rose};
@@ -20,35 +20,38 @@ use text_commands::{
 };
 use whole_input::{INPUT_LIMIT, Input, read_input};
 
-/// Runs the command that the words name, and answers its exit status.
+/// Runs the command that the words name, and returns its exit status.
 ///
-/// `replay` reads a script from `input`, runs it, and writes the audit to `out`, line by line of it, and the frames
-/// to `wire`; the calls that stand at the end are told last. The first fault of a text that is no script (`script_text`
-/// says which are) is written to `out` as one line `fault LINE REASON`. Where a frame can't be written, the calls that
-/// stand on its connection are refused, the calls that still stand are told, and the lines of the script behind do
-/// nothing; where `out` fails behind that, the status is `OUTPUT_FAILED`.
+/// `replay` reads a script from `input` and runs it. It writes the audit to `out`, line by line, and the
+/// frames to `wire`; last come the lines of the calls that are pending at the end. If the text is no script
+/// (see `script_text`), its first fault is written to `out` as one line `fault LINE REASON`. If a frame can't
+/// be written, the calls pending on its connection are refused, it writes the lines of the calls still
+/// pending, and the later lines of the script do nothing. If `out` fails after that, the status is
+/// `OUTPUT_FAILED`.
 ///
 /// `decode` reads the line `mrpc-decode 1`, the line `table`, the canonical text of a table and the line
-/// `end`, and behind them frames to the end of the input. For each frame it writes a line to `out`:
-/// `frame KIND METHOD CONN NUMBER HEX`, where HEX is the encoding of the message that the payload means
-/// (`-` where it has no byte), or `hello CONN LENGTH`. A fault of the text is written as one line
-/// `fault LINE REASON`; one of the frames as `fault PLACE REASON` behind the lines of the frames in front
-/// of it, PLACE counting bytes from the first behind the `end` line.
+/// `end`, and after them frames to the end of the input. For each frame it writes a line to `out`:
+/// `frame KIND METHOD CONN NUMBER HEX`, where HEX is the encoding of the message that the payload means (`-`
+/// if it is empty), or `hello CONN LENGTH`. A fault of the text is written as one line `fault LINE REASON`. A
+/// fault of the frames is written as `fault PLACE REASON` after the lines of the frames before it; PLACE is
+/// the offset from the first byte after the `end` line.
 ///
-/// `check` reads a proto file, and writes the canonical text of its table to `out`. A text that is none, or whose names
-/// and numbers don't go together (`proto_schema` and `schema_offences` say which), is written as one line `fault LINE
-/// REASON`, its first fault; the reasons of the first kind count before those of the second. Of a set of files
-/// (`file_bundle` says what it looks like) it writes the table of the first file and of what its imports lead to
-/// (`schema_files`), or one line `fault FILE REASON` or `fault FILE:LINE REASON`.
+/// `check` reads a proto file, and writes the canonical text of its table to `out`. If the text is no proto
+/// file, or its names and numbers violate a rule of schemas (see `proto_schema` and `schema_offences`), its
+/// first fault is written as one line `fault LINE REASON`; reasons of the first kind count before those of
+/// the second. For a set of files (see `file_bundle`) it writes the table of the first file and of all files
+/// that it imports, directly or not (`schema_files`), or one line `fault FILE REASON` or
+/// `fault FILE:LINE REASON`.
 ///
-/// `audit` reads a table, tenants and policies, and behind the line `audit` the text of an audit (`audit_input` and
-/// `audit_text` say what these look like). It writes one line to `out`: `legal HAPPENINGS STANDS` where the history is
-/// legal and the lines of calls that stand, if there are any, tell those that do, else `illegal LINE RULE` with the
-/// first line of the input through which that fails and the first rule that is broken there (`audit_check`). An input
-/// that is none is written as one line `fault LINE REASON`, its first fault, also where an earlier line is illegal.
+/// `audit` reads a table, tenants and policies, and after the line `audit` the text of an audit (see
+/// `audit_input` and `audit_text`). It writes one line to `out`. The line is `legal HAPPENINGS STANDS` if the
+/// history is legal and its lines of pending calls, if there are any, list exactly the pending calls.
+/// Otherwise it is `illegal LINE RULE`, with the first line of the input that makes it fail and the first
+/// rule that is broken there (`audit_check`). If the input isn't valid, its first fault is written as one
+/// line `fault LINE REASON`, even if an earlier line is illegal.
 ///
-/// An input of more than 16777216 bytes is `fault 16777216 Input` in each command, and nothing else is
-/// written. Without memory a command ends with `NO_MEMORY`, and what it wrote by then stands.
+/// For an input of more than 16777216 bytes each command writes `fault 16777216 Input`, and nothing else. If
+/// a command runs out of memory, it ends with `NO_MEMORY`, and its output so far is kept.
 pub fn run_still<S: Source, K: Sink, W: Sink>(
     alloc: Global,
     words: &Vec<String>,
@@ -58,41 +61,41 @@ pub fn run_still<S: Source, K: Sink, W: Sink>(
 ) -> u8
     ensures statuses { result ≤ WIRE_FAILED }
 
-    // Which words are a command. For others nothing is read and nothing written.
+    // Which words are a command. For all others nothing is read or written.
     ensures words { (result ≡ NO_COMMAND) ↔ (IsCommand words.now.items → ⊥) }
     ensures untouched { result ≡ NO_COMMAND → (input.new ≡ input.old) × (out.new ≡ out.old) × (wire.new ≡ wire.old) }
 
-    // What a command has done at its end: its input is a text that it works on, and what follows from it was written.
+    // What a finished command has done: its input is valid, and its result was written.
     ensures done { (command : Command) → Names words.now.items command → result ≡ DONE → IsDone command
         (S.left input.old) (K.written out.old) (K.written out.new) (W.written wire.old) (W.written wire.new) }
-    // A faulty input: its first fault was written, and nothing else but the lines of frames in front of it.
+    // A faulty input: its first fault was written, and besides it only the lines of the frames before it.
     ensures faulty { (command : Command) → Names words.now.items command → result ≡ FAULTY_INPUT → IsRefused command
         (S.left input.old) (S.left input.new) (K.written out.old) (K.written out.new) }
     // No work is done on an input that has a fault.
     ensures refused { (command : Command) (text : List ℕ) → Names words.now.items command → S.left input.old ≡ Some text
         → HasFault command text → (result ≢ DONE) × (result ≢ WIRE_FAILED) }
 
-    // An input that has no fault is worked on, unless a device fails or memory is short.
+    // An input without a fault is worked on, unless a device fails or it runs out of memory.
     ensures complete { (command : Command) (text : List ℕ) → Names words.now.items command
         → S.left input.old ≡ Some text → (HasFault command text → ⊥)
         → (Rose (S.faults input.old) (S.faults input.new) → ⊥) → (Rose (K.faults out.old) (K.faults out.new) → ⊥)
         → (Rose (W.faults wire.old) (W.faults wire.new) → ⊥) → (result ≡ DONE) ⊎ (result ≡ NO_MEMORY) }
 
-    // Only a replay sends frames, and none of an input that has a fault, whatever else fails.
+    // Only a replay sends frames, and none for an input that has a fault, whatever else fails.
     ensures unsent { (result ≡ FAULTY_INPUT) ⊎ (IsReplay words.now.items → ⊥) → wire.new ≡ wire.old }
     ensures sound_alone { (text : List ℕ) → IsReplay words.now.items → S.left input.old ≡ Some text
         → HasFault Command.Replay text → wire.new ≡ wire.old }
 
-    // A replay whose frames can't be written is one up to the sending that failed.
+    // If a replay's frame can't be written, the replay is one up to the failed send.
     ensures broken { result ≡ WIRE_FAILED → IsReplay words.now.items × IsBroken (S.left input.old)
         (K.written out.old) (K.written out.new) (W.written wire.old) (W.written wire.new) }
-    // What a command wrote that ends early is in front of what it may write.
+    // If a command ends early, its output is a prefix of what it may write.
     ensures cut_short { (command : Command) → Names words.now.items command
         → (result ≡ NO_MEMORY) ⊎ (result ≡ OUTPUT_FAILED) → IsCutShort command (S.left input.old) (S.left input.new)
         (K.written out.old) (K.written out.new) (W.written wire.old) (W.written wire.new) }
 
-    // Each device is answered for by its own status. Behind a frame that couldn't be written the output may fail, or memory
-    // be short.
+    // Each device's failure has its own status. After a frame that couldn't be written, the output may also
+    // fail, or it may run out of memory.
     ensures input_cause { HasCause (result ≡ INPUT_FAILED) (S.faults input.old) (S.faults input.new) }
     ensures out_cause { HasCause (result ≡ OUTPUT_FAILED) (K.faults out.old) (K.faults out.new) }
     ensures wire_rose { result ≡ WIRE_FAILED → Rose (W.faults wire.old) (W.faults wire.new) }
@@ -158,7 +161,7 @@ fn run<K: Sink, W: Sink>(
     }
 }
 
-// The command that the words name.
+// The command that the words name; `None` if they name none.
 fn command_of(words: &[String]) -> Option<Command>
     ensures some { IfSome result (λ command. Names words.now command) }
     ensures none { IfNone result (IsCommand words.now → ⊥) }

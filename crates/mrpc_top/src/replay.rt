@@ -1,4 +1,4 @@
-//! What holds of the scripts that `replay` reads, and of what follows from them.
+//! Laws of the scripts that `replay` reads, and of the histories that follow from them.
 
 ghost use Rattle.std.specs.Prelude.{◌≡◌, ◌⊎◌, All, List, length, ℕ};
 ghost use Rattle.mrpc_table.specs.declared.call.Call.{Call};
@@ -13,10 +13,10 @@ ghost use Rattle.replay_run.specs.Sound.{IsAllowed, IsSoundOn};
 use replay_run::{one_follows, what_follows_is_sound};
 use script_text::one_script;
 
-/// A text has one replay at most. It is that of one script or has one first fault, and never both. One history at most
-/// follows from the script, with its loads and the calls that stand: whole, and up to a sending that fails behind as
-/// many calls that were sent. It is legal; on each connection its loads are those of its calls, each part of a message
-/// loaded once, and the calls that stand are at places where they may stand.
+/// A text has at most one replay. It has one script or one first fault, never both. At most one history
+/// follows from the script, with its loads and its pending calls, both for the whole script and up to a send
+/// that fails after a given number of sent calls. The history is legal. On each connection its loads are
+/// those of its calls, each part of a message is loaded once, and each pending call is at a legal position.
 pub fn one_replay()
     ensures scripts { (text : List ℕ) (s t : Script) → Spells text s → Spells text t → s ≡ t }
     ensures faults { (text : List ℕ) (line at : ℕ) (reason other : ScriptReason) → IsFault text line reason
@@ -35,7 +35,7 @@ pub fn one_replay()
         → IsLegal s.table s.loads end.history × All (IsSoundOn s end.history) end.opened }
     ensures legal_until { (text : List ℕ) (s : Script) (tried : Call) (end : State) → Spells text s
         → FollowsUntil s tried end → IsLegal s.table s.loads end.history × All (IsSoundOn s end.history) end.opened }
-    // The call whose sending fails may be sent: every entry of its chain lets it pass.
+    // The call whose send fails may be sent: every entry of its chain lets it pass.
     ensures allowed { (text : List ℕ) (s : Script) (tried : Call) (end : State) → Spells text s
         → (f : FollowsUntil s tried end) → IsAllowed (under s f.until.one.conn) f.until.fails.at f.until.fails.seq }
 {

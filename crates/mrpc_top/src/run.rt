@@ -1,4 +1,4 @@
-//! `run` and `drill`: plans that are run over the links of a fabric.
+//! `run` and `drill`: plans that run over the links of a fabric.
 
 ghost use Rattle.std.specs.Prelude.{◌≡◌, ◌≢◌, ◌⊎◌, ◌≤◌, ◌++◌, ◌∷◌, List, ℕ, Option, Some, true, false, codes, decimal, IfOk, IfSome, IfNone, IsTrue, OnOk};
 ghost use Rattle.std.specs.List.{concat};
@@ -35,22 +35,22 @@ use text_commands::{
 };
 use whole_input::{INPUT_LIMIT, Input, read_input};
 
-/// A link of the run failed.
+/// A link failed during the run.
 pub const LINK_FAILED: u8 = WIRE_FAILED;
 
 /// The fabric failed to open a link.
 pub const FABRIC_FAILED: u8 = 7;
 
-// What is run.
+// What to run.
 #[derive(Clone, Copy)]
 pub(crate) enum Running {
-    // The scenario that the input says.
+    // The scenario of the input.
     Scenario,
-    // The drill of so many calls of each client.
+    // The drill, with this number of calls of each client.
     Drill(u64),
 }
 
-// What the words have run; none where they are no command that runs something.
+// What the words name to run; `None` if they name neither a run nor a drill.
 pub(crate) fn running_of(words: &[String]) -> Option<Running>
     ensures some { IfSome result (λ running. NamesRun words.now running) }
     ensures none { IfNone result ((running : Running) → NamesRun words.now running → ⊥) }
@@ -102,7 +102,7 @@ fn calls_of(number: &str) -> Option<u64>
     }
 }
 
-// Runs what is named, and answers the status.
+// Runs what is named, and returns the status.
 pub(crate) fn run_named<R: Threads + Wait + Sync, S: Source, K: Sink, F: Fabric, C: Clock, G: Gate>(
     rt: &R,
     alloc: Global,
@@ -236,7 +236,7 @@ fn run_scenario<R: Threads + Wait + Sync, K: Sink, F: Fabric, C: Clock, G: Gate>
     }
 }
 
-// Runs the drill of so many calls.
+// Runs the drill with this number of calls of each client.
 fn run_drill<R: Threads + Wait + Sync, K: Sink, F: Fabric, C: Clock, G: Gate>(
     rt: &R,
     alloc: Global,
@@ -282,7 +282,7 @@ fn run_drill<R: Threads + Wait + Sync, K: Sink, F: Fabric, C: Clock, G: Gate>(
     }
 }
 
-// Runs a plan, and writes what is told of its run.
+// Runs a plan, and writes its report.
 fn run_and_tell<R: Threads + Wait + Sync, K: Sink, F: Fabric, C: Clock, G: Gate>(
     rt: &R,
     alloc: Global,
@@ -333,7 +333,7 @@ fn run_and_tell<R: Threads + Wait + Sync, K: Sink, F: Fabric, C: Clock, G: Gate>
     }
 }
 
-// Writes the text of a run.
+// Writes the report of a run.
 fn tell_run<K: Sink>(run: &Run, out: &mut K) -> u8
     ensures statuses { result ≤ WIRE_FAILED }
     ensures some { (result ≢ NO_COMMAND) × (result ≢ FAULTY_INPUT) × (result ≢ INPUT_FAILED) }
@@ -368,7 +368,7 @@ fn tell_counts<K: Sink>(alloc: Global, calls: u64, counted: &Counted, out: &mut 
     }
 }
 
-// What a drill tells: `drill N took T sent S refused R stands D`.
+// The line of a drill: `drill N took T sent S refused R stands D`.
 fn drill_line(alloc: Global, calls: u64, totals: &Totals) -> Result<Bytes, Memory>
     ensures line { IfOk result (λ line. line ≡ drill_line calls (sums_of totals.now)) }
     ensures totals { IsTotals totals.now }
@@ -400,7 +400,7 @@ fn append_count(line: &mut Bytes, word: &[u8], count: u64) -> Result<(), Memory>
     line.append_word(count)
 }
 
-// Writes the parts of what a run tells, one after another, and answers whether the sink took them.
+// Writes the parts of a report in order, and returns whether the sink took them.
 fn write_parts<K: Sink>(out: &mut K, parts: &[Bytes]) -> bool
     ensures done { IsTrue result → Appends (K.written out.old) (K.written out.new) (concat parts.now) }
     ensures front { result ≡ false → WritesFront (K.written out.old) (K.written out.new) (concat parts.now) }
@@ -414,7 +414,7 @@ fn write_parts<K: Sink>(out: &mut K, parts: &[Bytes]) -> bool
     true
 }
 
-// The status of a run of which all that it tells was written, or not.
+// The status of a run, given whether its whole report was written and whether a link failed.
 fn told(whole: bool, failed: bool) -> u8
     ensures statuses { (result ≡ DONE) ⊎ ((result ≡ LINK_FAILED) ⊎ (result ≡ OUTPUT_FAILED)) }
     ensures done { result ≡ DONE → (whole ≡ true) × (failed ≡ false) }
@@ -428,7 +428,7 @@ fn told(whole: bool, failed: bool) -> u8
     if failed { LINK_FAILED } else { DONE }
 }
 
-// The status of a run that gave nothing back.
+// The status of a run that returned no report.
 fn status_of(fault: ServeFault) -> u8
     ensures fabric { fault ≡ ServeFault.Fabric → result ≡ FABRIC_FAILED }
     ensures memory { fault ≢ ServeFault.Fabric → result ≡ NO_MEMORY }

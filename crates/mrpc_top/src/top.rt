@@ -1,4 +1,4 @@
-//! The top call: the words of a command line, and what they have done.
+//! The top call: from the words of a command line to their effects.
 
 ghost use Rattle.std.specs.Prelude.{◌≡◌, ◌≢◌, ◌↔◌, ◌⊎◌, ◌≤◌, List, ℕ, Some, true, false};
 ghost use Rattle.mrpc_base.specs.Faults.{HasCause, Rose};
@@ -19,10 +19,11 @@ use text_commands::{
     DONE, FAULTY_INPUT, INPUT_FAILED, NO_COMMAND, NO_MEMORY, OUTPUT_FAILED, WIRE_FAILED,
 };
 
-/// Runs the command that the words name, and answers its exit status.
+/// Runs the command that the words name, and returns its exit status.
 ///
-/// `run` reads a scenario from `input` and runs it over links of `fabric`; `drill N` runs the drill in which each of
-/// four clients submits N calls, 1 to 2048, and reads nothing. Other words are those of [`run_still`].
+/// `run` reads a scenario from `input` and runs it over links of `fabric`. `drill N` runs the drill in which
+/// each of four clients submits N calls, 1 to 2048, and reads nothing. Other words are those of
+/// [`run_still`].
 pub fn run_command<
     R: Threads + Wait + Sync,
     S: Source,
@@ -44,11 +45,11 @@ pub fn run_command<
 ) -> u8
     ensures statuses { result ≤ FABRIC_FAILED }
 
-    // Which words are a command. For others nothing is read and nothing written.
+    // Which words are a command. For all others nothing is read or written.
     ensures words { (result ≡ NO_COMMAND) ↔ ((IsCommand words.now.items ⊎ IsRunning words.now.items) → ⊥) }
     ensures untouched { result ≡ NO_COMMAND → (input.new ≡ input.old) × (out.new ≡ out.old) × (wire.new ≡ wire.old) }
 
-    // A command that runs nothing: its input is a text that it works on, or has a fault, and what follows was written.
+    // A command that runs no connections: its input is valid or has a fault, and its result was written.
     ensures done { (command : Command) → Names words.now.items command → result ≡ DONE → IsDone command
         (S.left input.old) (K.written out.old) (K.written out.new) (W.written wire.old) (W.written wire.new) }
     ensures faulty { (command : Command) → Names words.now.items command → result ≡ FAULTY_INPUT → IsRefused command
@@ -56,54 +57,56 @@ pub fn run_command<
     ensures refused { (command : Command) (text : List ℕ) → Names words.now.items command → S.left input.old ≡ Some text
         → HasFault command text → (result ≢ DONE) × (result ≢ WIRE_FAILED) }
 
-    // An input of such a command that has no fault is worked on, unless a device fails or memory is short.
+    // An input of such a command without a fault is worked on, unless a device fails or it runs out of
+    // memory.
     ensures complete { (command : Command) (text : List ℕ) → Names words.now.items command
         → S.left input.old ≡ Some text → (HasFault command text → ⊥)
         → (Rose (S.faults input.old) (S.faults input.new) → ⊥) → (Rose (K.faults out.old) (K.faults out.new) → ⊥)
         → (Rose (W.faults wire.old) (W.faults wire.new) → ⊥) → (result ≡ DONE) ⊎ (result ≡ NO_MEMORY) }
 
-    // Only a replay sends frames on the wire, and none of an input that has a fault.
+    // Only a replay sends frames on the wire, and none for an input that has a fault.
     ensures unsent { (result ≡ FAULTY_INPUT) ⊎ (IsReplay words.now.items → ⊥) → wire.new ≡ wire.old }
     ensures sound_alone { (text : List ℕ) → IsReplay words.now.items → S.left input.old ≡ Some text
         → HasFault Replay text → wire.new ≡ wire.old }
     ensures broken { IsCommand words.now.items → result ≡ WIRE_FAILED → IsReplay words.now.items × IsBroken
         (S.left input.old) (K.written out.old) (K.written out.new) (W.written wire.old) (W.written wire.new) }
 
-    // What a command wrote that ends early, for want of memory or since the output failed, is in front of what it may write.
+    // If a command ends early, because it is out of memory or the output failed, its output is a prefix of
+    // what it may write.
     ensures cut_short { (command : Command) → Names words.now.items command
         → (result ≡ NO_MEMORY) ⊎ (result ≡ OUTPUT_FAILED) → IsCutShort command (S.left input.old) (S.left input.new)
         (K.written out.old) (K.written out.new) (W.written wire.old) (W.written wire.new) }
 
-    // What was run has done what a run does, and told it: at `DONE` no link failed, at `LINK_FAILED` one did.
+    // The run did what a run does, and wrote its report: at `DONE` no link failed, at `LINK_FAILED` one did.
     ensures ran { (running : Running) → NamesRun words.now.items running → result ≡ DONE → WritesRun C.Clock F.L.Link
         F.pair clock.now (F.back fabric.old) (F.back fabric.new) false running (S.left input.old)
         (K.written out.old) (K.written out.new) }
     ensures ran_on { (running : Running) → NamesRun words.now.items running → result ≡ LINK_FAILED → WritesRun C.Clock
         F.L.Link F.pair clock.now (F.back fabric.old) (F.back fabric.new) true running (S.left input.old)
         (K.written out.old) (K.written out.new) }
-    // An input that has a fault isn't run, and its first fault is all that is written.
+    // An input that has a fault isn't run, and only its first fault is written.
     ensures not_run { (running : Running) → NamesRun words.now.items running → result ≡ FAULTY_INPUT
         → WritesRefusal running (S.left input.old) (S.left input.new) (K.written out.old) (K.written out.new) }
     ensures never_run { (running : Running) (text : List ℕ) → NamesRun words.now.items running
         → S.left input.old ≡ Some text → HasRunFault running text
         → (result ≢ DONE) × (result ≢ LINK_FAILED) × (result ≢ FABRIC_FAILED) × (fabric.new ≡ fabric.old) }
-    // What a run wrote that ends early is in front of what it may write.
+    // If a run ends early, its output is a prefix of what it may write.
     ensures stopped { (running : Running) → NamesRun words.now.items running
         → (result ≡ NO_MEMORY) ⊎ (result ≡ OUTPUT_FAILED) → StopsRun C.Clock F.L.Link F.pair clock.now
         (F.back fabric.old) (F.back fabric.new) running (S.left input.old) (S.left input.new)
         (K.written out.old) (K.written out.new) }
-    // Where a link couldn't be opened, nothing is written.
+    // If a link couldn't be opened, nothing is written.
     ensures unopened { (running : Running) → NamesRun words.now.items running → result ≡ FABRIC_FAILED
         → HasPlan running (S.left input.old) × (out.new ≡ out.old) }
     ensures drilled { (calls : ℕ) → NamesRun words.now.items (Drill calls) → input.new ≡ input.old }
 
-    // Only what is run touches the fabric, and only behind an input without a fault. What ran to its end gave back all
-    // links that it opened.
+    // Only a run touches the fabric, and only if its input has no fault. A run that ended returned all links
+    // that it opened.
     ensures unrun { ((result ≡ FAULTY_INPUT) ⊎ (result ≡ INPUT_FAILED)) ⊎ (IsRunning words.now.items → ⊥)
         → fabric.new ≡ fabric.old }
     ensures away { (result ≡ DONE) ⊎ (result ≡ LINK_FAILED) → F.away fabric.new ≡ F.away fabric.old }
 
-    // Each device is answered for by its own status.
+    // Each device's failure has its own status.
     ensures input_cause { HasCause (result ≡ INPUT_FAILED) (S.faults input.old) (S.faults input.new) }
     ensures out_cause { HasCause (result ≡ OUTPUT_FAILED) (K.faults out.old) (K.faults out.new) }
     ensures wire_rose { IsCommand words.now.items → result ≡ WIRE_FAILED → Rose (W.faults wire.old) (W.faults wire.new) }

@@ -7,7 +7,7 @@ use std::env;
 use std::env::Env;
 use std::io::ErrorKind;
 
-// What a command line asks the program itself for.
+// What a command line asks of the program itself.
 #[derive(Clone, Copy)]
 pub(crate) enum Asked {
     // The usage text.
@@ -21,7 +21,7 @@ pub(crate) enum Asked {
 pub(crate) enum WordsFault {
     // A word isn't UTF-8.
     NotText,
-    // No memory was found.
+    // Out of memory.
     Memory,
 }
 
@@ -42,7 +42,7 @@ pub(crate) fn words<R: Env + AllocGlobal>(rt: &R) -> Result<Vec<String>, WordsFa
     Ok(words)
 }
 
-// What a command line of `--help` or `--version` alone asks for.
+// What a command line with only `--help` or `--version` asks for; `None` for any other.
 pub(crate) fn asked_alone(words: &[String]) -> Option<Asked>
     ensures asked { IsSome result ↔ AsksAlone words.now }
 {

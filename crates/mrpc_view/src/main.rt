@@ -1,7 +1,7 @@
-//! The program `mrpc-view`: the words of the command line, standard input, standard output and standard error handed to
-//! the top call, whose answer is the exit status.
+//! The program `mrpc-view`: it hands the words of the command line, standard input, standard output and
+//! standard error to the top call, and exits with the status that it returns.
 //!
-//! It stands on `system_io`, which makes a source and sinks of the system's, and on `view_top`, which does all the work.
+//! It uses `system_io` for the system's source and sinks, and `view_top`, which does all the work.
 #![tactic(auto)]
 
 mod command_line;
@@ -27,7 +27,7 @@ fn main(rt: HostRuntime) -> ExitCode {
     ExitCode::from(status)
 }
 
-// Does what the command line asks for, and gives its status.
+// Does what the command line asks for, and returns its status.
 fn exit_status<R, S: Source, K: Sink, E: Sink>(
     rt: &R,
     input: &mut S,
@@ -52,7 +52,7 @@ where
     status
 }
 
-// Writes what the command line asks the program itself for, and gives the status.
+// Writes what the command line asks of the program itself, and returns the status.
 fn answer<K: Sink>(alloc: Global, asked: Asked, out: &mut K) -> u8 {
     let written = match asked {
         Asked::Version => write_all(out, VERSION.as_bytes()),
@@ -64,8 +64,8 @@ fn answer<K: Sink>(alloc: Global, asked: Asked, out: &mut K) -> u8 {
     if written { DONE } else { OUTPUT_FAILED }
 }
 
-// Writes on standard error why the view ended so: the usage text where the words are no view, and what failed where
-// something did. Where that can't be written, nothing more is said.
+// Writes to standard error why the view ended with this status: the usage text if the words are no view, and
+// what failed if something did. If a write fails, it writes no more.
 fn say_status<K: Sink>(alloc: Global, status: u8, error: &mut K) {
     if status == NO_COMMAND {
         if let Ok(text) = usage(alloc) {

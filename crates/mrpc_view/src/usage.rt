@@ -1,4 +1,4 @@
-//! What the program says on standard error.
+//! What the program prints on standard error.
 
 use clap::Command;
 use std::alloc::{AllocError, Global};
@@ -41,7 +41,7 @@ pub(crate) fn usage(alloc: Global) -> Result<String, AllocError> {
     program.render_help()
 }
 
-// What failed, for the statuses that say that something did.
+// What failed, for the statuses that report a failure.
 pub(crate) fn failure(status: u8) -> Option<&'static str> {
     match status {
         NO_MEMORY => Some("mrpc-view: out of memory\n"),

@@ -1,4 +1,4 @@
--- Files that declare the same, but for the places of their files.
+-- Files with the same declarations, but in other files.
 use Rattle.std.proofs.Common.{◌≡◌, ℕ, ◌<◌, ◌≤◌, inl, inr, List, [], ◌∷◌, ◌++◌, length, Option, Some, None, sym, ap, ◌∙◌, subst, arith}
 use Rattle.std.specs.Prelude.{Contains, slice_get}
 use Rattle.std.proofs.lemmas.Bool.{cases_lt}
@@ -20,7 +20,7 @@ use Rattle.schema_offences.specs.Offences
 use Rattle.schema_offences.specs.Offences.{IsTwice, IsLongInFull}
 use Rattle.one_package.proofs.Lists.{in_list, at_in, none_at}
 
--- ---- the same declaration in another file
+-- ---- the same declaration, in another file
 
 abbrev pub message_with : ℕ → MessageDecl → MessageDecl
 message_with k m = record m { file = k }
@@ -67,7 +67,7 @@ pub record HasPackage (K : Joined) (w : Word) : Type 0 where
   pub is : head.package ≡ Some word
   pub same : word.name ≡ w.name
 
--- what the one files declare, the others do too
+-- what the first files declare, the second ones declare, too
 pub record AreAlike (J K : Joined) : Type 0 where
   pub some : 0 < length K.heads
   pub packages : (j k : ℕ) → j < length J.heads → k < length K.heads → package_at J j ≡ package_at K k
@@ -138,7 +138,7 @@ declares_alike {J} {K} a (Scopes.oneof m o c d up) =
     let n = message_with t.file m in
     (t.file, Scopes.oneof n o (in_list K.messages c.0 n t.at) d u)
 
--- what is declared stands in a file that is there
+-- a declaration is in a file that exists
 pub declared_in : {J K : Joined} {j : ℕ} {sort : Sort} {full : List (List ℕ)} {span : Span} → AreAlike J K
     → Declares J j sort full span → j < length J.heads
 declared_in {J} a (Scopes.message m c up) = (a.messages c.0 m (at_in J.messages m c)).own
@@ -148,7 +148,7 @@ declared_in {J} a (Scopes.value e v c d up) = (a.enums c.0 e (at_in J.enums e c)
 declared_in {J} a (Scopes.field m f c d up) = (a.messages c.0 m (at_in J.messages m c)).own
 declared_in {J} a (Scopes.oneof m o c d up) = (a.messages c.0 m (at_in J.messages m c)).own
 
--- ---- what is declared twice, and long full names
+-- ---- duplicate names, and long full names
 
 no_package : (J : Joined) (k : ℕ) → length J.heads ≤ k → package_at J k ≡ []
 no_package J k l = ap package_in (none_at J.heads k l)

@@ -1,4 +1,4 @@
--- What stands against declarations, where their references name the same.
+-- Violations of declarations whose references name the same declarations.
 use Rattle.std.proofs.Common.{ℕ, Bool, List}
 use Rattle.std.specs.Prelude.{Contains}
 use Rattle.mrpc_table.specs.declared.table.Label.{Label}
@@ -20,7 +20,7 @@ use Rattle.one_package.specs.OnePackage.{FieldRefers, its_type, its_key, its_val
 use Rattle.one_package.proofs.Alike.{message_with, enum_with}
 use Rattle.one_package.proofs.Lists.{in_list}
 
--- a reference names the same in both
+-- a reference names the same declaration in both
 pub record NamesSame (J : Joined) (j : ℕ) (s : List (List ℕ)) (K : Joined) (k : ℕ) (t : List (List ℕ))
     (name : List ℕ) : Type 0 where
   pub into : (sort : Sort) (full : List (List ℕ)) → Names J j s name sort full → Names K k t name sort full
@@ -64,7 +64,7 @@ module _ {J : Joined} {j : ℕ} {s : List (List ℕ)} {K : Joined} {k : ℕ} {t 
       Types.a_map key value kind word is_message packable is plain apart scalar fits
       (type_same (n.names value.name (its_value key value is)) typ)
 
-  -- ---- offences
+  -- ---- violations
 
   no_type_same : {w : Word} {q : ResolveReason} {at : Span} → NamesSame J j s K k t w.name → IsNoType J j s w q at
       → IsNoType K k t w q at
@@ -112,7 +112,7 @@ module _ {J : Joined} {j : ℕ} {s : List (List ℕ)} {K : Joined} {k : ℕ} {t 
       Members.no_output
       (λ full names. isnt full ((n.names r.output.name its_output).back Scopes.a_message full names)) is
 
--- ---- offences of an enum
+-- ---- violations of an enum
 
 value_same : {k : ℕ} {e : EnumDecl} {i : ℕ} {q : ResolveReason} {at : Span} → ValueOffends e i q at
     → ValueOffends (enum_with k e) i q at

@@ -1,4 +1,4 @@
--- Elements of lists, and full names one behind another.
+-- Elements of lists, and concatenated full names.
 use Rattle.std.proofs.Common.{◌≡◌, ℕ, zero, suc, ◌<◌, ◌≤◌, List, [], ◌∷◌, ◌++◌, length, map, Some, None, refl, sym, ap, ◌∙◌, arith}
 use Rattle.std.specs.Prelude.{Contains, slice_get}
 use Rattle.std.specs.Option.{option_map}
@@ -24,7 +24,7 @@ none_at [] i l = refl
 none_at (x ∷ xs) zero l = absurd (omega arith)
 none_at (x ∷ xs) (suc i) l = none_at xs i (omega arith)
 
--- what an element of a mapped list comes from
+-- the origin of an element of a mapped list
 pub mapped_from : {X Y : Type 0} (f : X → Y) (xs : List X) (i : ℕ) (y : Y) → slice_get (map f xs) i ≡ Some y
     → (x : X) × (slice_get xs i ≡ Some x) × (f x ≡ y)
 mapped_from f [] i y e = absurd (none-some y e)
@@ -37,7 +37,7 @@ mapped_to f xs i x e = slice_get-map f xs i ∙ ap (option_map f) e
 
 -- ---- lists in order
 
--- the one list may be exchanged for another of its length, place by place
+-- one list may be replaced by another of the same length, if its elements correspond one by one
 pub exchanged : {X Z Y : Type 0} (R : X → Y → Type 0) (S : Z → Y → Type 0) {xs : List X} {ys : List Y} (zs : List Z)
     → AreThoseInOrder R xs ys → length zs ≡ length xs
     → ((i : ℕ) (x : X) (z : Z) → slice_get xs i ≡ Some x → slice_get zs i ≡ Some z → (y : Y) → R x y → S z y)
@@ -62,7 +62,7 @@ last_same (a ∷ xs) (b ∷ ys) x y e =
     let whole : a ∷ xs ≡ b ∷ ys = cc in
     (whole, r.1)
 
--- what a list ends with
+-- a list is empty or has a last element
 pub data Ends {X : Type 0} (xs : List X) : Type 0 where
   no_last : xs ≡ [] → Ends xs
   a_last : (front : List X) (x : X) → xs ≡ front ++ x ∷ [] → Ends xs
@@ -74,7 +74,7 @@ ends (x ∷ xs) = elim (ends xs) [
   | a_last front y e ↦ a_last (x ∷ front) y (ap (λ ys. x ∷ ys) e)
 ]
 
--- a part of a list stands in it
+-- an element of a part of a list is in the list
 pub contains_part : {X : Type 0} (xs : List X) (x : X) (ys : List X) → Contains (xs ++ x ∷ ys) x
 contains_part [] x ys = (0, omega arith, refl)
 contains_part (z ∷ xs) x ys =

@@ -1,4 +1,4 @@
--- References of files of one package name the same as in the one file.
+-- References of files of one package name the same declarations as in the one file.
 use Rattle.std.proofs.Common.{◌≡◌, ℕ, ◌+◌, ◌<◌, ◌≤◌, ◌⊎◌, true, List, [], ◌∷◌, ◌++◌, length, Option, Some, None, refl}
 use Rattle.std.proofs.Common.{sym, ap, ◌∙◌, subst, ⊎_elim, arith}
 use Rattle.std.specs.Prelude.{Contains, slice_get, slice_index_or}
@@ -32,15 +32,15 @@ use Rattle.one_package.proofs.OneFile.{alike_into, alike_back, package_same, pac
 abbrev Scope : Type 0
 Scope = List (List ℕ)
 
--- ---- where things stand
+-- ---- enclosing files and messages
 
--- a place in the file j
+-- a file or message of file j
 data HomeOf (F : Joined) (j : ℕ) : Home → Type 0 where
   the_file : HomeOf F j (home.File j)
   the_message : (i : ℕ) → ((m : MessageDecl) → slice_get F.messages i ≡ Some m → m.file ≡ j)
       → HomeOf F j (home.Message i)
 
--- what a message's scope is
+-- the scope of a message
 record MessageScope (F : Joined) (i : ℕ) (s : Scope) : Type 0 where
   decl : MessageDecl
   outer : Scope
@@ -71,7 +71,7 @@ home_in_file : {F : Joined} (j : ℕ) (p : Option ℕ)
 home_in_file j None nested = the_file
 home_in_file j (Some i) nested = the_message i (λ m at. nested i m refl at)
 
--- where a scope stands outward from a reference: in a message of the file, or at a front of its package
+-- a scope outward from a reference: that of a message of the file, or a prefix of its package
 data StandsAt (F : Joined) (P : Scope) (file : ℕ) (s : Scope) : Type 0 where
   in_message : (i : ℕ) → IsScope F (home.Message i) s
       → ((m : MessageDecl) → slice_get F.messages i ≡ Some m → m.file ≡ file) → StandsAt F P file s
@@ -182,7 +182,7 @@ module _ (F : Joined) (G : File) (formed : IsFormed F) (one : IsOnePackage F G) 
   type_length : {j : ℕ} {full : Scope} → IsTypeIn F j full → length P < length full
   type_length t = omega (arith, ap length t.is, longer t.outer t.name, scope_length t.stands t.of t.there)
 
-  -- ---- what is there
+  -- ---- visible names
 
   there_into : {file : ℕ} {full : Scope} → IsThere F file full → IsThere A 0 full
   there_into (a_type other sort span sees d typ) =
@@ -195,7 +195,7 @@ module _ (F : Joined) (G : File) (formed : IsFormed F) (one : IsOnePackage F G) 
       → IsThere F file full
   package_there {file} rest l e = a_package file rest (sees_itself file l) (its_package file l ∙ e)
 
-  -- a front of a scope that stands in a file that is seen
+  -- a prefix of a scope in a visible file
   scope_there : {file j : ℕ} {h : Home} {s : Scope} (x rest : Scope) → Sees F file j → IsScope F h s → HomeOf F j h
       → s ≡ x ++ rest → IsThere F file x
   scope_there x rest sees (of_file k) the_file e = a_package k rest sees e
@@ -215,7 +215,7 @@ module _ (F : Joined) (G : File) (formed : IsFormed F) (one : IsOnePackage F G) 
             (last_same outer (x ++ front) m.name.name y cut).0
       ]
 
-  -- a front of the full name of a type that is seen
+  -- a prefix of the full name of a visible type
   type_there : {file j : ℕ} {sort : Sort} {full : Scope} {span : Span} (x rest : Scope) → Sees F file j
       → Declares F j sort full span → is_type sort ≡ true → full ≡ x ++ rest → IsThere F file x
   type_there {file} {j} {sort} {full} {span} x rest sees d typ e = elim (ends rest) [
@@ -304,7 +304,7 @@ module _ (F : Joined) (G : File) (formed : IsFormed F) (one : IsOnePackage F G) 
 
   -- ---- from the files to the one file
 
-  -- one message at most has a full name
+  -- at most one message has a full name
   module _ (ordered : IsOrdered F) (once : (span : Span) → IsTwice F span → ⊥) where
     message_one : {i j : ℕ} {s : Scope} → IsScope F (home.Message i) s → IsScope F (home.Message j) s → i ≡ j
     message_one {i} {j} {s} up up' =
@@ -333,7 +333,7 @@ module _ (F : Joined) (G : File) (formed : IsFormed F) (one : IsOnePackage F G) 
         apart)
         (cases_order first.start second.start)
 
-    -- what stands in a message of a file is seen by that file
+    -- what a message of a file encloses is visible to that file
     type_seen : {file i k : ℕ} {s : Scope} (p : Option ℕ) → IsScope F (home.Message i) s
         → ((m : MessageDecl) → slice_get F.messages i ≡ Some m → m.file ≡ file) → k < length F.heads
         → IsScope F (home_in k p) s → HomeOf F k (home_in k p) → k ≡ file
@@ -360,7 +360,7 @@ module _ (F : Joined) (G : File) (formed : IsFormed F) (one : IsOnePackage F G) 
     in_message_there name l up of (a_package other rest sees e) =
         package_there rest l (sym (package_alone F G one.file other (seen_alone sees)) ∙ e)
 
-    -- a name that is decided outside of the package is a part of it
+    -- if a scope outside of the package decides a name, the name is a part of the package
     part_of : {file : ℕ} {name : List ℕ} {s d : Scope} (x : List ℕ) (xs : Scope) → Decides F file name s d
         → P ≡ s ++ x ∷ xs → Contains P name
     part_of {file} {name} {s} x xs (here (a_type other sort span sees d typ)) e =
@@ -383,7 +383,7 @@ module _ (F : Joined) (G : File) (formed : IsFormed F) (one : IsOnePackage F G) 
     top_apart (Some i) last s rest decides is e l stands apart =
         omega (arith, message_length stands, ap length e, length-append s rest)
 
-    -- outward from the package, what the one file has there the file sees
+    -- outward from the package, the file sees what the one file has
     front_apart : {file : ℕ} {name : List ℕ} {outer d : Scope} (last : List ℕ) (s rest : Scope) → file < length F.heads
         → Decides F file name outer d → s ≡ outer ++ last ∷ [] → P ≡ s ++ rest
         → (IsThere F file (s ++ name ∷ []) → ⊥) → IsThere A 0 (s ++ name ∷ []) → ⊥
@@ -398,7 +398,7 @@ module _ (F : Joined) (G : File) (formed : IsFormed F) (one : IsOnePackage F G) 
     front_apart last s rest l decides is e isnt (a_package other more sees p) =
         isnt (package_there more l (sym (package_alone F G one.file other (seen_alone sees)) ∙ p))
 
-    -- where what a message stands in is
+    -- the scope of the enclosing file or message is such a scope
     outward_at : {file : ℕ} {s : Scope} (p : Option ℕ) → file < length F.heads → IsScope F (home_in file p) s
         → HomeOf F file (home_in file p) → StandsAt F P file s
     outward_at {file} {s} None l stands own =

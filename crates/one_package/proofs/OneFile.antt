@@ -1,4 +1,4 @@
--- Several files and the one file that has their declarations declare the same.
+-- Several files and the one file with all their declarations declare the same names.
 use Rattle.std.proofs.Common.{◌≡◌, ℕ, zero, suc, ◌<◌, ◌⊎◌, inl, inr, List, [], ◌∷◌, ◌++◌, length, map, Option, Some, None, refl, sym, ap, ◌∙◌, subst, arith}
 use Rattle.std.specs.Prelude.{Contains, slice_get}
 use Rattle.std.specs.Option.{option_map}
@@ -40,7 +40,7 @@ rpcs_alone (s ∷ ss) =
     ∙ ap (λ (ps : List (ServiceDecl × RpcDecl)). map pair_alone (service_rpcs s) ++ ps) (rpcs_alone ss)
     ∙ sym (map-append pair_alone (service_rpcs s) (flat_map service_rpcs ss))
 
--- an element of the pairs of one thing with its parts, or of what follows them
+-- an element of the pairs of an item with its parts, or of the elements after them
 mapped_or_later : (s : ServiceDecl) (rs : List RpcDecl) (later : List (ServiceDecl × RpcDecl)) (i : ℕ)
     (x : ServiceDecl) (r : RpcDecl) → slice_get (map (λ y. (s, y)) rs ++ later) i ≡ Some (x, r)
     → ((s ≡ x) × ((j : ℕ) × (slice_get rs j ≡ Some r))) ⊎ ((k : ℕ) × (slice_get later k ≡ Some (x, r)))

@@ -1,4 +1,4 @@
--- Two small files of one package, and the one file that has their declarations.
+-- Two small files of one package, and the one file with all their declarations.
 use Rattle.std.proofs.Common.{◌≡◌, ℕ, zero, suc, ◌+◌, ◌≤◌, ◌⊎◌, inl, inr, false, true, List, [], ◌∷◌, ◌++◌, Some}
 use Rattle.std.proofs.Common.{None, refl, sym, ap, ◌∙◌, subst, arith}
 use Rattle.std.specs.Prelude.{codes, slice_get, Contains}
@@ -110,7 +110,7 @@ is_one_file = record {
   services = refl;
 }
 
--- ---- no type is named as a part of the package
+-- ---- no type has the name of a part of the package
 
 named_at : (i : ℕ) (name : List ℕ) → slice_get (codes "p" ∷ []) i ≡ Some name → codes "p" ≡ name
 named_at zero name e = same_Some (codes "p") name e
@@ -146,7 +146,7 @@ no_type_is_a_part = record {
 
 -- ---- the files see the types that they name
 
--- message A stands in file 0, message B in file 1
+-- message A is in file 0, message B in file 1
 data IsOne (file : ℕ) (full : List (List ℕ)) : Type 0 where
   is_a : file ≡ 0 → full ≡ codes "p" ∷ codes "A" ∷ [] → IsOne file full
   is_b : file ≡ 1 → full ≡ codes "p" ∷ codes "B" ∷ [] → IsOne file full
@@ -190,7 +190,7 @@ one_small : {file : ℕ} {full : List (List ℕ)} → IsOne file full → file �
 one_small (is_a k e) = omega arith
 one_small (is_b k e) = omega arith
 
--- a file with a reference is the second, or the reference is to A
+-- a reference is in the second file, or names A
 data IsReference (file : ℕ) (name : List ℕ) : Type 0 where
   of_b : file ≡ 1 → IsReference file name
   to_a : file ≡ 0 → name ≡ codes "A" → IsReference file name
@@ -229,7 +229,7 @@ reference {name} (of_field i m f e is up c r) =
     subst (λ (k : ℕ). IsReference k name) is (message_reference i m f name e c r)
 reference (of_rpc s r c is d e n) = of_b (sym is ∙ service_reference c.0 s (at_in both.services s c))
 
--- a name of one part is the last of what it means
+-- a name with one part is the last part of its full name
 means_last : {scope full : List (List ℕ)} {name : List ℕ} → name ≡ codes "A" → Means (alone one) 0 scope name full
     → (front : List (List ℕ)) × (full ≡ front ++ codes "A" ∷ [])
 means_last is (absolute name) = absurd (let h : ◌≡◌ {A = ℕ} 46 65 = cc in omega arith)

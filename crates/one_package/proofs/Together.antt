@@ -1,4 +1,4 @@
--- Files that declare the same, where their references name the same: what stands against them, and their table.
+-- Files with the same declarations, whose references name the same declarations: their violations, and their table.
 use Rattle.std.proofs.Common.{◌≡◌, ℕ, List, [], ◌∷◌, ◌++◌, ◌<◌, length, Some, refl, sym, ap, ◌∙◌, subst}
 use Rattle.std.specs.Prelude.{Contains, slice_get}
 use Rattle.std.proofs.lemmas.List.Elements.{All-weaker}
@@ -36,7 +36,7 @@ use Rattle.one_package.proofs.Lists.{in_list, at_in, exchanged}
 use Rattle.one_package.proofs.Alike.{message_with, enum_with, service_with, AreAlike, homes_alike, scope_alike, message_scope_alike, twice_alike, long_alike}
 use Rattle.one_package.proofs.Judged.{MessageSame, RpcSame, form_same, message_offends_same, method_offends_same, enum_offends_same}
 
--- the references of the one files name the same as those of the others
+-- the references of the first files name the same declarations as those of the second ones
 pub record ReferSame (J K : Joined) : Type 0 where
   pub messages : (i k : ℕ) (m : MessageDecl) (scope : List (List ℕ)) → slice_get J.messages i ≡ Some m
       → slice_get K.messages i ≡ Some (message_with k m) → IsScope J (home.Message i) scope
@@ -97,9 +97,9 @@ passes_alike {J} {K} a same p = record {
   pass = p.pass;
 }
 
--- ---- what stands against them
+-- ---- their violations
 
--- this reason, somewhere
+-- this reason, at some span
 pub record OffendsToo (K : Joined) (q : ResolveReason) : Type 0 where
   pub span : Span
   pub offends : Offends K q span

@@ -1,4 +1,4 @@
--- Files of one package that read as one file: the declarations of all of them in one file.
+-- Files of one package that read as one file with all their declarations.
 use Rattle.std.specs.Prelude.{◌≡◌, ℕ, ◌<◌, true, List, [], length, map, option_map, Some, None, slice_get, All, Contains}
 use Rattle.proto_file.specs.Joined.{Joined, Sees, alone, package_at}
 use Rattle.proto_file.specs.declared.file.Word.{Word}
@@ -15,7 +15,7 @@ use Rattle.schema_names.specs.Scopes.{IsScope, Sort, is_type, Declares, Names}
 
 -- ---- one file
 
--- a declaration, as it stands in a file alone
+-- a declaration, in a file alone
 abbrev pub message_alone : MessageDecl → MessageDecl
 message_alone m = record m { file = 0 }
 
@@ -36,8 +36,8 @@ pub record IsOneFile (F : Joined) (G : File) : Type 0 where
 
 -- ---- names
 
--- No type at the top of a file is named as a part of the file's package: a file that doesn't see the type would mean a
--- package by that name.
+-- No type at the top level of a file has the name of a part of the file's package: in a file that doesn't see the
+-- type, the name would mean a package.
 pub record NoTypeIsAPart (F : Joined) : Type 0 where
   pub messages : (m : MessageDecl) → Contains F.messages m → m.parent ≡ None
       → Contains (package_at F m.file) m.name.name → ⊥

@@ -16,8 +16,7 @@ ghost use Rattle.one_package.specs.OnePackage.{IsOnePackage};
 use proto_join::joined_is_ordered;
 use schema_files::{joined_is_sound, one_join};
 
-/// Files of one package and the one file that has their declarations resolve to the same table: where one of the two
-/// has a table, the other has it too.
+/// Files of one package resolve to a table exactly if the one file with all their declarations resolves to it.
 pub fn one_package_is_one_file()
     ensures one_file { (F : Joined) (G : File) (T : Table) → IsFormed F → IsOrdered F → IsOnePackage F G
         → ResolvesTogether F T → Resolves G T }
@@ -25,8 +24,8 @@ pub fn one_package_is_one_file()
         → Resolves G T → ResolvesTogether F T }
 {}
 
-/// The same of the files that the first file of a set reaches by imports: the set, where its paths are right,
-/// resolves to the table of the one file.
+/// A set with valid paths resolves to a table exactly if the one file with all declarations of the files that its
+/// first one reaches resolves to it.
 pub fn one_package_set_is_one_file()
     ensures one_file { (files : List PackedFile) (ps : List Part) (G : File) (T : Table) → AreJoined files ps
         → IsOnePackage (joined ps) G → FilesResolve files T → Resolves G T }

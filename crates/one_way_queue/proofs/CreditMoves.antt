@@ -1,4 +1,4 @@
--- Each move of a queue of credits keeps its rule.
+-- Each move of a queue of credits preserves its rule.
 use Rattle.std.proofs.Common.{◌≡◌, ◌≢◌, ℕ, zero, suc, true, false, true≢false, List, [], ◌∷◌, ◌++◌, set, sym, refl, ap, ◌∙◌, subst, ⊎_elim}
 use mathlib.Core.Option.{some, some-injective, some-ne-none}
 use lib.ListN.{get_elem?}
@@ -18,7 +18,7 @@ module _ {T : Type 0} where
   abbrev Of : TableId → Credit T → Type 0
   Of queue credit = credit.pass.table_id ≡ queue
 
-  -- what a call of a named pass tells
+  -- what a call of a named pass guarantees
   abbrev Same : Desk → Credit T → Desk → Type 0
   Same v x w = (w ≡ v) × Of v.queue x
 
@@ -34,7 +34,7 @@ module _ {T : Type 0} where
         };
   }
 
-  -- the one pass is cut in two, which know the queue
+  -- the one pass is split into two, which know the queue
   pub names : (queue : TableId) (port : ℕ) (v : Desk) → v.named ≡ false → Forks (AreOfOne {T = T}) port v (desk_of queue) (desk_of queue)
   names queue port v not items views h at =
       let fits = h.fits port v at in
@@ -53,7 +53,7 @@ module _ {T : Type 0} where
             (at_snoc (set views port (desk_of queue)) (desk_of queue) u j e);
       }
 
-  -- where a pass is named, each is, and what waits may change
+  -- if one pass is named, each is, and the queued credits may change
   stays : (queue : TableId) (items items' : List (Credit T)) (views : List Desk) (port : ℕ) (v : Desk) → v.named ≡ true → get_elem? views port ≡ some v
       → ((j : ℕ) (u : Desk) → get_elem? views j ≡ some u → DeskFits queue items views j u)
       → (j : ℕ) (u : Desk) → get_elem? (set views port v) j ≡ some u → DeskFits queue items' (set views port v) j u

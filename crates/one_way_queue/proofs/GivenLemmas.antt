@@ -1,4 +1,4 @@
--- What a reader has given, and what it has left of the piece at hand.
+-- The bytes that a reader has delivered, and the remainder of its current piece.
 use Rattle.std.proofs.Common.{◌≡◌, ◌≤◌, ℕ, ◌+◌, ◌-◌, length, length-drop, List, [], ◌∷◌, ◌++◌, take, drop, refl, ap, sym, ◌∙◌, append_assoc}
 use Rattle.std.proofs.Math.Seq.{take-length}
 use Rattle.std.proofs.Math.ListN.{drop_of_length-le}
@@ -8,7 +8,7 @@ use Rattle.one_way_queue.specs.declared.piece.Piece.{Piece}
 use Rattle.one_way_queue.specs.declared.piece.Piece.TheVariants.{Bytes, Mark}
 use Rattle.one_way_queue.specs.Pieces.{bytes_of, marks_of}
 
--- the next n bytes go from what is left to what was given
+-- the next n bytes move from the remainder to the delivered ones
 pub gives_more : (given piece all : List ℕ) (at n : ℕ) → given ++ drop at piece ≡ all → (given ++ take n (drop at piece)) ++ drop (at + n) piece ≡ all
 gives_more given piece all at n is =
     append_assoc given (take n (drop at piece)) (drop (at + n) piece)
@@ -16,7 +16,7 @@ gives_more given piece all at n is =
     ∙ ap (λ r. given ++ r) (take-append-drop n (drop at piece))
     ∙ is
 
--- all behind a place is what is dropped there
+-- the bytes from an offset on are those that dropping leaves
 pub left_whole : (bytes piece : List ℕ) (at : ℕ) → bytes ≡ piece → take (length bytes - at) (drop at bytes) ≡ drop at piece
 left_whole bytes piece at is = ap (λ n. take n (drop at bytes)) (sym (length-drop at bytes)) ∙ take-length (drop at bytes) ∙ ap (drop at) is
 
@@ -41,7 +41,7 @@ module _ {M : Type 0} where
   marks_of_snoc_mark (Bytes b ∷ ps) mark = marks_of_snoc_mark ps mark
   marks_of_snoc_mark (Mark m ∷ ps) mark = ap (λ r. m ∷ r) (marks_of_snoc_mark ps mark)
 
-  -- once a piece was given whole, the bytes of the next are what is left
+  -- once a piece was delivered completely, the bytes of the next are the remainder
   pub takes_bytes : (given piece : List ℕ) (at : ℕ) (old new : List (Piece M)) (bytes : List ℕ)
       → given ++ drop at piece ≡ bytes_of old → length piece ≤ at → new ≡ old ++ Bytes bytes ∷ []
       → given ++ bytes ≡ bytes_of new
@@ -54,7 +54,7 @@ module _ {M : Type 0} where
   bytes_of_append (Bytes b ∷ xs) ys = ap (λ r. b ++ r) (bytes_of_append xs ys) ∙ sym (append_assoc b (bytes_of xs) (bytes_of ys))
   bytes_of_append (Mark m ∷ xs) ys = bytes_of_append xs ys
 
-  -- what was given of a beginning of the pieces is a beginning of their bytes
+  -- what was delivered of a prefix of the pieces is a prefix of their bytes
   pub given_prefix : (given rest : List ℕ) (taken put : List (Piece M)) → given ++ rest ≡ bytes_of taken → IsPrefix taken put → IsPrefix given (bytes_of put)
   given_prefix given rest taken put is p =
       (rest ++ bytes_of p.0, sym (append_assoc given rest (bytes_of p.0)) ∙ ap (λ r. r ++ bytes_of p.0) is ∙ sym (bytes_of_append taken p.0) ∙ ap bytes_of p.1)

@@ -1,4 +1,4 @@
--- Each move of an end keeps the rule of the queue.
+-- Each move of an end preserves the rule of the queue.
 use Rattle.std.proofs.Common.{◌≡◌, ◌≢◌, ◌<◌, ◌≤◌, ◌+◌, ◌-◌, ℕ, zero, suc, true, true≢false, List, [], ◌∷◌, ◌++◌}
 use Rattle.std.proofs.Common.{length, length-append, set, sym, refl, ap, ◌∙◌, subst, ⊎_elim, inl, inr, append_assoc}
 use Rattle.std.proofs.Common.{arith}
@@ -43,7 +43,7 @@ module _ {T : Type 0} where
   same_begins : (xs ys : List T) → xs ≡ ys → IsPrefix xs ys
   same_begins xs ys same = ([], append-nil xs ∙ same)
 
-  -- the longer of two beginnings is one
+  -- the longer of two prefixes is a prefix
   longer_begins : (xs ys all : List T) → IsPrefix xs all → IsPrefix ys all → IsPrefix (longer xs ys) all
   longer_begins [] ys all p q = q
   longer_begins (x ∷ xs) [] all p q = p
@@ -68,7 +68,7 @@ module _ {T : Type 0} where
   prefix_longer : (xs ys : List T) (x : T) → IsPrefix xs ys → IsPrefix xs (ys ++ x ∷ [])
   prefix_longer xs ys x p = (p.0 ++ x ∷ [], sym (append_assoc xs p.0 (x ∷ [])) ∙ ap (λ l. l ++ x ∷ []) p.1)
 
-  -- two beginnings of one list agree
+  -- of two prefixes of one list, one is a prefix of the other
   agree : (xs ys all : List T) → IsPrefix xs all → IsPrefix ys all → Agree xs ys
   agree [] ys all p q = inl (ys, refl)
   agree (x ∷ xs) [] all p q = inr (x ∷ xs, refl)
@@ -148,7 +148,7 @@ module _ {T : Type 0} where
         (refl, agree v.told (v.taken ++ x ∷ []) h.2 mine.told (items, all)),
       )
 
-  -- a pass that knows no more than was taken comes beside any other
+  -- a pass that knows no more than was popped is compatible with any other
   knows_beside : (port : ℕ) (v : Side T) (known : List T) → ((writer reader : ℕ) (put taken : List T) → Fits writer reader put taken port v → IsPrefix known taken)
       → Forks IsOneWay port v v (knowing known)
   knows_beside port v known begins items views h at = (
@@ -169,7 +169,7 @@ module _ {T : Type 0} where
   pub tells : (port : ℕ) (v : Side T) → v.takes ≡ true → Forks IsOneWay port v v (knowing v.taken)
   tells port v may = knows_beside port v v.taken (λ _ _ _ taken f. same_begins v.taken taken (f.takes may).1)
 
-  -- both roles are cut in two
+  -- a pass with both roles is split into two
   pub parts : (port : ℕ) (v : Side T) → v.puts ≡ true → v.takes ≡ true → Forks IsOneWay port v (putting v.put v.known) (taking v.taken v.told)
   parts port v a b items views h at =
       let l : Side T = putting v.put v.known in
@@ -193,7 +193,7 @@ module _ {T : Type 0} where
             }) (at_snoc vs r u j e),
       )
 
-  -- one pass takes in what another knew, which then knows nothing
+  -- one pass takes over what another knew; the other then knows nothing
   takes_in : (port : ℕ) (v : Side T) (other : ℕ) (u w : Side T)
       → ((writer reader : ℕ) (put taken : List T) → Fits writer reader put taken port v → Fits writer reader put taken other u
       → (reader' : ℕ) × Fits writer reader' put taken port w × ((j : ℕ) (y : Side T) → j ≢ other → j ≢ port
@@ -207,7 +207,7 @@ module _ {T : Type 0} where
       let now : Each Now vs = each_set Now views port w (λ _. s.1) (λ j y apart e away. s.2 j y away apart (h.5 j y e)) in
       (h.0, s.0, h.2, h.3, h.4, each_set (Fits h.0 s.0 h.2 h.3) vs other neither (fits_neither h.0 s.0 other h.2 h.3) (λ j y apart e. now j y e apart))
 
-  -- the two roles come together
+  -- the two roles are joined
   pub joins : (port : ℕ) (v : Side T) (other : ℕ) (u : Side T) → v.puts ≡ true → u.takes ≡ true → Merges IsOneWay port v other u (both v.put u.taken v.put v.known) neither
   joins port v other u a b =
       takes_in port v other u (both v.put u.taken v.put v.known) (λ writer reader put taken mine theirs.
@@ -217,7 +217,7 @@ module _ {T : Type 0} where
         λ j y away _ f. record { puts = f.puts; takes = λ p. absurd (away ((f.takes p).0 ∙ sym t.0)); told = f.told; known = f.known },
       ))
 
-  -- the end that puts hears what was taken
+  -- the producer learns what was popped
   pub hears : (port : ℕ) (v : Side T) (other : ℕ) (u : Side T) → v.puts ≡ true → Merges IsOneWay port v other u (putting v.put (longer v.known u.known)) neither
   hears port v other u a =
       takes_in port v other u (putting v.put (longer v.known u.known)) (λ writer reader put taken mine theirs. (
@@ -248,9 +248,9 @@ module _ {T : Type 0} where
   pub compares : (port : ℕ) (v : Side T) → v.puts ≡ true → v.takes ≡ true → Learns IsOneWay port v (λ items. v.taken ++ items ≡ v.put)
   compares port v a b items views h at = let mine = h.5 port v at in ap (λ l. l ++ items) (mine.takes b).1 ∙ sym h.4 ∙ sym (mine.puts a).1
 
--- ---- a place that is known to be free
+-- ---- a slot that is known to be free
 
--- hearing of more that were taken leaves no more places free than there are
+-- learning of more popped items never makes more slots free than there are
 pub fits_free : {T : Type 0} (v u : Side T) (free capacity heard taken : ℕ) → free + length v.put ≡ capacity + heard → taken ≤ length u.known
     → length (longer v.known u.known) ≤ length v.put → heard < taken → free + (taken - heard) ≤ capacity
 fits_free v u free capacity heard taken places counted few more =

@@ -1,4 +1,4 @@
--- The rule of a queue on two items, and the bytes and marks of a few pieces.
+-- Worked by hand: the rule of a queue on two items, and the bytes and sentinels of a few pieces.
 use Rattle.std.proofs.Common.{◌≡◌, ℕ, zero, suc, true≢false, List, [], ◌∷◌, ◌++◌, length, length-append, refl, sym, ap, subst, inl, inr, arith}
 use mathlib.Core.Option.{some, some-injective, some-ne-none}
 use mathlib.Core.List.{IsPrefix}
@@ -9,7 +9,7 @@ use Rattle.one_way_queue.specs.declared.side.Side.{Side}
 use Rattle.one_way_queue.specs.Pieces.{bytes_of, marks_of}
 use Rattle.one_way_queue.specs.Sides.{putting, taking, knowing, longer, Agree, Waits, Fits, IsOneWay}
 
--- ---- the rule, for an end that put 7 and 8 and one that took so many of them, and was told of so many
+-- ---- the rule, for a producer that pushed 7 and 8 and a consumer that popped some of them and knows of some
 
 abbrev items_put : List ℕ
 items_put = 7 ∷ 8 ∷ []
@@ -17,7 +17,7 @@ items_put = 7 ∷ 8 ∷ []
 abbrev ends : List ℕ → List ℕ → List (Side ℕ)
 ends taken told = putting items_put [] ∷ taking taken told ∷ []
 
--- each end fits, wherever one was told of a beginning
+-- each end agrees, if the consumer knows of a prefix
 each : (taken told : List ℕ) → IsPrefix told items_put → (port : ℕ) (v : Side ℕ)
     → get_elem? (ends taken told) port ≡ some v → Fits 0 1 items_put taken port v
 each taken told begins zero v e =
@@ -39,11 +39,11 @@ each taken told begins (suc (suc port)) v e = absurd (some-ne-none v (sym e))
 both_wait : IsOneWay items_put (ends [] [])
 both_wait = (0, 1, items_put, [], refl, each [] [] (items_put, refl))
 
--- the first was taken by an end that had been told of both
+-- the first was popped by a consumer that knew of both
 one_waits : IsOneWay (8 ∷ []) (ends (7 ∷ []) items_put)
 one_waits = (0, 1, items_put, 7 ∷ [], refl, each (7 ∷ []) items_put ([], refl))
 
--- what the two ends say of what was put and taken in all
+-- what the two ends imply for all that was pushed and popped
 apart : (items taken told : List ℕ) (rule : IsOneWay items (ends taken told))
     → (items_put ≡ rule.2) × (taken ≡ rule.3)
 apart items taken told rule =
@@ -51,7 +51,7 @@ apart items taken told rule =
     let second = (rule.5 1 (taking taken told) refl).takes refl in
     (first.1, second.1)
 
--- no item overtakes another, is lost, comes twice, or comes from nowhere
+-- no item overtakes another, is lost, is duplicated, or appears from nowhere
 none_overtakes : IsOneWay (7 ∷ []) (ends (8 ∷ []) []) → ⊥
 none_overtakes rule = let s = apart (7 ∷ []) (8 ∷ []) [] rule in cc (s.0, s.1, rule.4)
 
@@ -64,28 +64,28 @@ none_twice rule = let s = apart (7 ∷ 8 ∷ []) (7 ∷ []) [] rule in cc (s.0, 
 none_from_nowhere : IsOneWay (8 ∷ 9 ∷ []) (ends (7 ∷ []) []) → ⊥
 none_from_nowhere rule = let s = apart (8 ∷ 9 ∷ []) (7 ∷ []) [] rule in cc (s.0, s.1, rule.4)
 
--- nobody is told of what was not put
+-- no end knows of an item that wasn't pushed
 none_told : IsOneWay [] (ends (7 ∷ 8 ∷ []) (9 ∷ [])) → ⊥
 none_told rule =
     let s = apart [] (7 ∷ 8 ∷ []) (9 ∷ []) rule in
     let t = (rule.5 1 (taking (7 ∷ 8 ∷ []) (9 ∷ [])) refl).told in
     cc (s.0, t.1)
 
--- one end at most puts
+-- at most one end pushes
 one_puts : IsOneWay {T = ℕ} (7 ∷ []) (putting (7 ∷ []) [] ∷ putting (7 ∷ []) [] ∷ []) → ⊥
 one_puts rule =
     let first = (rule.5 0 (putting (7 ∷ []) []) refl).puts refl in
     let second = (rule.5 1 (putting (7 ∷ []) []) refl).puts refl in
     cc (first.0, second.0)
 
--- nobody knows of an item that was taken and wasn't
+-- no end takes an item for popped that wasn't
 none_known : IsOneWay (7 ∷ 8 ∷ []) (ends [] [] ++ knowing (7 ∷ []) ∷ []) → ⊥
 none_known rule =
     let taken = (rule.5 1 (taking [] []) refl).takes refl in
     let known = (rule.5 2 (knowing (7 ∷ [])) refl).known in
     cc (taken.1, known.1)
 
--- 8 waits, where 7 is known to have been taken; it can't be that both wait then
+-- 8 is queued, if 7 is known to be popped; then it can't be that both are queued
 one_waits_behind : Waits items_put (7 ∷ []) (8 ∷ [])
 one_waits_behind = (7 ∷ [], refl, ([], refl))
 
@@ -95,7 +95,7 @@ not_both w = let few = ap length w.1 in omega (arith, few, length-append w.0 ite
 the_longer : longer {T = ℕ} (7 ∷ []) (7 ∷ 8 ∷ []) ≡ 7 ∷ 8 ∷ []
 the_longer = refl
 
--- of two beginnings of one list one begins the other
+-- of two prefixes of one list, one is a prefix of the other
 begins : Agree {T = ℕ} (7 ∷ []) (7 ∷ 8 ∷ [])
 begins = inl (8 ∷ [], refl)
 
@@ -106,7 +106,7 @@ neither_begins : Agree {T = ℕ} (7 ∷ []) (8 ∷ 7 ∷ []) → ⊥
 neither_begins (inl p) = cc (p.1)
 neither_begins (inr p) = cc (p.1)
 
--- ---- pieces of bytes with a mark between them
+-- ---- pieces of bytes with a sentinel between them
 
 abbrev pieces : List (Piece ℕ)
 pieces = Bytes (7 ∷ 8 ∷ []) ∷ Bytes [] ∷ Mark 5 ∷ Bytes (9 ∷ []) ∷ []

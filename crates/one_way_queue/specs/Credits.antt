@@ -1,5 +1,5 @@
--- The code's own: the rule of the queue through which credits go back. All its credits are of one queue, and each pass
--- to it has a desk at its port, on which that queue is named as soon as it is known.
+-- The code's own: the rule of the queue that carries credits back. All its credits belong to one queue. Each of
+-- its passes has a desk at its port, which names that queue as soon as it is known.
 use Rattle.std.specs.Prelude.{◌≡◌, ℕ, true, false, List, [], ◌∷◌, ⊤}
 use mathlib.Core.Option.{some}
 use lib.ListN.{get_elem?}
@@ -8,7 +8,7 @@ use Rattle.one_way_queue.specs.declared.credit.Credit.{Credit}
 use Rattle.one_way_queue.specs.declared.credit.Desk.{Desk}
 use Rattle.one_way_queue.specs.Names.{no_queue}
 
--- the desk of a pass that knows which queue the credits are of
+-- the desk of a pass that knows the credits' queue
 abbrev pub desk_of : TableId → Desk
 desk_of queue = record { named = true; queue = queue }
 
@@ -16,24 +16,24 @@ desk_of queue = record { named = true; queue = queue }
 abbrev pub unnamed : Desk
 unnamed = record { named = false; queue = no_queue }
 
--- each of the credits is of the queue
+-- each of the credits belongs to the queue
 abbrev pub AreAllOf : {T : Type 0} → TableId → List (Credit T) → Type 0
 AreAllOf queue [] = ⊤
 AreAllOf queue (credit ∷ credits) = (credit.pass.table_id ≡ queue) × AreAllOf queue credits
 
--- no other port than this one has a desk
+-- no port but this one has a desk
 abbrev pub IsOnlyPort : List Desk → ℕ → Type 0
 IsOnlyPort desks port = (other : ℕ) (desk : Desk) → get_elem? desks other ≡ some desk → other ≡ port
 
--- The desk at a port fits the queue that all credits are of: where it names a queue, it names this one; where it names
--- none, no credit waits and there is no other desk.
+-- The desk at a port agrees with the queue of all credits: if it names a queue, it names this one. If it names
+-- none, no credit is queued and there is no other desk.
 pub record DeskFits {T : Type 0} (queue : TableId) (credits : List (Credit T)) (desks : List Desk) (port : ℕ)
     (desk : Desk) : Type 0 where
   pub named : desk.named ≡ true → desk.queue ≡ queue
   pub empty : desk.named ≡ false → credits ≡ []
   pub alone : desk.named ≡ false → IsOnlyPort desks port
 
--- the credits that wait are all of one queue, which every desk fits
+-- the queued credits all belong to one queue, and every desk agrees with it
 pub record AreOfOne {T : Type 0} (credits : List (Credit T)) (desks : List Desk) : Type 0 where
   pub queue : TableId
   pub all : AreAllOf queue credits

@@ -1,4 +1,4 @@
--- What a clause sees of the two ends of a one-way queue.
+-- The two ends of a single-producer single-consumer queue, as clauses see them.
 use Rattle.std.specs.Prelude.{◌≡◌, ℕ, List}
 use Rattle.std.specs.Arc.{arc_value}
 use Rattle.atomic_table.specs.Seated.{TableId}
@@ -7,27 +7,27 @@ use Rattle.one_way_queue.specs.declared.producer.Producer.{Producer}
 use Rattle.one_way_queue.specs.declared.consumer.Consumer.{Consumer}
 
 module _ {T : Type 0} where
-  -- all that was put, in order
+  -- all items that were pushed, in order
   abbrev pub put_of : Producer T → List T
   put_of p = (view p.pass).put
 
-  -- how many places are known to be free, until more is put
+  -- how many slots are known to be free, until the next push
   abbrev pub free_of : Producer T → ℕ
   free_of p = p.free
 
-  -- all that was taken, in order
+  -- all items that were popped, in order
   abbrev pub taken_of : Consumer T → List T
   taken_of c = (view c.pass).taken
 
-  -- what is known to have been put: all that had been when the two ends last met
+  -- the items that the consumer knows to be pushed: all that were when the two ends were last reconciled
   abbrev pub told_of : Consumer T → List T
   told_of c = (view c.pass).told
 
-  -- how many items the queue holds at most
+  -- the most items that the queue holds
   abbrev pub capacity_of : Producer T → ℕ
   capacity_of p = ruled_capacity (arc_value p.queue)
 
-  -- which queue it is
+  -- the queue's identity
   abbrev pub producer_queue : Producer T → TableId
   producer_queue p = p.pass.table_id
 

@@ -1,4 +1,4 @@
--- The code's own: the name of no queue.
+-- The code's own: the identity of no queue.
 use Rattle.std.specs.Prelude.{[]}
 use Rattle.atomic_table.specs.Seated.{TableId}
 

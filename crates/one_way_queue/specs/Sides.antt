@@ -1,4 +1,4 @@
--- What each end of a one-way queue knows, and the rule between the two.
+-- What each end of a single-producer single-consumer queue knows, and the rule between the two.
 use Rattle.std.specs.Prelude.{◌≡◌, ◌⊎◌, ℕ, Bool, true, false, List, [], ◌∷◌, ◌++◌}
 use mathlib.Core.Option.{some}
 use mathlib.Core.List.{IsPrefix}
@@ -10,8 +10,9 @@ module _ {T : Type 0} where
   side puts takes put taken told known =
       record { puts = puts; takes = takes; put = put; taken = taken; told = told; known = known }
 
-  -- the end that puts, which knows of items that were taken; the end that takes, which was told of items that were put;
-  -- both at once; a pass that only knows of items that were taken; and one that knows nothing
+  -- `putting` is the producer, which knows of popped items; `taking` the consumer, which knows of pushed items;
+  -- `both` is both at once. `knowing` is a pass that only knows of popped items, and `neither` one that knows
+  -- nothing.
   abbrev pub putting : List T → List T → Side T
   putting put known = side true false put [] [] known
 
@@ -27,28 +28,28 @@ module _ {T : Type 0} where
   abbrev pub neither : Side T
   neither = knowing []
 
-  -- two beginnings of one list: one of them begins the other
+  -- one of the lists is a prefix of the other
   abbrev pub Agree : List T → List T → Type 0
   Agree xs ys = IsPrefix xs ys ⊎ IsPrefix ys xs
 
-  -- of two beginnings of one list, the longer
+  -- the longer of two prefixes of one list
   abbrev pub longer : List T → List T → List T
   longer [] ys = ys
   longer (x ∷ xs) [] = x ∷ xs
   longer (x ∷ xs) (y ∷ ys) = x ∷ longer xs ys
 
-  -- what waits is the end of what was put, behind all that is known to have been taken
+  -- the queued items are a suffix of those pushed, after all that are known to be popped
   abbrev pub Waits : List T → List T → List T → Type 0
   Waits put known items = (taken : List T) × (taken ++ items ≡ put) × IsPrefix known taken
 
-  -- what one side knows agrees with what was put and taken in all
+  -- what one side knows agrees with all that was pushed and popped
   pub record Fits (writer reader : ℕ) (put taken : List T) (port : ℕ) (v : Side T) : Type 0 where
     pub puts : v.puts ≡ true → (port ≡ writer) × (v.put ≡ put)
     pub takes : v.takes ≡ true → (port ≡ reader) × (v.taken ≡ taken)
     pub told : IsPrefix v.told put
     pub known : IsPrefix v.known taken
 
-  -- what was put is what was taken, and behind it what waits; one side at most puts, and one at most takes
+  -- what was pushed is what was popped followed by what is queued; at most one side pushes, and at most one pops
   abbrev pub IsOneWay : List T → List (Side T) → Type 0
   IsOneWay items views = (writer : ℕ) × (reader : ℕ) × (put : List T) × (taken : List T) × (put ≡ taken ++ items)
       × ((port : ℕ) (v : Side T) → get_elem? views port ≡ some v → Fits writer reader put taken port v)

@@ -1,4 +1,4 @@
-//! The end of a queue that takes.
+//! The consumer of a queue.
 
 ghost use Rattle.std.specs.Prelude.{◌≡◌, ◌≤◌, length, true};
 ghost use Rattle.std.specs.Arc.{arc_value};
@@ -10,11 +10,11 @@ use crate::side::{Line, LinePass, Taken, Takes};
 use std::alloc::Global;
 use std::sync::{Arc, Wait};
 
-/// The end of a queue that takes items. It may go to another thread.
+/// The end of a queue that pops items. It may be sent to another thread.
 pub struct Consumer<T> {
     pub(crate) queue: Arc<Line<T>, Global>,
     pub(crate) pass: LinePass<T>,
-    // Through it goes back what was taken: so many items at least.
+    // Carries back how many items were popped at least.
     pub(crate) back: Arc<Back<T>, Global>,
     pub(crate) telling: BackPass<T>,
     pub(crate) count: usize,
@@ -25,7 +25,7 @@ pub struct Consumer<T> {
     ghost counted: { count ≤ length (view pass).taken },
 }
 
-// By hand, so that a drop is one call where it is needed, and not a drop of each part.
+// By hand, so that each drop is one call, and not a drop of every field.
 impl<T: Drop> Drop for Consumer<T> {
     fn drop(self) {
         let Consumer {
@@ -44,8 +44,8 @@ impl<T> Consumer<T> {
     ghost use Rattle.one_way_queue.specs.Ends.{taken_of, told_of, consumer_queue};
     ghost use Rattle.one_way_queue.specs.Sides.{Agree};
 
-    /// Takes the oldest item that waits, and tells the other end. There is none only where the queue was empty at one
-    /// moment of the call, and all that this end was told of had been taken.
+    /// Pops the oldest item and announces it to the producer. Returns `None` only if the queue was empty at some
+    /// point during the call and every item that this end knows to be pushed was popped.
     pub fn take<R: Wait>(&mut self, rt: &R) -> Option<T>
         ensures taken { IfSome result (λ item. taken_of self.new ≡ taken_of self.old ++ item ∷ []) }
         ensures agree { IfSome result (λ item. Agree (told_of self.old) (taken_of self.new)) }
@@ -60,7 +60,7 @@ impl<T> Consumer<T> {
         Some(item)
     }
 
-    // Tells the other end what was taken, in place of what it was told and hasn't heard yet.
+    // Announces to the producer what was popped. Overwrites an announcement that it hasn't read yet.
     fn tell<R: Wait>(&mut self, rt: &R)
         ensures taken { taken_of self.new ≡ taken_of self.old }
         ensures told { told_of self.new ≡ told_of self.old }

@@ -1,4 +1,4 @@
-//! What the end that takes sends back, and the rule of the queue that it goes through.
+//! The credits that the consumer sends back, and the rule of the queue that carries them.
 
 ghost use Rattle.std.specs.Prelude.{◌≡◌, ◌≤◌, [], length};
 ghost use Rattle.crossbeam_queue.specs.Passes.{view};
@@ -8,7 +8,7 @@ use crossbeam_queue::protocol::{Lesson, Outcome, Protocol, Split};
 use crossbeam_queue::{Pass, RuledArrayQueue};
 use std::marker::{Brand, Model, PhantomData};
 
-// How many items were taken at least, and a pass that knows them.
+// A lower bound on the number of popped items, and a pass that knows them.
 #[derive(Drop)]
 pub(crate) struct Credit<T> {
     pub(crate) pass: LinePass<T>,
@@ -17,12 +17,12 @@ pub(crate) struct Credit<T> {
     ghost at_rest: { pass.me.1 ≡ [] },
 }
 
-// A queue of one place through which credits go back, and its passes.
+// A queue of capacity 1 that carries credits back, and its passes.
 pub(crate) type Back<T> = RuledArrayQueue<Credit<T>, Desk, OfOne>;
 
 pub(crate) type BackPass<T> = Pass<Credit<T>, Desk>;
 
-// Which queue the credits are of. No value of it is made.
+// The queue that the credits belong to. Never constructed.
 pub(crate) struct QueueName {
     number: u64,
 }
@@ -36,14 +36,14 @@ impl Model for QueueName {
     ghost view = { λ _. no_queue };
 }
 
-// What a pass of the queue of credits knows: whether the credits are of a queue yet, and of which. No value of it is
-// made.
+// What a pass of the queue of credits knows: whether the credits' queue is known, and which it is. Never
+// constructed.
 pub(crate) struct Desk {
     pub named: bool,
     pub queue: QueueName,
 }
 
-// All credits are of one queue.
+// All credits belong to one queue.
 pub(crate) struct OfOne;
 
 impl<T> Protocol<Credit<T>, Desk> for OfOne {
@@ -54,7 +54,7 @@ impl<T> Protocol<Credit<T>, Desk> for OfOne {
     ghost first = { unnamed };
 }
 
-// Which queue credits are of. Each opening picks its own.
+// The queue that credits belong to. Each call of `open` picks its own.
 pub(crate) trait Named {
     ghost use Rattle.atomic_table.specs.Seated.{TableId};
 
@@ -67,7 +67,7 @@ impl Named for Brand {
     ghost queue = { no_queue };
 }
 
-// The first pass is cut in two that know the queue.
+// Splits the first pass into two that know the queue.
 pub(crate) struct Names<N> {
     of: PhantomData<N>,
 }
@@ -80,7 +80,7 @@ impl<N: Named> Split<Desk> for Names<N> {
     ghost right = { λ v. desk_of N.queue };
 }
 
-// A credit of the queue goes in, or comes out.
+// A credit of the queue is pushed or popped.
 pub(crate) struct Credits;
 
 impl<T> Outcome<Credit<T>, Desk> for Credits {

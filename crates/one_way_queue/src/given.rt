@@ -1,11 +1,11 @@
-//! Bytes that were given.
+//! A ghost list of bytes.
 
 ghost use Rattle.std.specs.Prelude.{◌≡◌, List, [], ◌++◌, ℕ};
 ghost use Rattle.std.specs.Borrow.{ftrue};
 
 use std::marker::Model;
 
-/// Bytes that were given, one behind the other. Only contracts read the list, and it takes no memory.
+/// A list of bytes that only contracts read; it needs no memory at run time.
 #[derive(Drop)]
 pub struct GivenBytes {
     pub ghost bytes: { List ℕ },
@@ -19,14 +19,14 @@ impl Model for GivenBytes {
 unsafe impl Send for GivenBytes {}
 
 impl GivenBytes {
-    /// No bytes.
+    /// The empty list.
     pub fn new() -> GivenBytes
         ensures { result.bytes ≡ [] }
     {
         GivenBytes {}
     }
 
-    /// The bytes with more behind them.
+    /// The list with more bytes appended.
     pub fn with(_before: &GivenBytes, _more: &[u8]) -> GivenBytes
         ensures { result.bytes ≡ _before.now.bytes ++ _more.now }
     {

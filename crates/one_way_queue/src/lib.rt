@@ -1,13 +1,15 @@
-//! A bounded queue from one thread to another, whose two ends know what they put and took.
+//! A bounded queue from one thread to another, whose contracts relate what was pushed to what was popped.
 //!
-//! [`open`] makes a queue and its ends: a [`Producer`] puts items and a [`Consumer`] takes them, each by a call that
-//! takes no lock. The consumer tells what it took, so that the producer knows places to be free, and can leave some of
-//! them for items that are to find their places whatever waits. A queue of [`Piece`]s carries bytes with marks between
-//! them, which a [`PieceReader`] reads into buffers. [`GivenBytes`] keep, for contracts alone, which bytes were given.
-//! It stands on the ruled array queue of `crossbeam_queue`, on `mrpc_table`, and on `pauses` for the wait for room. The
-//! layer above uses one contract: what was taken is a beginning of what was put, in order and each item once, which
-//! [`meet`] tells of the two ends of one queue; and where a consumer finds nothing, it has taken all that it was ever
-//! told of.
+//! [`open`] makes a queue and its two ends: a [`Producer`], which pushes items, and a [`Consumer`], which pops
+//! them. Neither takes a lock. The consumer announces what it popped, so the producer knows of free slots, and
+//! can keep some of them for items that must never wait. A queue of [`Piece`]s carries bytes with sentinels
+//! between them, and a [`PieceReader`] reads them into buffers. [`GivenBytes`] is a ghost list of delivered bytes
+//! for contracts.
+//!
+//! The crate uses the ruled array queue of `crossbeam_queue`, `mrpc_table`, and `pauses` to wait for room. The
+//! layer above uses one contract: what was popped is a prefix of what was pushed, in order and each item once, as
+//! [`meet`] states for the two ends of one queue. If a consumer finds the queue empty, it has popped every item
+//! that it knew to be pushed.
 #![tactic(auto)]
 
 mod consumer;

@@ -1,4 +1,4 @@
-//! How a queue is opened, and how its ends meet.
+//! How a queue is opened, and how its ends are reconciled.
 
 ghost use Rattle.std.specs.Prelude.{◌≡◌, ◌<◌, ◌≤◌, [], IfOk};
 ghost use mathlib.Core.List.{IsPrefix};
@@ -14,7 +14,7 @@ use std::marker::Brand;
 use std::mem;
 use std::sync::Arc;
 
-/// The two ends of a new queue, which holds at most `capacity` items.
+/// Opens a queue for at most `capacity` items, and returns its two ends.
 pub fn open<T: Drop>(
     alloc: Global,
     capacity: usize,
@@ -54,7 +54,7 @@ pub fn open<T: Drop>(
     ))
 }
 
-// The two ends of a queue of credits of the given queue.
+// The two ends of a queue of credits for the given queue.
 fn ends_back<T, N: Named>(
     back: &Back<T>,
     mut first: BackPass<T>,
@@ -69,8 +69,8 @@ fn ends_back<T, N: Named>(
     (first, other)
 }
 
-/// Brings the two ends of one queue together. What was taken is a beginning of what was put, and from now on the
-/// consumer knows of all that was put.
+/// Reconciles the two ends of one queue. What was popped is a prefix of what was pushed, and from now on the
+/// consumer knows of every item that was pushed.
 pub fn meet<T>(producer: &mut Producer<T>, consumer: &mut Consumer<T>)
     requires { AreEnds producer.old consumer.old }
     ensures in_order { IsPrefix (taken_of consumer.new) (put_of producer.new) }

@@ -1,23 +1,23 @@
-//! What goes through a queue of bytes.
+//! The items of a queue of bytes.
 
 use mrpc_table::Bytes;
 
-/// What goes through a queue of bytes.
+/// An item of a queue of bytes.
 #[derive(Drop)]
 pub enum Piece<M> {
-    /// The next bytes. There may be none.
+    /// The next bytes, possibly none.
     Bytes(Bytes),
-    /// A mark that stands between bytes, or behind them.
+    /// A sentinel between bytes, or after them.
     Mark(M),
 }
 
-/// What a read of a queue of bytes found.
+/// The result of a read from a queue of bytes.
 #[derive(Drop)]
 pub enum Found<M> {
-    /// So many bytes, from 1 to the buffer's length, stand at the buffer's start.
+    /// This many bytes, from 1 to the buffer's length, were written to the start of the buffer.
     Bytes(usize),
-    /// Every byte before this mark was given.
+    /// A sentinel. Every byte before it was delivered.
     Mark(M),
-    /// Nothing waited.
+    /// The queue was empty.
     Nothing,
 }

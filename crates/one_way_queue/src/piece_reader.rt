@@ -10,11 +10,11 @@ use mrpc_table::Bytes;
 use std::alloc::Global;
 use std::sync::Wait;
 
-/// The end of a queue of bytes that reads them into buffers.
+/// The end of a queue of bytes. It reads them into buffers.
 #[derive(Drop)]
 pub struct PieceReader<M> {
     pub(crate) consumer: Consumer<Piece<M>>,
-    // The piece that was taken last, and how many of its bytes were given.
+    // The piece that was popped last, and how many of its bytes were delivered.
     piece: Bytes,
     at: usize,
     pub(crate) given: GivenBytes,
@@ -22,7 +22,7 @@ pub struct PieceReader<M> {
     ghost gives: { given.bytes ++ drop at piece ≡ bytes_of (taken_of consumer) },
 }
 
-// What a reader took.
+// What a reader popped.
 enum Next<M> {
     Bytes,
     Mark(M),
@@ -37,7 +37,7 @@ impl<M> PieceReader<M> {
     ghost use Rattle.one_way_queue.specs.Sides.{Agree};
     ghost use Rattle.one_way_queue.specs.Readers.{given_by, taken_by, told_by, reader_queue};
 
-    /// A reader that has given nothing.
+    /// A reader that has delivered nothing.
     pub fn new(alloc: Global, consumer: Consumer<Piece<M>>) -> PieceReader<M>
         requires { taken_of consumer ≡ [] }
         ensures given { given_by result ≡ [] }
@@ -53,15 +53,15 @@ impl<M> PieceReader<M> {
         }
     }
 
-    /// Reads the next bytes into the start of `buf`, or the next mark. It finds nothing only where the queue was
-    /// empty at one moment of the call, and all that this end was told of had been given.
+    /// Reads the next bytes into the start of `buf`, or the next sentinel. Returns `Nothing` only if the queue was
+    /// empty at some point during the call and every byte that this end knows to be pushed was delivered.
     pub fn read<R: Wait>(&mut self, rt: &R, buf: &mut [u8]) -> Found<M>
         requires room { 0 < length buf.old }
 
         ensures count { OnBytes result (λ n. (0 < n) × (n ≤ length buf.old)) }
         ensures given { OnBytes result (λ n. given_by self.new ≡ given_by self.old ++ take n buf.new) }
         ensures no_bytes { OnNoBytes result (given_by self.new ≡ given_by self.old) }
-        // What a mark and an empty queue tell.
+        // After a sentinel or an empty queue.
         ensures mark { OnMark result (λ mark.
             marks_of (taken_by self.new) ≡ marks_of (taken_by self.old) ++ mark ∷ []) }
         ensures agree { OnMark result (λ mark. Agree (told_by self.old) (taken_by self.new)) }
@@ -85,8 +85,8 @@ impl<M> PieceReader<M> {
         unreachable!()
     }
 
-    /// Brings both ends of the queue together, as [`meet`] does. What was given is a beginning of the bytes that were
-    /// put, and from now on this end knows of all that was put.
+    /// Reconciles both ends of the queue, like [`meet`]. What was delivered is a prefix of the bytes that were
+    /// pushed, and from now on this end knows of every item that was pushed.
     pub fn meet(&mut self, producer: &mut Producer<Piece<M>>)
         requires { producer_queue producer.old ≡ reader_queue self.old }
         ensures in_order { IsPrefix (taken_by self.new) (put_of producer.new) }
@@ -103,7 +103,7 @@ impl<M> PieceReader<M> {
         meet(producer, &mut self.consumer);
     }
 
-    // Takes the next piece, once all of the piece at hand was given.
+    // Pops the next piece, once every byte of the current one was delivered.
     #[tactic(auto, using(crate::proofs::GivenLemmas::bytes_of_snoc_bytes, crate::proofs::GivenLemmas::bytes_of_snoc_mark, crate::proofs::GivenLemmas::marks_of_snoc_bytes, crate::proofs::GivenLemmas::marks_of_snoc_mark))]
     fn next_piece<R: Wait>(&mut self, rt: &R) -> Next<M>
         requires done { length self.old.piece ≤ self.old.at }
@@ -129,7 +129,7 @@ impl<M> PieceReader<M> {
         }
     }
 
-    // Gives the next bytes of the piece at hand.
+    // Delivers the next bytes of the current piece.
     fn give(&mut self, buf: &mut [u8]) -> usize
         requires room { 0 < length buf.old }
         requires left { self.old.at < length self.old.piece }

@@ -1,4 +1,4 @@
-//! The end of a queue that puts.
+//! The producer of a queue.
 
 ghost use Rattle.std.specs.Prelude.{◌≡◌, ◌≤◌, ◌+◌, length, true, false};
 ghost use Rattle.std.specs.Arc.{arc_value};
@@ -11,14 +11,14 @@ use pauses::Pauses;
 use std::alloc::Global;
 use std::sync::{Arc, Wait};
 
-/// The end of a queue that puts items. It may go to another thread.
+/// The end of a queue that pushes items. It may be sent to another thread.
 pub struct Producer<T> {
     pub(crate) queue: Arc<Line<T>, Global>,
     pub(crate) pass: LinePass<T>,
-    // Through it comes back what was taken.
+    // Carries back what was popped.
     pub(crate) back: Arc<Back<T>, Global>,
     pub(crate) hearing: BackPass<T>,
-    // How many places are free at least, and of how many items that were taken it heard.
+    // A lower bound on the number of free slots, and how many popped items it knows of.
     pub(crate) free: usize,
     pub(crate) heard: usize,
     ghost of_queue: { IsPassOf (arc_value queue) pass },
@@ -29,7 +29,7 @@ pub struct Producer<T> {
     ghost known: { heard ≤ length (view pass).known },
 }
 
-// By hand, so that a drop is one call where it is needed, and not a drop of each part.
+// By hand, so that each drop is one call, and not a drop of every field.
 impl<T: Drop> Drop for Producer<T> {
     fn drop(self) {
         let Producer {
@@ -47,8 +47,7 @@ impl<T> Producer<T> {
     ghost use Rattle.std.specs.Prelude.{◌<◌, [], ◌∷◌, ◌++◌, Err, IsOk, MatchResult, OnErr, OnOk};
     ghost use Rattle.one_way_queue.specs.Ends.{put_of, free_of, capacity_of, producer_queue};
 
-    /// Puts an item behind those that wait. It gives the item back where no place is known to be free: then at least as
-    /// many were put in all as the queue holds.
+    /// Pushes an item. Returns it if no slot is known to be free; then at least `capacity` items were pushed so far.
     pub fn put<R: Wait>(&mut self, rt: &R, item: T) -> Result<(), T>
         ensures done { OnOk result (put_of self.new ≡ put_of self.old ++ item ∷ []) }
         ensures back { OnErr result ((result ≡ Err item) × (put_of self.new ≡ put_of self.old)) }
@@ -67,8 +66,8 @@ impl<T> Producer<T> {
         Ok(())
     }
 
-    /// Puts an item behind those that wait, at a place that is known to be free, whatever waits. It is never refused,
-    /// and tries once; it may spin behind a take that has stalled inside its own step, but never for room.
+    /// Pushes an item into a slot that is known to be free. It never fails and tries once. It may spin while a
+    /// stalled `take` is inside its own atomic access, but never for room.
     pub fn put_reserved<R: Wait>(&mut self, rt: &R, item: T)
         requires { 0 < free_of self.old }
         ensures done { put_of self.new ≡ put_of self.old ++ item ∷ [] }
@@ -82,7 +81,7 @@ impl<T> Producer<T> {
         }
     }
 
-    /// Puts an item behind those that wait, and waits while no place is free.
+    /// Pushes an item; waits while no slot is free.
     pub fn put_waiting<R: Wait>(&mut self, rt: &R, item: T)
         ensures done { put_of self.new ≡ put_of self.old ++ item ∷ [] }
         ensures queue { producer_queue self.new ≡ producer_queue self.old }
@@ -91,7 +90,7 @@ impl<T> Producer<T> {
         self.put_leaving(rt, 0, item);
     }
 
-    /// Puts an item behind those that wait, and waits while at most `places` places are free. So many stay free.
+    /// Pushes an item; waits while at most `places` slots are free. So `places` slots stay free.
     pub fn put_leaving<R: Wait>(&mut self, rt: &R, places: usize, item: T)
         ensures done { put_of self.new ≡ put_of self.old ++ item ∷ [] }
         ensures free { places ≤ free_of self.new }
@@ -102,8 +101,7 @@ impl<T> Producer<T> {
         self.put_reserved(rt, item);
     }
 
-    /// Whether at least so many places are known to be free, once it has heard what the other end took. It doesn't wait
-    /// for room. What is free stays so until the next item is put.
+    /// Whether at least `places` slots are known to be free, after it read the consumer's announcement. Never blocks.
     pub fn has_free<R: Wait>(&mut self, rt: &R, places: usize) -> bool
         ensures free { result ≡ true → places ≤ free_of self.new }
         ensures waiting { result ≡ false → capacity_of self.old < length (put_of self.old) + places }
@@ -118,7 +116,7 @@ impl<T> Producer<T> {
         places <= self.free
     }
 
-    // Waits until more than `places` places are known to be free.
+    // Waits until more than `places` slots are known to be free.
     fn wait_for_more<R: Wait>(&mut self, rt: &R, places: usize)
         ensures free { places < free_of self.new }
         ensures same { put_of self.new ≡ put_of self.old }
@@ -137,7 +135,7 @@ impl<T> Producer<T> {
         unreachable!()
     }
 
-    // Hears what the other end took, and answers whether it had told anything.
+    // Reads the consumer's announcement, and returns whether there was one.
     fn hear<R: Wait>(&mut self, rt: &R) -> bool
         ensures free { free_of self.old ≤ free_of self.new }
         ensures same { put_of self.new ≡ put_of self.old }
@@ -158,7 +156,8 @@ impl<T> Producer<T> {
         true
     }
 
-    /// How many items waited at one moment of the call. From then on at most as many wait until the next is put.
+    /// The number of items that were in the queue at some point during the call. Until the next push there are at
+    /// most as many.
     pub fn len<R: Wait>(&mut self, rt: &R) -> usize
         ensures capacity { result ≤ capacity_of self.old }
         ensures put { result ≤ length (put_of self.old) }

@@ -9,8 +9,8 @@ pub(crate) type Line<T> = RuledArrayQueue<T, Side<T>, OneWay>;
 
 pub(crate) type LinePass<T> = Pass<T, Side<T>>;
 
-// What an end may do, what it has put and taken, a beginning of what was put, and one of what was taken. No value of it
-// is made.
+// What an end may do, what it pushed and popped, a prefix of what was pushed, and a prefix of what was popped.
+// Never constructed.
 pub(crate) struct Side<T> {
     pub puts: bool,
     pub takes: bool,
@@ -20,7 +20,7 @@ pub(crate) struct Side<T> {
     pub known: LinkedList<T>,
 }
 
-// What comes out is what was put, in order.
+// Items are popped in the order in which they were pushed.
 pub(crate) struct OneWay;
 
 impl<T> Protocol<T, Side<T>> for OneWay {
@@ -32,7 +32,7 @@ impl<T> Protocol<T, Side<T>> for OneWay {
     ghost first = { both [] [] [] [] };
 }
 
-// The two ends, apart and together. Together the one that takes is told of all that was put.
+// The two ends, apart and together. Together, the consumer knows of every item that was pushed.
 pub(crate) struct Ends;
 
 impl<T> Split<Side<T>> for Ends {
@@ -62,7 +62,7 @@ impl<T> Split<Side<T>> for Nobody {
     ghost right = { λ v. neither };
 }
 
-// A pass that knows what the end that takes has taken, and the end that puts once it was told so.
+// A pass that knows what the consumer popped; the producer learns it from this pass.
 pub(crate) struct Taken;
 
 impl<T> Split<Side<T>> for Taken {
@@ -90,14 +90,14 @@ impl<T> Outcome<T, Side<T>> for Puts {
     ghost then = { λ v x w. w ≡ putting (v.put ++ x ∷ []) v.known };
 }
 
-// What waits is the end of what was put, and behind what is known to have been taken.
+// The queued items are a suffix of those pushed, after all that are known to be popped.
 impl<T> Lesson<T, Side<T>> for Puts {
     ghost use Rattle.one_way_queue.specs.Sides.{Waits};
 
     ghost fact = { λ v items. Waits v.put v.known items };
 }
 
-// No more are known to have been taken than were put.
+// At most as many items are known to be popped as were pushed.
 pub(crate) struct Behind;
 
 impl<T> Lesson<T, Side<T>> for Behind {
@@ -115,7 +115,7 @@ impl<T> Outcome<T, Side<T>> for Takes {
     ghost then = { λ v x w. (w ≡ taking (v.taken ++ x ∷ []) v.told) × Agree w.told w.taken };
 }
 
-// What it was told of was taken, or waits.
+// Each item that it knows to be pushed was popped or is queued.
 impl<T> Lesson<T, Side<T>> for Takes {
     ghost use Rattle.std.specs.Prelude.{◌++◌};
     ghost use mathlib.Core.List.{IsPrefix};

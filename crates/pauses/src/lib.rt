@@ -1,9 +1,8 @@
-//! What a thread does while it finds nothing to do.
+//! Backoff of a thread that polls and finds nothing to do.
 //!
-//! It gives its processor away some times, so that it soon finds what comes next, unless it needs to look again only
-//! later; and then it sleeps in growing steps, so that it costs next to nothing where nothing comes for long. Nobody
-//! wakes a sleeper: each sleep is short. It stands on the standard library alone. The layers above use one contract:
-//! which pause comes next. No clause speaks of time.
+//! The thread yields a few times first, to react quickly. Then it sleeps, twice as long each time up to a limit, to
+//! cost little when idle. Nobody wakes a sleeper, since each sleep is short. It depends on the standard library alone.
+//! The layers above use one contract: which step of the backoff comes next. No clause is about time.
 #![tactic(auto)]
 
 ghost use Rattle.std.specs.Prelude.{◌≡◌, ◌<◌, ◌≤◌, ◌+◌, ◌*◌, min};
@@ -14,38 +13,37 @@ use std::sync::atomic::AtomicU64;
 use std::thread;
 use std::time::Duration;
 
-/// So often in a row a thread gives its processor away before it sleeps.
+/// How many times in a row a thread yields before it sleeps.
 pub const MOST_YIELDS: u32 = 8;
 
-/// The first sleep of one that gave its processor away before, in microseconds. Each further one is twice as long, up
-/// to the longest.
+/// The first sleep after the yields, in microseconds. Each further sleep is twice as long, up to the longest.
 pub const FIRST_SLEEP: u64 = 16;
 
 /// The longest sleep, in microseconds.
 pub const LONGEST_SLEEP: u64 = 1000;
 
-/// A pause.
+/// A step of the backoff.
 #[derive(Clone, Copy, PartialEq, Eq)]
 pub enum Pause {
-    /// The processor is given to other threads that are ready.
+    /// Yields the processor to other threads that are ready.
     Yield,
-    /// The thread sleeps for so many microseconds.
+    /// Sleeps for this many microseconds.
     Sleep(u64),
 }
 
-/// The pauses of one thread since it last found something to do.
+/// The backoff of one thread since it last found something to do.
 #[derive(Drop)]
 pub struct Pauses {
-    /// How often the processor was given away.
+    /// How many times the thread has yielded.
     pub yields: u32,
-    /// The microseconds of the next sleep.
+    /// The length of the next sleep, in microseconds.
     pub sleep: u64,
-    // What a sleeper waits on.
+    // The word that a sleeper waits on.
     word: AtomicU64,
 }
 
 impl Pauses {
-    /// No pause since something was found to do.
+    /// The backoff of a thread that has just found something to do.
     pub fn new() -> Pauses
         ensures yields { result.yields ≡ 0 }
         ensures sleep { result.sleep ≡ FIRST_SLEEP }
@@ -57,7 +55,7 @@ impl Pauses {
         }
     }
 
-    /// The pauses of one that needs to look again only later: it sleeps at once, first for so many microseconds, though
+    /// A backoff without yields, for a thread that need not react soon. Its first sleep takes `first` microseconds, but
     /// no longer than the longest sleep.
     pub fn asleep(first: u64) -> Pauses
         ensures yields { result.yields ≡ MOST_YIELDS }
@@ -70,7 +68,7 @@ impl Pauses {
         }
     }
 
-    /// Something was found to do.
+    /// Starts over, after something was found to do.
     pub fn reset(&mut self)
         ensures yields { self.new.yields ≡ 0 }
         ensures sleep { self.new.sleep ≡ FIRST_SLEEP }
@@ -79,7 +77,7 @@ impl Pauses {
         self.sleep = FIRST_SLEEP;
     }
 
-    /// Makes the next pause, and tells which it was.
+    /// Makes the next step, and returns which it was.
     pub fn pause<R: Wait>(&mut self, rt: &R) -> Pause
         ensures awake { self.old.yields < MOST_YIELDS → (result ≡ Pause.Yield)
             × (self.new.yields ≡ self.old.yields + 1) × (self.new.sleep ≡ self.old.sleep) }

@@ -1,4 +1,4 @@
--- Applications against which nothing stands: it can't be that they say nothing.
+-- Applications without faults can't be without a meaning.
 use Rattle.std.proofs.Common.{◌≡◌, ℕ, List, map, Contains, Option, Some, None, option_and_then, option_to_list, refl, ap, inl, inr}
 use Rattle.std.specs.Prelude.{codes}
 use Rattle.std.proofs.lemmas.List.Elements.{Contains-append_left, Contains-append_right}

@@ -1,4 +1,4 @@
--- Where a scenario has no first fault, nothing stands against it: an entry and a reason come first among those below.
+-- If a scenario has no first fault, no entry has a fault: otherwise one entry and one reason would come first.
 use Rattle.std.proofs.Common.{◌≡◌, ℕ, zero, suc, ◌<◌, refl, ◌∙◌, subst, inl, inr, arith}
 use Rattle.toml.specs.Data.{Members}
 use Rattle.scenario.specs.Reasons.{list_of_entry, number_of_entry, order_of}
@@ -10,7 +10,7 @@ below : (P : ℕ → Type 0) → ((n : ℕ) → ((m : ℕ) → m < n → P m) �
 below P step zero n less = absurd (omega (arith, less))
 below P step (suc k) n less = step n (λ m under. below P step k m (omega (arith, less, under)))
 
--- what holds of each number, where it holds of those before it
+-- what holds of each number, if it holds of a number whenever it holds of all smaller ones
 each_number : (P : ℕ → Type 0) → ((n : ℕ) → ((m : ℕ) → m < n → P m) → P n) → (n : ℕ) → P n
 each_number P step n = below P step (suc n) n (omega arith)
 

@@ -1,4 +1,4 @@
--- A line of a program or of an operator says something, or a reason stands against it.
+-- A line of a program or of an operator has a meaning or a fault.
 use Rattle.std.proofs.Common.{◌≡◌, ◌⊎◌, ℕ, zero, suc, List, [], ◌∷◌, Option, Some, None, refl, ap, ◌∙◌, inl, inr, arith}
 use Rattle.std.specs.Prelude.{slice_get}
 use Rattle.std.specs.Borrow.{Bor}
@@ -40,7 +40,7 @@ use Rattle.scenario_lines.specs.declared.step.StepText.TheVariants as text
 use Rattle.scenario.specs.Lines.{count_in, policy_in}
 use Rattle.scenario.specs.Scenarios.{StepLineSays, StepSays, place_of}
 
--- the law of words that is called
+-- the law of words in use
 abbrev pub OneJudgement : Type 0
 OneJudgement =
     (sorts : List Sort) (words : List (List ℕ)) → ((ms : List Meaning) × AreSaid sorts words ms) ⊎ ((r : ScriptReason) × IsFirst (IsAgainst sorts words) r)
@@ -92,7 +92,7 @@ place_either heap place = elim (cases_lt 0 place) [
   | inr none ↦ inr (λ is. let one = is.from_one in absurd (omega (arith, none, one)))
 ]
 
--- a place that a line names is one of the heap, or it isn't
+-- a place in a line is one of the heap, or it isn't
 decimal_either : (heap : ℕ) (d : Decimal) → ((place : ℕ) × (d ≡ Small place) × IsPlace heap place) ⊎ IsNoPlace heap (Some d)
 decimal_either heap (Small place) = elim (place_either heap place) [
   | inl there ↦ inl (place, refl, there)
@@ -154,7 +154,7 @@ module _ (judge : OneJudgement) (said : List ℕ) where
   pub step_either : ((told : StepText) × LineTells said told) ⊎ ((q : LineReason) × StepAgainst said q)
   step_either = step_by (step_form_of said) refl
 
--- a position that is told is some number
+-- a position in a text is some number
 unbounded_by : (s : Sort) (w : List ℕ) (m : Meaning) → WordSays s w m → s ≡ sort.Unbounded → (n : ℕ) × (unbounded_in (Some m) ≡ in_64_bits n)
 unbounded_by sort.Unbounded w (unbounded d) h e = (h.0, h.2)
 unbounded_by sort.Unbounded w _ h e = absurd h
@@ -176,7 +176,7 @@ position_told step.Detach words ms count d name policy are h = absurd h
 position_told step.Upgrade words ms count d name policy are h = absurd h
 
 module _ (all : Members) (said : List ℕ) where
-  -- a step, where the policy that its line names has a place
+  -- a step, if the policy that its line names has an index
   line_by : (told : StepText) → LineTells said told → ((name : List ℕ) → policy_in told ≡ Some name → (place : ℕ) × (place_of all name ≡ Some place))
       → (l : StepLine) × StepLineSays all told l
   line_by (text.Attach count d name policy) tells placed =

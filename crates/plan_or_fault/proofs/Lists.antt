@@ -1,4 +1,4 @@
--- Lists that say others item by item, places of names, and entries behind those before them.
+-- Lists related item by item, indices of names, and entries that follow earlier ones.
 use Rattle.std.proofs.Common.{◌≡◌, ◌⊎◌, ℕ, zero, suc, ◌+◌, ◌<◌, Bool, true, false, not, cond, List, [], ◌∷◌, ◌++◌}
 use Rattle.std.proofs.Common.{length, get_or, map, Contains, Option, Some, None, option_to_list, refl, sym, ap, ◌∙◌}
 use Rattle.std.proofs.Common.{subst, inl, inr, arith, bytes_eq}
@@ -58,7 +58,7 @@ module _ {X Y : Type 0} (R : X → Y → Type 0) where
   each_can (x ∷ xs) h = λ never.
       h x (there_first x xs) (λ y. each_can xs (λ z there. h z (there_more x xs z there)) (λ ys. never (y.0 ∷ ys.0, (y.1, ys.1))))
 
--- ---- places
+-- ---- indices
 
 module _ {X Y : Type 0} (f : X → Option Y) where
   pub places_by : (xs : List X) → ((x : X) → Contains xs x → (y : Y) × (f x ≡ Some y)) → (ys : List Y) × (map Some ys ≡ map f xs)
@@ -78,7 +78,7 @@ get_there [] i x e = absurd cc
 get_there {X = X} (y ∷ ys) zero x e = subst (λ (z : X). Contains (y ∷ ys) z) (same_Some y x e) (there_first y ys)
 get_there (y ∷ ys) (suc i) x e = there_more y ys x (get_there ys i x e)
 
--- an entry of a name, where its place is
+-- an entry with a name, at its index
 pub record IsNamedAt (entries : List Members) (name : List ℕ) (place : ℕ) : Type 0 where
   pub entry : Members
   pub at : slice_get entries place ≡ Some entry
@@ -98,7 +98,7 @@ named_at entries name place e =
       within = h.0;
     }
 
--- the entries in front of the first one of the name
+-- the number of entries before the first one with the name
 abbrev in_front : List ℕ → List Members → ℕ
 in_front name entries = position_or_len (λ ms. bytes_eq (name_of ms) name) entries
 
@@ -120,7 +120,7 @@ front_within name (ms ∷ entries) (suc k) within at = elim (cases_Bool (bytes_e
       omega (arith, here, more)
 ]
 
--- a name that can't be missing has a place
+-- a name that can't be missing has an index
 pub placed : (entries : List Members) (name : List ℕ) → CanBe (Contains (names_of entries) name) → (place : ℕ) × (place_in entries name ≡ Some place)
 placed entries name h = elim (cases_lt (in_front name entries) (length entries)) [
   | inl within ↦ (in_front name entries, ap (λ (b : Bool). cond b (Some (in_front name entries)) None) (lt-ltb _ _ within))
@@ -129,12 +129,12 @@ placed entries name h = elim (cases_lt (in_front name entries) (length entries))
 
 -- ---- entries
 
--- nothing stands against any of the entries
+-- none of the entries has a fault
 abbrev pub AreFree : (List Members → Members → ScenarioReason → Type 0) → List Members → Type 0
 AreFree Against entries =
     (before : List Members) (ms : Members) (n : ℕ) (q : ScenarioReason) → StandsAt entries before ms n → Against before ms q → ⊥
 
--- nor against one of them, behind those before it
+-- none has a fault after the earlier ones
 pub free_of : (Against : List Members → Members → ScenarioReason → Type 0) (entries : List Members) → AreFree Against entries → (ms : Members)
     → Contains entries ms → (before : List Members) × ((q : ScenarioReason) → Against before ms q → ⊥)
 free_of Against entries free ms there =

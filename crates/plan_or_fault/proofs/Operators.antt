@@ -1,4 +1,4 @@
--- Links and operators against which nothing stands say something.
+-- Links and operators without faults have a meaning.
 use Rattle.std.proofs.Common.{◌≡◌, ℕ, List, Contains, Some, refl, inl, inr}
 use Rattle.policy_blocks.specs.declared.item.NamedPolicy.{NamedPolicy}
 use Rattle.run_plan.specs.declared.operator.Operator.{Operator}

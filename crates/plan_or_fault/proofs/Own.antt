@@ -1,4 +1,4 @@
--- The policies that an application uses under a schema of its own: it can't be that they say nothing.
+-- The policies that an application uses under its own schema can't be without a meaning.
 use Rattle.std.proofs.Common.{◌≡◌, ℕ, zero, suc, ◌+◌, ◌<◌, ◌≤◌, List, [], ◌∷◌, length, get_or, map, All, Contains}
 use Rattle.std.proofs.Common.{Option, Some, None, refl, sym, ◌∙◌, subst, inl, inr, arith}
 use Rattle.std.specs.Prelude.{codes}
@@ -25,7 +25,7 @@ use Rattle.scenario.specs.declared.fault.ScenarioReason.TheVariants.{Schema}
 use Rattle.plan_or_fault.proofs.Lists.{AreFree, CanBe, free_of, get_there, named_at, none_in, there_cases, there_first, there_more}
 use Rattle.plan_or_fault.proofs.Policies.{AccessOrFault, IsFine, RedactOrFault, kind_says}
 
--- ---- places that are picked
+-- ---- indices that are picked
 
 abbrev places : List OwnPolicy → List ℕ
 places ps = map (λ p. p.place) ps
@@ -40,7 +40,7 @@ ascend_more p (q ∷ ps) ascend low = (low q.place (there_first q.place (places 
 all_by : {X : Type 0} (P : X → Type 0) (xs : List X) → ((x : X) → Contains xs x → P x) → All P xs
 all_by P xs h = λ k d within. h (get_or xs k d) (Contains-get_or xs k d within)
 
--- those that are used of so many places from a place on, each with what it says
+-- those in use of this many indices from an index on, each with its meaning
 record Picked (Used : ℕ → Type 0) (Says : OwnPolicy → Type 0) (at count : ℕ) (ps : List OwnPolicy) : Type 0 where
   used : (n : ℕ) → Contains (places ps) n → Used n
   above : (n : ℕ) → Contains (places ps) n → at ≤ n
@@ -106,7 +106,7 @@ module _ (access : AccessOrFault) (redact : RedactOrFault) (all : Members) (decl
     (ms : Members) (in_apps : Contains (app_tables all) ms) (before : List Members)
     (free : (q : ScenarioReason) → AppAgainst all declared before ms q → ⊥) where
   module _ (text : List ℕ) (own : text_at (codes "schema") ms ≡ Some text) (T : Table) (has : HasTable text T) where
-    -- a policy at a place says something, where its lines don't fail under the own table
+    -- a policy at an index has a meaning if its lines don't fail under the own table
     says_at : (name : List ℕ) (place : ℕ) → place_of all name ≡ Some place
         → ((entry : Members) → Contains (policy_tables all) entry → name_of entry ≡ name → (why : RuleReason) → LinesFail (kind_of entry) T entry why → ⊥)
         → (p : OwnPolicy) × (p.place ≡ place) × OwnPolicySays all T p

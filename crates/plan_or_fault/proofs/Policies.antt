@@ -1,4 +1,4 @@
--- Tenants and policies against which nothing stands say something.
+-- Tenants and policies without faults have a meaning.
 use Rattle.std.proofs.Common.{◌≡◌, ◌⊎◌, ℕ, List, Contains, Option, Some, None, refl, ap, subst, inl, inr}
 use Rattle.std.specs.Prelude.{codes}
 use Rattle.mrpc_table.specs.declared.policy_lines.RuleReason.{RuleReason}
@@ -26,7 +26,7 @@ use Rattle.scenario.specs.declared.form.Kind.{Kind}
 use Rattle.scenario.specs.declared.form.Kind.TheVariants as kind
 use Rattle.plan_or_fault.proofs.Lists.{AreFree, CanBe, each_by, free_of, named_at, placed}
 
--- the laws of the texts of policies that are called
+-- the laws of the texts of policies in use
 abbrev pub AccessOrFault : Type 0
 AccessOrFault =
     (T : Table) (lines : List (List ℕ)) → ((p : AccessPolicy) × access_texts.IsTextOf T lines p)
@@ -51,7 +51,7 @@ pub record IsFine (tenants : List Members) (ms : Members) : Type 0 where
   pub declared : kind_of ms ≡ Some kind.Quota → CanBe (Contains (names_of tenants) (word_at (codes "tenant") ms))
 
 module _ (access : AccessOrFault) (redact : RedactOrFault) (tenants : List Members) where
-  -- a policy whose lines have no fault under a table says something under it
+  -- a policy whose lines have no fault under a table has a meaning under it
   by_kind : (T : Table) (ms : Members) (k : Kind) → kind_of ms ≡ Some k
       → (kind_of ms ≡ Some kind.Quota → CanBe (Contains (names_of tenants) (word_at (codes "tenant") ms)))
       → ((why : RuleReason) → LinesFail (Some k) T ms why → ⊥) → (p : Policy) × KindSays T tenants ms p

@@ -1,4 +1,4 @@
--- A text without a fault: it can't be that it says no plan.
+-- A text without a fault can't be without a plan.
 use Rattle.std.proofs.Common.{ℕ, List, Contains, refl}
 use Rattle.std.specs.Prelude.{codes}
 use Rattle.mrpc_table.specs.declared.table.Table.{Table}
@@ -23,7 +23,7 @@ use Rattle.plan_or_fault.proofs.Lists.{AreFree, CanBe}
 use Rattle.plan_or_fault.proofs.Operators.{links_say, operators_say}
 use Rattle.plan_or_fault.proofs.Policies.{AccessOrFault, IsFine, RedactOrFault, are_fine, policies_say, tenants_say}
 
--- the laws that are called
+-- the laws in use
 pub record Laws : Type 0 where
   pub judge : OneJudgement
   pub access : AccessOrFault

@@ -10,7 +10,7 @@ use policy_access::text_or_fault as access_or_fault;
 use policy_redact::text_or_fault as redact_or_fault;
 use script_words::one_judgement;
 
-/// A text says a plan or has a first fault: it can't be that it has neither.
+/// A text means a plan or has a first fault: it can't have neither.
 pub fn plan_or_fault()
     ensures never_neither { (text : List ℕ) → ((plan : Plan) → IsTextOf text plan → ⊥)
         → ((at : Entry) (reason : ScenarioReason) → HasFault text at reason → ⊥) → ⊥ }

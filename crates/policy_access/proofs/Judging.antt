@@ -1,4 +1,4 @@
--- What is said of a line, and what stands against it.
+-- The content of a line, and the reasons against it.
 use Rattle.std.proofs.Common.{◌≡◌, ℕ, suc, ◌<◌, ◌≤◌, Bool, true, false, List, [], ◌∷◌, ◌++◌, length, Option, Some}
 use Rattle.std.proofs.Common.{None, Result, Ok, Err, refl, sym, ap, subst, ◌∙◌, arith}
 use Rattle.std.specs.Prelude.{nat_le, option_and_then, option_map}
@@ -26,9 +26,9 @@ use Rattle.mrpc_table.specs.declared.policy_lines.RuleReason.TheVariants as reas
 use Rattle.policy_access.specs.declared.read.Said.{Said}
 use Rattle.policy_access.specs.declared.read.Said.TheVariants as said
 
--- ---- what is known of a rule that was judged
+-- ---- properties of a rule that was judged
 
--- all that speaks for a rule
+-- the properties of an accepted rule
 pub record IsGood (T : Table) (names : List (List ℕ)) (r : RuleLine) (rule : Rule) : Type 0 where
   pub few : length names < 64
   pub about : About
@@ -56,12 +56,12 @@ good T names r rule false (Ok about) false k em ea en ek e = absurd cc
 good T names r rule false (Ok about) true true em ea en ek e = absurd cc
 good T names r rule false (Ok about) true false em ea en ek e = record { few = less (length names) em; about = about; resolved = ea; name = en; fresh = ek; is = cc }
 
--- what stands against a rule that was refused: the first reason
+-- the first reason against a rejected rule
 pub record IsFirstOf (T : Table) (names : List (List ℕ)) (line : List ℕ) (q : RuleReason) : Type 0 where
   pub against : (ended : Bool) → IsAgainst T names ended line q
   pub first : (ended : Bool) (p : RuleReason) → order_of p < order_of q → IsAgainst T names ended line p → ⊥
 
--- ---- the ways in which a reason stands against the line of a rule
+-- ---- the possible reasons against the line of a rule
 
 data Ways (T : Table) (names : List (List ℕ)) (ended : Bool) (r : RuleLine) (q : RuleReason) : Type 0 where
   by_rule : IsAgainstRule T names r q → Ways T names ended r q
@@ -177,7 +177,7 @@ rule_value : (x : Result Rule RuleReason) (s : Said) → result_map_both said.Ru
 rule_value (Ok rule) s e = (rule, refl, cc)
 rule_value (Err p) s e = absurd cc
 
--- a line that is refused has its first reason
+-- a rejected line has its first reason
 pub refused_line : (T : Table) (names : List (List ℕ)) (line : List ℕ) (q : RuleReason) (l : Option Line)
     → line_of line ≡ l → said_in T names l ≡ Err q → IsFirstOf T names line q
 refused_line T names line q None is e =
@@ -187,7 +187,7 @@ refused_line T names line q (Some (lines.Rule r)) is e =
     refused T names line r q (nat_le 64 (length names)) (about_in T r.about) (is_rule_name r.name) (is_among r.name names) is refl refl refl refl
     (rule_result (judged_rule (nat_le 64 (length names)) (about_in T r.about) (is_rule_name r.name) (is_among r.name names) r) q e)
 
--- a line whose rule is taken, behind rules of these names
+-- a line whose rule is accepted, after rules with these names
 pub record TakesRule (T : Table) (names : List (List ℕ)) (line : List ℕ) (rule : Rule) : Type 0 where
   pub spelled : RuleLine
   pub is : line_of line ≡ Some (lines.Rule spelled)
@@ -225,7 +225,7 @@ default_line T names line allow (Some (lines.Rule r)) is e =
     let v = rule_value (judged_rule (nat_le 64 (length names)) (about_in T r.about) (is_rule_name r.name) (is_among r.name names) r) (said.Default allow) e in
     let clash : said.Default allow ≡ said.Rule v.0 = v.2 in absurd cc
 
--- against a line that says something only a default before it stands
+-- the only reason against a valid line is an earlier default
 good_only : (T : Table) (names : List (List ℕ)) (ended : Bool) (r : RuleLine) (rule : Rule) (q : RuleReason)
     → IsGood T names r rule → Ways T names ended r q → (ended ≡ true) × (q ≡ reason.Default)
 good_only T names ended r rule q g (by_rule (one_too_many n w)) =
@@ -253,9 +253,9 @@ only_behind T names ended line s q (Some (lines.Rule r)) is e a =
     (good T names r v.0 (nat_le 64 (length names)) (about_in T r.about) (is_rule_name r.name) (is_among r.name names) refl refl refl refl v.1)
     (ways T names ended line r q is a)
 
--- ---- lines that say rules
+-- ---- lines of rules
 
--- the line of a rule says it
+-- the line is that of the rule
 pub says : (T : Table) (line : List ℕ) (rule : Rule) (l : Option Line) → line_of line ≡ l → option_and_then (rule_in T) l ≡ Some rule
     → (r : RuleLine) × (about : About) × (line_of line ≡ Some (lines.Rule r)) × (about_in T r.about ≡ Ok about) × (rule ≡ with_about r about)
 says T line rule None is e = absurd cc
@@ -270,7 +270,7 @@ says T line rule (Some (lines.Rule r)) is e = resolved (about_in T r.about) refl
 pub taken_says : (T : Table) (names : List (List ℕ)) (line : List ℕ) (rule : Rule) → TakesRule T names line rule → said_rule T line ≡ Some rule
 taken_says T names line rule t = rw (t.is, t.good.resolved) (ap Some (sym t.good.is))
 
--- such lines name their rules, and no default is among them
+-- such lines have the names of their rules, and none of them is a default
 pub names_of-said : (T : Table) (ls : List (List ℕ)) (rs : List Rule) → SayEach (said_rule T) ls rs → names_of ls ≡ names_in rs
 names_of-said T [] [] s = refl
 names_of-said T [] (r ∷ rs) s = absurd s
@@ -311,7 +311,7 @@ said-same T (l ∷ ls) (r ∷ rs) (q ∷ qs) s t = let here : r ≡ q = one_valu
     one_value : (o : Option Rule) (a b : Rule) → o ≡ Some a → o ≡ Some b → a ≡ b
     one_value o a b e d = cc
 
--- what a line of a rule says, by the parts that were judged
+-- the result for a rule's line, by the parts that were judged
 pub judged_by : (many : Bool) (about about' : Result About PartReason) (named named' known known' : Bool) (r : RuleLine) (said : Result Rule RuleReason)
     → said ≡ judged_rule false about named known r → many ≡ false → about ≡ about' → named ≡ named' → known ≡ known' → said ≡ judged_rule many about' named' known' r
 judged_by many about about' named named' known known' r said e few a n k =

@@ -1,4 +1,4 @@
--- Lines in front of a place, and one more.
+-- The lines before an index, and one more.
 use Rattle.std.proofs.Common.{◌≡◌, ℕ, zero, suc, ◌+◌, ◌-◌, ◌<◌, ◌≤◌, ◌||◌, Bool, true, false, List, [], ◌∷◌, ◌++◌}
 use Rattle.std.proofs.Common.{length, get_or, take, Option, Some, None, Result, Ok, Err, refl, sym, ap, subst, ◌∙◌}
 use Rattle.std.proofs.Common.{arith, inl, inr, length-append}
@@ -63,7 +63,7 @@ AreDistinct-push [] y h new = (λ c. Contains-nil y c, tt)
 AreDistinct-push (x ∷ xs) y h new =
     (λ c. new (0, omega arith, sym (Contains-elsewhere xs y x c h.0)), AreDistinct-push xs y h.1 (λ c. new (Contains-cons x xs y c)))
 
--- ---- the line at a place behind lines that were read
+-- ---- the line at an index after lines that were read
 
 same_line : (o : Option (List ℕ)) (a b : List ℕ) → o ≡ Some a → o ≡ Some b → a ≡ b
 same_line o a b e d = cc
@@ -80,7 +80,7 @@ pub here-from : (T : Table) (lines : List (List ℕ)) (i : ℕ) (rules : List Ru
 here-from T lines i rules line q read at a =
     at_line line at (rw (names_of-said T (take i lines) rules read.said, has_default-said T (take i lines) rules read.said) a)
 
--- ---- one line more
+-- ---- one more line
 
 below_or_at : (i : ℕ) (P : ℕ → Type 0) → ((j : ℕ) → j < i → P j) → P i → (j : ℕ) → j < i + 1 → P j
 below_or_at i P below here j lt = elim (cases_lt j i) [ inl less ↦ below j less | inr more ↦ let same : i ≡ j = omega arith in subst P same here ]
@@ -125,7 +125,7 @@ fault-here T lines i rules line q read at e =
       none_before = λ j p lt. read.clean j p (omega arith);
     }
 
--- names and default, right behind the default's line
+-- names and default, right after the default's line
 names-behind : (T : Table) (lines : List (List ℕ)) (i : ℕ) (rules : List Rule) (line : List ℕ) (allow : Bool) → AreRead T lines i rules → slice_get lines i ≡ Some line
     → line_of line ≡ Some (forms.Default allow) → names_of (take (i + 1) lines) ≡ names_in rules
 names-behind T lines i rules line allow read at is =

@@ -103,7 +103,7 @@ a_quote_inside = refl
 no_text : operand_of Text (codes "abc") ≡ Err part.Word
 no_text = refl
 
--- ---- a value before a method that isn't known
+-- ---- a value before an unknown method
 
 number_has_a_form : has_no_form (codes "18446744073709551616") ≡ false
 number_has_a_form = refl
@@ -140,7 +140,7 @@ a_missing_method_with_a_form : against (codes "rule a deny method 1 where 9 eq 1
 unfolding line_of
 a_missing_method_with_a_form = refl
 
--- a path, or an operation, at fault takes the judgement of the value away
+-- if the path or the operation is at fault, the value isn't judged
 a_path_at_fault : against (codes "rule a deny method 0 where 9 eq $$") ≡ Some part.Path
 unfolding line_of
 a_path_at_fault = refl

@@ -1,4 +1,4 @@
--- The text of a policy has no fault, and one policy; lines have one first fault.
+-- The text of a policy has no fault and is of one policy; lines have one first fault.
 use Rattle.std.proofs.Common.{◌≡◌, ℕ, zero, suc, ◌+◌, ◌-◌, ◌<◌, ◌≤◌, ◌||◌, ◌==◌, ◌⊎◌, Bool, true, false, List, []}
 use Rattle.std.proofs.Common.{◌∷◌, ◌++◌, length, take, drop, Option, Some, Result, Ok, Err, All, refl, sym, ap, subst}
 use Rattle.std.proofs.Common.{◌∙◌, arith, inl, inr, length-append, add-one, append_assoc}
@@ -125,7 +125,7 @@ judged : (r : RuleLine) (many : Bool) (a : Result About PartReason) (about : Abo
     → result_map_both saids.Rule (λ (q : RuleReason). q) (judged_rule many a name known r) ≡ Ok (saids.Rule (with_about r about))
 judged r many a about name known em ea en ek = rw (em, ea, en, ek) refl
 
--- a line that says a rule which is fresh is taken
+-- a line of a rule with a new name is accepted
 pub said-ok : (T : Table) (names : List (List ℕ)) (line : List ℕ) (rule : Rule) → said_rule T line ≡ Some rule
     → length names < 64 → is_rule_name rule.name ≡ true → is_among rule.name names ≡ false
     → said_in T names (line_of line) ≡ Ok (saids.Rule rule)
@@ -223,7 +223,7 @@ no-fault T lines policy t =
 pub text-or-fault : (T : Table) (lines : List (List ℕ)) (policy : AccessPolicy) (line : ℕ) (q : RuleReason) → IsTextOf T lines policy → IsFirstFault T lines line q → ⊥
 text-or-fault T lines policy line q t f = no-fault T lines policy t (line - 1) q f.here
 
--- ---- what is read of a text
+-- ---- what the reader returns for a text
 
 pub only-it : (T : Table) (lines : List (List ℕ)) (r : Result AccessPolicy RuleFault) (policy : AccessPolicy)
     → IfOk r (λ p. IsTextOf T lines p) → IfErr r (λ e. IsFaultOf T lines e) → IsTextOf T lines policy

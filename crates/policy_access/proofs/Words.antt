@@ -27,7 +27,7 @@ pub more_words : (r : Option (Bor (List ℕ) × Bor (List ℕ))) → IfSome r (�
 more_words None = tt
 more_words (Some p) = has_part 32 p.1.now
 
--- a line is no empty list of words
+-- a line is never an empty list of words
 pub optional_test_of_line : (line : List ℕ) → optional_test (words_of line) ≡ option_map Some (test_of (words_of line))
 optional_test_of_line line = let rest = has_part 32 line in rw rest.2 refl
 

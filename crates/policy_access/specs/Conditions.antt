@@ -17,7 +17,7 @@ use Rattle.policy_access.specs.declared.rule.Comparison.{Comparison}
 use Rattle.policy_access.specs.declared.rule.Comparison.TheVariants.{Equal, NotEqual, Less, Greater, Starts}
 use Rattle.policy_access.specs.declared.rule.Test.{Test}
 
--- the value of a field is that of the rule
+-- the value of a field equals that of the rule
 abbrev pub is_equal : Operand → Item → Bool
 is_equal (Number n) (number m) = m == n
 is_equal (Run a) (run b) = bytes_eq b a
@@ -32,12 +32,12 @@ abbrev pub is_greater : Kind → Operand → Item → Bool
 is_greater k (Number n) (number m) = nat_lt (rank k n) (rank k m)
 is_greater k _ _ = false
 
--- it begins with the bytes of the rule
+-- the bytes of the rule are a prefix of its bytes
 abbrev pub begins : Operand → Item → Bool
 begins (Run prefix) (run bytes) = starts_with nat_eq bytes prefix
 begins _ _ = false
 
--- how a value of a kind compares with that of the rule
+-- the comparison of a value of a kind with that of the rule
 abbrev pub compares : Comparison → Kind → Operand → Item → Bool
 compares Equal k v i = is_equal v i
 compares NotEqual k v i = not (is_equal v i)
@@ -45,7 +45,7 @@ compares Less k v i = is_less k v i
 compares Greater k v i = is_greater k v i
 compares Starts k v i = begins v i
 
--- a tree meets a condition: it has the field, or there is a value and it compares so
+-- a tree meets a condition: it has the field, or it has a value that passes the comparison
 abbrev pub is_met : Path → Condition → Node → Bool
 is_met path Present t = is_some (content_behind t path)
 is_met path (Compares c v) t = option_map_or (compares c path.kind v) (item_behind t path) false

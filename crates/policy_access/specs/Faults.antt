@@ -1,5 +1,5 @@
--- What stands against the lines of an access policy, and which line is at fault first, for which reason
--- (this project's own format).
+-- The faults of the lines of an access policy: which line is the first at fault, and the reason (this project's own
+-- format).
 use Rattle.std.specs.Prelude.{◌≡◌, ℕ, ◌≤◌, Bool, true, false, not, ◌&&◌, List, codes, length, take, Option, Some, None, option_and_then, Err, slice_get}
 use Rattle.std.specs.List.{list_any, filter_map}
 use Rattle.std.specs.Option.{option_map_or}
@@ -31,71 +31,70 @@ is_rule_name name = (is_name_form name && is_short name) && not (bytes_eq name (
 abbrev pub is_among : List ℕ → List (List ℕ) → Bool
 is_among name names = list_any (λ other. bytes_eq name other) names
 
--- The name of the rule that a line says. A default has none, nor has a line out of form.
+-- The rule's name in a parsed line. A default has none.
 abbrev pub name_in : Line → Option (List ℕ)
 name_in (Rule rule) = Some rule.name
 name_in (Default allow) = None
 
--- The same of a line that is given by its bytes.
+-- Like `name_in`, for a line given by its bytes. A malformed line has none.
 abbrev pub named : List ℕ → Option (List ℕ)
 named line = option_and_then name_in (line_of line)
 
--- The names of the rules among some lines, in their order.
+-- The names of the rules in some lines, in order.
 abbrev pub names_of : List (List ℕ) → List (List ℕ)
 names_of lines = filter_map named lines
 
 -- ---- the default
 
--- A line says the default.
+-- A line is the default's.
 abbrev pub is_default_line : Line → Bool
 is_default_line (Rule rule) = false
 is_default_line (Default allow) = true
 
--- The same of a line that is given by its bytes. A line out of form says none.
+-- Like `is_default_line`, for a line given by its bytes. A malformed line isn't.
 abbrev pub is_default : List ℕ → Bool
 is_default line = option_map_or is_default_line (line_of line) false
 
--- A default is among some lines.
+-- Some of the lines is a default's.
 abbrev pub has_default : List (List ℕ) → Bool
 has_default lines = list_any is_default lines
 
--- ---- what stands against a rule, a line and a place
+-- ---- the faults of a rule, of a line and of an index
 
--- The reason against a rule's line, from the reason against a part of what the rule is about.
+-- The reason against a rule's line, by the reason against a part of its call selector.
 abbrev pub reason_of : PartReason → RuleReason
 reason_of parts.Word = reasons.Word
 reason_of parts.Number = reasons.Number
 reason_of parts.Path = reasons.Path
 
--- A reason stands against a rule whose line is in form. The names are those of the rules before it.
+-- A reason against a parsed line of a rule. The names are those of the earlier rules.
 pub data IsAgainstRule (table : Table) (names : List (List ℕ)) (rule : RuleLine) (reason : RuleReason) : Type 0 where
-  -- As many rules as a policy may have stand before it.
+  -- There are already as many rules as a policy may have.
   one_too_many : MAX_RULES ≤ length names → reason ≡ reasons.Word → IsAgainstRule table names rule reason
-  -- A part of what the rule is about is at fault: its index, its method, its path, its operation or its value. (A
-  -- value of no form counts before a method that isn't known.)
+  -- A part of its call selector is at fault: the index, the method, the path, the operation or the value. (A value
+  -- that has no form counts before an unknown method.)
   part_at_fault : (part : PartReason) → about_in table rule.about ≡ Err part → reason ≡ reason_of part
       → IsAgainstRule table names rule reason
-  -- Its name can't be the name of a rule.
+  -- Its name is no valid rule name.
   no_rule_name : is_rule_name rule.name ≡ false → reason ≡ reasons.Name → IsAgainstRule table names rule reason
-  -- A rule before it has its name.
+  -- An earlier rule has its name.
   known_name : is_among rule.name names ≡ true → reason ≡ reasons.Known → IsAgainstRule table names rule reason
 
--- A reason stands against a line. The names are those of the rules before it, and `ended` says whether a default stands
--- before it.
+-- A reason against a line. The names are those of the earlier rules; `ended` is true after a default.
 pub data IsAgainst (table : Table) (names : List (List ℕ)) (ended : Bool) (line : List ℕ)
     (reason : RuleReason) : Type 0 where
-  -- The line is out of form.
+  -- The line is malformed.
   out_of_form : line_of line ≡ None → reason ≡ reasons.Word → IsAgainst table names ended line reason
-  -- The line says a rule, and the reason stands against the rule.
+  -- The line is a rule, and the reason is against the rule.
   against_rule : (rule : RuleLine) → line_of line ≡ Some (Rule rule) → IsAgainstRule table names rule reason
       → IsAgainst table names ended line reason
-  -- The line says a rule or a default, and stands behind the default.
+  -- The line is a rule or a default, and comes after the default.
   behind_default : (content : Line) → line_of line ≡ Some content → ended ≡ true → reason ≡ reasons.Default
       → IsAgainst table names ended line reason
 
--- A reason stands against a place among the lines, counted from 0: against the line there, or against the end.
+-- A reason against an index of the lines, from 0: against the line at the index, or against the end.
 pub data IsAgainstAt (table : Table) (lines : List (List ℕ)) (place : ℕ) (reason : RuleReason) : Type 0 where
-  -- It stands against the line at the place, behind the lines before it.
+  -- It is against the line at the index, after the lines before it.
   at_line : (line : List ℕ) → slice_get lines place ≡ Some line
       → IsAgainst table (names_of (take place lines)) (has_default (take place lines)) line reason
       → IsAgainstAt table lines place reason
@@ -103,12 +102,12 @@ pub data IsAgainstAt (table : Table) (lines : List (List ℕ)) (place : ℕ) (re
   no_default : place ≡ length lines → has_default lines ≡ false → reason ≡ reasons.Default
       → IsAgainstAt table lines place reason
 
--- ---- first faults: those of mrpc_table, of what stands against the lines of an access policy
+-- ---- first faults: those of mrpc_table, for the lines of an access policy
 
 -- The line, counted from 1, is the first at fault, and this is its first reason.
 abbrev pub IsFirstFault : Table → List (List ℕ) → ℕ → RuleReason → Type 0
 IsFirstFault table lines line reason = first.IsFirstFault (IsAgainstAt table lines) order_of line reason
 
--- What a fault says of lines.
+-- A fault is that of the lines.
 abbrev pub IsFaultOf : Table → List (List ℕ) → RuleFault → Type 0
 IsFaultOf table lines fault = policy.IsFaultOf (IsAgainstAt table lines) fault

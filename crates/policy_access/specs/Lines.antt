@@ -1,4 +1,4 @@
--- What a line of an access policy says, by its form alone (this project's own format).
+-- The content of a line of an access policy, by its form alone (this project's own format).
 use Rattle.std.specs.Prelude.{ℕ, ◌==◌, Bool, true, false, ◌||◌, if◌then◌else◌, List, [], ◌∷◌, codes, length, Option, Some, None, option_map, option_and_then}
 use Rattle.std.specs.List.{join_with_byte}
 use Rattle.std.specs.Str.{bytes_eq}
@@ -27,7 +27,7 @@ allow_of word =
     else if bytes_eq word (codes "deny") then Some false
     else None
 
--- how a value is compared
+-- the word of a comparison
 abbrev pub comparison_of : List ℕ → Option Comparison
 comparison_of word =
     if bytes_eq word (codes "eq") then Some Equal
@@ -37,7 +37,7 @@ comparison_of word =
     else if bytes_eq word (codes "starts") then Some Starts
     else None
 
--- a value is one word, or, where it begins with a quote, the rest of the line
+-- a value is one word; if it starts with a quote, it is the remainder of the line
 abbrev pub is_quoted : List ℕ → Bool
 is_quoted [] = false
 is_quoted (c ∷ cs) = c == 34
@@ -47,7 +47,7 @@ value_of words =
     let value = join_with_byte 32 words in
     if is_quoted value || length words == 1 then Some value else None
 
--- `present`, or another OP with a value behind it
+-- `present`, or another OP and a value
 abbrev pub condition_of : List ℕ → List (List ℕ) → Option ConditionLine
 condition_of operation [] = if bytes_eq operation (codes "present") then Some Present else None
 condition_of operation (word ∷ words) =
@@ -57,7 +57,7 @@ abbrev pub condition_of_words : List (List ℕ) → Option ConditionLine
 condition_of_words [] = None
 condition_of_words (operation ∷ words) = condition_of operation words
 
--- a path, and what is asked of the field at its end
+-- a path, and the condition on the field at its end
 abbrev pub with_condition : List (List ℕ) → PathWord → Option TestLine
 with_condition words p = option_map (λ c. record { path = p; condition = c }) (condition_of_words words)
 
@@ -77,14 +77,14 @@ optional_test (word ∷ words) = option_map Some (test_of (word ∷ words))
 abbrev pub calls_with : Decimal → Sort → List (List ℕ) → Option CallsLine
 calls_with index sort words = option_map (λ t. record { index = index; sort = sort; test = t }) (optional_test words)
 
--- behind the index: `reply` or not, and then nothing or a test
+-- after the index: an optional `reply`, then an optional test
 abbrev pub calls_of : Decimal → List (List ℕ) → Option CallsLine
 calls_of index [] = calls_with index Request []
 calls_of index (word ∷ words) =
     if bytes_eq word (codes "reply") then calls_with index Reply words
     else calls_with index Request (word ∷ words)
 
--- nothing, or `method INDEX` and what stands behind it
+-- nothing, or `method INDEX` and what follows it
 abbrev pub about_of : List (List ℕ) → Option AboutLine
 about_of [] = Some Every
 about_of (first ∷ index ∷ words) =
@@ -93,7 +93,7 @@ about_of (first ∷ index ∷ words) =
     else None
 about_of _ = None
 
--- behind the first word of a line
+-- after the first word of a line
 abbrev pub rule_of : List (List ℕ) → Option RuleLine
 rule_of (name ∷ verb ∷ words) =
     option_and_then
@@ -112,6 +112,6 @@ line_of_words (first ∷ words) =
     else if bytes_eq first (codes "default") then option_map Default (default_of words)
     else None
 
--- what a line says, if it is in form
+-- the parsed line; none if the line is malformed
 unfoldable pub line_of : List ℕ → Option Line
 line_of line = line_of_words (words_of line)

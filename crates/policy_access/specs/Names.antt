@@ -1,4 +1,4 @@
--- The code's own: what its map of names holds.
+-- The code's own: the contents of its map of names.
 use Rattle.std.specs.Prelude.{◌≡◌, ℕ, List, Bool, is_some}
 use Rattle.std.specs.Ordering.{nat_cmp}
 use Rattle.std.specs.Cmp.Lexicographic.{slice_cmp}

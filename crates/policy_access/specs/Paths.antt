@@ -1,5 +1,5 @@
--- The value that a tree has at the end of a path (this project's own rule language, over the presence of
--- Protocol Buffers, "Field Presence").
+-- The value of a tree at the end of a path (this project's own rule language, over the presence of Protocol Buffers,
+-- "Field Presence").
 use Rattle.std.specs.Prelude.{[], Option, Some, None, option_and_then}
 use Rattle.mrpc_table.specs.Node.{Node, Content, Item, number, run, node, content_at}
 use Rattle.mrpc_table.specs.declared.table.Kind.{Kind}
@@ -16,23 +16,22 @@ default_item Octets = Some (run [])
 default_item (Message i) = None
 default_item _ = Some (number 0)
 
--- the value of a field that is unset: its default where it is plain, and none where it is optional or a
--- member of a oneof
+-- the value of an unset field: its default if it is plain, none if it is optional or a member of a oneof
 abbrev pub unset_item : Kind → Label → Option Item
 unset_item k Plain = default_item k
 unset_item k _ = None
 
--- a number or a run; a message is no value that is compared
+-- a number or a run; messages can't be compared
 abbrev pub compared_item : Item → Option Item
 compared_item (node t) = None
 compared_item i = Some i
 
--- the value of a field, with what its message has of it
+-- the value of a field, by the content that its message has for it
 abbrev pub item_of_field : Kind → Label → Option Content → Option Item
 item_of_field k label None = unset_item k label
 item_of_field k label (Some c) = option_and_then compared_item (item_in c)
 
--- the value at the end of a path: none where a message on the way is unset
+-- the value at the end of a path; none if a message on the way is unset
 abbrev pub item_behind : Node → Path → Option Item
 item_behind t path =
     option_and_then

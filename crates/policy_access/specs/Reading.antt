@@ -1,4 +1,4 @@
--- The code's own: lines while they are read.
+-- The code's own: lines during reading.
 use Rattle.std.specs.Prelude.{◌≡◌, ℕ, ◌<◌, ◌≤◌, Bool, List, length, map, take, All, IsTrue, Some, Ok, slice_get}
 use Rattle.mrpc_table.specs.PolicyLines.{SayEach}
 use Rattle.mrpc_table.specs.Valid.{AreDistinct}
@@ -15,7 +15,7 @@ use Rattle.mrpc_table.specs.declared.policy_lines.RuleReason.{RuleReason}
 abbrev pub names_in : List Rule → List (List ℕ)
 names_in rules = map (λ (r : Rule). r.name) rules
 
--- The lines in front of a place say these rules, and none is at fault: what each step of reading an access policy knows.
+-- The lines before an index are these rules, and none is at fault. This is the invariant of reading an access policy.
 pub record AreRead (T : Table) (lines : List (List ℕ)) (i : ℕ) (rules : List Rule) : Type 0 where
   pub within : i ≤ length lines
   pub count : length rules ≡ i
@@ -25,7 +25,7 @@ pub record AreRead (T : Table) (lines : List (List ℕ)) (i : ℕ) (rules : List
   pub distinct : AreDistinct (names_in rules)
   pub clean : (j : ℕ) (q : RuleReason) → j < i → IsAgainstAt T lines j q → ⊥
 
--- the line at a place, behind these rules, is the default's
+-- the line at an index, after these rules, is the default's
 abbrev pub DefaultAt : Table → List (List ℕ) → ℕ → List Rule → Bool → Type 0
 DefaultAt T lines i rules allow =
     (line : List ℕ) × (slice_get lines i ≡ Some line)

@@ -1,4 +1,4 @@
--- What a rule is about in a table, or the reason that stands against it (this project's own rule language).
+-- The calls that a rule selects in a table, or the reason against it (this project's own rule language).
 use Rattle.std.specs.Prelude.{ℕ, nat_lt, Bool, true, false, not, ◌&&◌, if◌then◌else◌, List, length, Option, Some, None, option_and_then, Result, Ok, Err}
 use Rattle.std.specs.Option.{option_map_or}
 use Rattle.std.specs.Result.{result_map_both}
@@ -31,14 +31,14 @@ use Rattle.policy_access.specs.declared.fault.PartReason.TheVariants as reason
 
 -- ---- tests
 
--- the kinds of which values are equal or not: all but floats and messages
+-- the kinds whose values can be tested for equality: all but floats and messages
 abbrev pub is_comparable : Kind → Bool
 is_comparable Float = false
 is_comparable Double = false
 is_comparable (Message i) = false
 is_comparable _ = true
 
--- which comparison goes with a kind
+-- whether a comparison fits a kind
 abbrev pub suits : Comparison → Kind → Bool
 suits Equal k = is_comparable k
 suits NotEqual k = is_comparable k
@@ -49,7 +49,7 @@ suits Starts k = is_run k
 abbrev pub result_map : {A B : Type 0} → (A → B) → Result A PartReason → Result B PartReason
 result_map f r = result_map_both f (λ q. q) r
 
--- what a condition asks of the field at the end of a path; a value is compared where the field has one
+-- the condition on the field at the end of a path; a comparison needs a field with one value
 abbrev pub condition_in : Path → ConditionLine → Result Condition PartReason
 condition_in p Present = Ok conditions.Present
 condition_in p (Compares c value) =
@@ -57,7 +57,7 @@ condition_in p (Compares c value) =
     then result_map (conditions.Compares c) (operand_of p.kind value)
     else Err reason.Path
 
--- a test of a message: Path where the message lacks the field
+-- a test of a message; `Path` if the message doesn't have the field
 abbrev pub test_of_path : ConditionLine → Option Path → Result Test PartReason
 test_of_path c None = Err reason.Path
 test_of_path c (Some p) = result_map (λ condition. record { path = p; condition = condition }) (condition_in p c)
@@ -71,11 +71,11 @@ tests_in T msg (Some t) = result_map Some (test_in T msg t)
 
 -- ---- calls
 
--- the requests, or the replies, of a method, with a test or without one
+-- the requests or the replies of a method, with an optional test
 abbrev pub with_test : ℕ → Sort → Option Test → Calls
 with_test method sort test = record { method = method; sort = sort; test = test }
 
--- what a test compares with, if it does
+-- the value that a test compares with, if any
 abbrev pub value_of_condition : ConditionLine → Option (List ℕ)
 value_of_condition Present = None
 value_of_condition (Compares c value) = Some value
@@ -83,19 +83,19 @@ value_of_condition (Compares c value) = Some value
 abbrev pub value_of_test : Option TestLine → Option (List ℕ)
 value_of_test t = option_and_then (λ test. value_of_condition test.condition) t
 
--- what stands against the calls of a method that isn't known. No path of such a method can be judged, and so of a
--- value only whether it has a form at all: where it has none, Word counts before the reason against the method.
+-- The reason against the calls of an unknown method. Paths of such a method can't be judged, so only the form of a
+-- value is. If it has none, `Word` counts before the reason against the method.
 abbrev pub of_unknown_method : PartReason → Option TestLine → PartReason
 of_unknown_method q t = if option_map_or has_no_form (value_of_test t) false then reason.Word else q
 
--- the calls of a method: Path where the table lacks it
+-- the calls of a method; `Path` if the table doesn't have it
 abbrev pub calls_of_method : Table → ℕ → Sort → Option TestLine → Result Calls PartReason
 calls_of_method T method sort t =
     if nat_lt method (length T.methods)
     then result_map (with_test method sort) (tests_in T (message_of T method sort) t)
     else Err (of_unknown_method reason.Path t)
 
--- Number where the index has more than 16 bits
+-- `Number` if the index has more than 16 bits
 abbrev pub calls_of_index : Table → Sort → Option TestLine → Option ℕ → Result Calls PartReason
 calls_of_index T sort t None = Err (of_unknown_method reason.Number t)
 calls_of_index T sort t (Some method) = calls_of_method T method sort t

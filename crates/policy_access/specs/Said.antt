@@ -1,4 +1,4 @@
--- The code's own: what a line says behind rules of some names, or the first reason against it.
+-- The code's own: the content of a line after rules with some names, or the first reason against it.
 use Rattle.std.specs.Prelude.{ℕ, nat_le, Bool, true, false, List, length, Option, Some, None, Result, Ok, Err}
 use Rattle.std.specs.Result.{result_map_both}
 use Rattle.mrpc_table.specs.declared.table.Table.{Table}
@@ -18,8 +18,8 @@ use Rattle.mrpc_table.specs.declared.policy_lines.RuleReason.TheVariants as reas
 use Rattle.policy_access.specs.declared.read.Said.{Said}
 use Rattle.policy_access.specs.declared.read.Said.TheVariants.{Rule, Default}
 
--- by whether the most rules of a policy stand before, what the rule is about, whether its name is one, and
--- whether it stands before
+-- by whether the maximum number of rules is reached, by the call selector, by whether the name is valid, and by
+-- whether an earlier rule has it
 abbrev pub judged_rule : Bool → Result About PartReason → Bool → Bool → RuleLine → Result TheRule RuleReason
 judged_rule true about named known r = Err reason.Word
 judged_rule false (Err part.Word) named known r = Err reason.Word
@@ -38,7 +38,7 @@ said_in T names (Some (lines.Rule r)) =
     result_map_both Rule (λ q. q)
     (judged_rule (nat_le MAX_RULES (length names)) (about_in T r.about) (is_rule_name r.name) (is_among r.name names) r)
 
--- what stands against the line behind the default
+-- the reason against a line after the default
 abbrev pub reason_behind : Result Said RuleReason → RuleReason
 reason_behind (Err q) = q
 reason_behind (Ok s) = reason.Default

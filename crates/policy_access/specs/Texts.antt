@@ -15,7 +15,7 @@ use Rattle.policy_access.specs.declared.line.RuleLine.{RuleLine}
 use Rattle.policy_access.specs.declared.rule.About.{About}
 use Rattle.policy_access.specs.declared.rule.Rule.{Rule}
 
--- a rule with its name, whether it allows, and what it is about in the table
+-- a rule with its name, whether it allows, and the calls that it selects in the table
 abbrev pub with_about : RuleLine → About → Rule
 with_about r about = record { name = r.name; allow = r.allow; about = about }
 
@@ -23,12 +23,12 @@ abbrev pub rule_in : Table → Line → Option Rule
 rule_in T (RuleOf r) = option_map (with_about r) (result_ok (about_in T r.about))
 rule_in T (Default allow) = None
 
--- the rule that a line says
+-- the rule of a line
 abbrev pub said_rule : Table → List ℕ → Option Rule
 said_rule T line = option_and_then (rule_in T) (line_of line)
 
--- lines are the text of a policy: a line for each rule, of which there are not too many and whose names are
--- distinct, and then the default's line
+-- Lines are the text of a policy: one line for each rule, then the default's line. There are at most `MAX_RULES`
+-- rules, with distinct names.
 pub record IsTextOf (T : Table) (lines : List (List ℕ)) (policy : AccessPolicy) : Type 0 where
   pub rule_lines : List (List ℕ)
   pub default_line : List ℕ

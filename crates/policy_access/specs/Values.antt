@@ -1,4 +1,4 @@
--- What VALUE says of a field of a kind, or why it says nothing (this project's own format).
+-- The meaning of VALUE for a field of a kind, or the reason why it has none (this project's own format).
 use Rattle.std.specs.Prelude.{ℕ, ◌-◌, ◌%◌, ◌^◌, ◌==◌, nat_lt, nat_le, Bool, true, false, not, ◌&&◌, ◌||◌, if◌then◌else◌, List, [], ◌∷◌, length, Option, Some, None, Result, Ok, Err}
 use Rattle.std.specs.List.{slice_split, list_all}
 use Rattle.std.specs.Result.{result_ok}
@@ -16,7 +16,7 @@ use Rattle.policy_access.specs.declared.fault.PartReason.TheVariants as reason
 
 -- ---- numbers
 
--- how far below zero the numbers of a kind go
+-- the absolute value of the smallest number of a kind
 abbrev pub depth_of : Kind → ℕ
 depth_of Int32 = 2 ^ 31
 depth_of Sint32 = 2 ^ 31
@@ -27,7 +27,7 @@ depth_of Sint64 = 2 ^ 63
 depth_of Sfixed64 = 2 ^ 63
 depth_of _ = 0
 
--- the number that is just too large for a kind
+-- the smallest number above the range of a kind
 abbrev pub limit_of : Kind → ℕ
 limit_of Int32 = 2 ^ 31
 limit_of Sint32 = 2 ^ 31
@@ -41,7 +41,7 @@ limit_of Fixed32 = 2 ^ 32
 limit_of TheBool = 2
 limit_of _ = 2 ^ 64
 
--- the word form of a number without a sign, and of one behind a `-`; `-0` is 0
+-- the word form of an unsigned number, and of one after a `-`; `-0` is 0
 abbrev pub positive_word : Kind → Decimal → Result Operand PartReason
 positive_word k (Small n) = if nat_lt n (limit_of k) then Ok (Number n) else Err reason.Number
 positive_word k Large = Err reason.Number
@@ -50,7 +50,7 @@ abbrev pub negative_word : Kind → Decimal → Result Operand PartReason
 negative_word k (Small n) = if nat_le n (depth_of k) then Ok (Number ((2 ^ 64 - n) % 2 ^ 64)) else Err reason.Number
 negative_word k Large = Err reason.Number
 
--- digits that are in form, or not
+-- the value of digits; `Word` if they are malformed
 abbrev pub spelled : (Decimal → Result Operand PartReason) → Option ℕ → Result Operand PartReason
 spelled form None = Err reason.Word
 spelled form (Some n) = form (in_64_bits n)
@@ -63,14 +63,14 @@ number_value k (c ∷ cs) =
 
 -- ---- runs
 
--- a byte that may stand in a text: no control byte (the quote that would end it stands nowhere in it)
+-- a byte that a text may contain: any but control bytes (a quote would end the text)
 abbrev pub is_text_byte : ℕ → Bool
 is_text_byte c = nat_le 32 c && not (c == 127)
 
 abbrev pub is_text : List ℕ → Bool
 is_text text = list_all is_text_byte text && nat_le (length text) MAX_TEXT_VALUE
 
--- cut at its quotes, a quoted text is nothing, the text, and nothing
+-- split at its quotes, a quoted text is nothing, the text, and nothing
 abbrev pub quoted_part : List (List ℕ) → Option (List ℕ)
 quoted_part ([] ∷ text ∷ [] ∷ []) = Some text
 quoted_part _ = None
@@ -93,21 +93,21 @@ abbrev pub run_or_word : Option (List ℕ) → Result Operand PartReason
 run_or_word None = Err reason.Word
 run_or_word (Some bytes) = Ok (Run bytes)
 
--- two digits for each byte, behind an `x`
+-- an `x`, and then two digits for each byte
 abbrev pub bytes_value : List ℕ → Result Operand PartReason
 bytes_value [] = Err reason.Word
 bytes_value (c ∷ cs) =
     if (c == 120) && list_all is_lower_digit cs then run_or_word (result_ok (decode_of cs))
     else Err reason.Word
 
--- what a value says of a field of the kind: Word where it is out of form, Number where it is out of range
+-- the meaning of a value for a field of the kind: `Word` if it is malformed, `Number` if it is out of range
 abbrev pub operand_of : Kind → List ℕ → Result Operand PartReason
 operand_of Text word = text_value word
 operand_of Octets word = bytes_value word
 operand_of (Message i) word = Err reason.Word
 operand_of k word = number_value k word
 
--- the value is out of form for a field of the kind
+-- the value is malformed for a field of the kind
 abbrev pub is_word_fault : Result Operand PartReason → Bool
 is_word_fault (Err reason.Word) = true
 is_word_fault _ = false
@@ -115,6 +115,6 @@ is_word_fault _ = false
 abbrev pub is_out_of_form : Kind → List ℕ → Bool
 is_out_of_form k word = is_word_fault (operand_of k word)
 
--- the value has none of the three forms: it is neither a number, nor a text, nor bytes
+-- the value has none of the three forms: number, text or bytes
 abbrev pub has_no_form : List ℕ → Bool
 has_no_form word = (is_out_of_form Uint64 word && is_out_of_form Text word) && is_out_of_form Octets word

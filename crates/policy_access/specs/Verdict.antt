@@ -1,4 +1,4 @@
--- What an access policy says of a call (this project's own rule language).
+-- The verdict of an access policy on a call (this project's own rule language).
 use Rattle.std.specs.Prelude.{ℕ, ◌==◌, Bool, true, ◌&&◌, List, length, option_map, position, slice_get, unwrap_or, codes}
 use Rattle.std.specs.Option.{option_map_or}
 use Rattle.mrpc_table.specs.Calls.{is_of_sort}
@@ -10,18 +10,18 @@ use Rattle.policy_access.specs.declared.rule.About.{About}
 use Rattle.policy_access.specs.declared.rule.About.TheVariants.{Every, Calls as OfCalls}
 use Rattle.policy_access.specs.declared.rule.Calls.{Calls}
 
--- an access policy: its rules in order, and whether it allows what no rule matches
+-- an access policy: its rules in order, and whether it allows a call that no rule matches
 pub record AccessPolicy : Type 0 where
   pub rules : List Rule
   pub allow : Bool
 
--- the call is of the method and the sort, and its tree meets the test, if there is one
+-- the call has the method and the kind (request or reply), and its tree meets the test, if there is one
 abbrev pub is_one_of : Calls → Call → Bool
 is_one_of calls call =
     ((call.method == calls.method) && is_of_sort calls.sort call.number)
     && option_map_or (meets call.tree) calls.test true
 
--- the rule is about the call
+-- the rule selects the call
 abbrev pub is_about : About → Call → Bool
 is_about Every call = true
 is_about (OfCalls calls) call = is_one_of calls call
@@ -29,16 +29,16 @@ is_about (OfCalls calls) call = is_one_of calls call
 abbrev pub matches : Rule → Call → Bool
 matches rule call = is_about rule.about call
 
--- the place of the first rule that matches; the number of rules where none does
+-- the index of the first rule that matches; the number of rules if none does
 abbrev pub deciding_rule : AccessPolicy → Call → ℕ
 deciding_rule policy call = unwrap_or (position (λ rule. matches rule call) policy.rules) (length policy.rules)
 
--- the verdict of the first rule that matches, or else of the default
+-- the verdict of the first rule that matches, otherwise of the default
 abbrev pub verdict : AccessPolicy → Call → Verdict
 verdict policy call =
     let rule = deciding_rule policy call in
     record { allow = unwrap_or (option_map (λ r. r.allow) (slice_get policy.rules rule)) policy.allow; rule = rule }
 
--- the name of the rule at a place, and that of the default behind the last rule
+-- the name of the rule at an index; after the last rule, that of the default
 abbrev pub rule_name : AccessPolicy → ℕ → List ℕ
 rule_name policy rule = unwrap_or (option_map (λ r. r.name) (slice_get policy.rules rule)) (codes "default")

@@ -1,4 +1,4 @@
-//! An access policy, as it was read.
+//! An access policy after reading.
 
 ghost use Rattle.std.specs.Prelude.{◌≡◌, ◌≤◌, length, IfOk};
 ghost use Rattle.policy_access.specs.declared.limits.TheConstants.{MAX_RULES};
@@ -11,14 +11,14 @@ use mrpc_table::{Bytes, Call, Memory, Name, Sequence, Table, normal_ascends};
 use std::alloc::Global;
 use std::marker::Model;
 
-/// An access policy: up to 64 rules, and what holds for a call that none of them matches.
+/// An access policy: up to 64 rules, and the default for a call that no rule matches.
 pub struct Access {
     rules: Sequence<Rule>,
     allow: bool,
     default_name: Name,
 }
 
-// By hand, so that a drop is one call where it is needed, and not a drop of each part.
+// Written by hand, so that a drop is one call instead of one for each field.
 impl Drop for Access {
     fn drop(self) {
         let Access {
@@ -59,8 +59,7 @@ impl Access {
         })
     }
 
-    /// What the policy says of a call: the first rule that matches decides, and else the default. It
-    /// takes no memory.
+    /// The verdict on a call: the first rule that matches decides, otherwise the default. It allocates nothing.
     pub fn judge(&self, call: &Call, table: &Table) -> Verdict
         requires { IsCallOf table.now call.now }
         ensures verdict { result ≡ verdict self.now call.now }
@@ -81,8 +80,7 @@ impl Access {
         }
     }
 
-    /// The name of the rule at a place; the number of rules stands for the default, whose name is
-    /// `default`.
+    /// The name of the rule at an index. The number of rules means the default, whose name is `default`.
     pub fn rule_name(&self, rule: u32) -> &Name
         requires { rule ≤ length self.now.rules }
         ensures { result.now ≡ rule_name self.now rule }

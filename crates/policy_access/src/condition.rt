@@ -1,4 +1,4 @@
-//! Whether a tree meets the test of a rule, and a call matches a rule.
+//! Whether a tree meets the test of a rule, and whether a call matches a rule.
 
 ghost use Rattle.std.specs.Prelude.{◌≡◌, false, option_map, position};
 ghost use Rattle.std.specs.Option.{option_copied, option_map_or};
@@ -43,7 +43,7 @@ fn run_compares(comparison: Comparison, kind: Kind, wanted: &Operand, bytes: &[u
     }
 }
 
-// Whether the default of a kind compares so.
+// Whether the default value of a kind passes the comparison.
 fn default_compares(comparison: Comparison, kind: Kind, wanted: &Operand) -> bool
     ensures { result ≡ option_map_or (compares comparison kind wanted.now) (default_item kind) false }
 {
@@ -67,7 +67,7 @@ fn default_compares(comparison: Comparison, kind: Kind, wanted: &Operand) -> boo
     }
 }
 
-// Whether the value of a field that is unset compares so.
+// Whether the value of an unset field passes the comparison.
 fn unset_compares(comparison: Comparison, path: &Path, wanted: &Operand) -> bool
     ensures { result ≡ option_map_or (compares comparison path.now.kind wanted.now)
         (unset_item path.now.kind path.now.label) false }
@@ -79,7 +79,7 @@ fn unset_compares(comparison: Comparison, path: &Path, wanted: &Operand) -> bool
     }
 }
 
-// Whether the value of a field, with what its message has of it, compares so.
+// Whether the value of a field passes the comparison, by the content that its message has for it.
 fn field_compares(
     comparison: Comparison,
     path: &Path,
@@ -133,7 +133,7 @@ fn is_one_of(calls: &Calls, call: &Call) -> bool
     }
 }
 
-// The place of the first rule that matches.
+// The index of the first rule that matches.
 pub(crate) fn first_match(rules: &[Rule], call: &Call) -> Option<usize>
     requires { IsAscending call.now.tree }
     ensures { result ≡ position (λ rule. matches rule call.now) rules.now }
@@ -141,8 +141,7 @@ pub(crate) fn first_match(rules: &[Rule], call: &Call) -> Option<usize>
     rules.iter().position(|rule| matches(rule, call))
 }
 
-// Whether the rule is about the call, in time in proportion to its path and to the bytes that are
-// compared.
+// Whether the rule matches the call. It takes time in proportion to the path and to the bytes that it compares.
 pub(crate) fn matches(rule: &Rule, call: &Call) -> bool
     requires { IsAscending call.now.tree }
     ensures { result ≡ matches rule.now call.now }

@@ -1,4 +1,4 @@
-//! Equal policies and calls in memory of their own.
+//! Copies of policies and calls in memory of their own.
 
 ghost use Rattle.std.specs.Prelude.{◌≡◌, IfOk, map, take};
 

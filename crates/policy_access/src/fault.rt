@@ -1,12 +1,12 @@
-//! What stands against what a rule is about.
+//! Faults in the part of a rule that selects calls.
 
-// What is wrong with what a rule is about. It is a `RuleReason`, too.
+// The reason of a fault in the part of a rule that selects calls. Each is a `RuleReason`, too.
 #[derive(Clone, Copy)]
 pub(crate) enum PartReason {
-    // A value out of form.
+    // A malformed value.
     Word,
     // An index above 65535, or a value out of the range of its kind.
     Number,
-    // A method or a field that the table lacks, or an OP that doesn't go with the field.
+    // A method or a field that the table doesn't have, or an OP that doesn't fit the field.
     Path,
 }

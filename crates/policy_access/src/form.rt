@@ -1,4 +1,4 @@
-//! Lines by their form.
+//! Parses lines by their form.
 
 ghost use Rattle.std.specs.Prelude.{◌≡◌, ◌∷◌, ℕ, List, [], Some, IfOk, IfSome, MatchOption};
 ghost use Rattle.mrpc_table.specs.Lines.{words_of};
@@ -9,7 +9,7 @@ use crate::rule::Comparison;
 use mrpc_table::{Bytes, Decimal, Memory, PathWord, Sort, cut, is_word, number_of};
 use std::alloc::Global;
 
-// The first of at least two words, and the line of the others.
+// The first of at least two words, and the remainder of the line.
 fn next_word(line: &[u8]) -> Option<(&[u8], &[u8])>
     ensures more { IfSome result (λ p. (word : List ℕ) × (words : List (List ℕ)) × (words_of p.1.now ≡ word ∷ words)) }
     ensures words { MatchOption result
@@ -58,7 +58,7 @@ fn is_quoted(value: &[u8]) -> bool
     }
 }
 
-// One word, or a value that begins with a quote.
+// One word, or a value that starts with a quote.
 #[tactic(auto, using(crate::proofs::Words::value_of_line))]
 fn value_of(alloc: Global, line: &[u8]) -> Result<Option<Bytes>, Memory>
     ensures { IfOk result (λ v. v ≡ value_of (words_of line.now)) }
@@ -70,7 +70,7 @@ fn value_of(alloc: Global, line: &[u8]) -> Result<Option<Bytes>, Memory>
     }
 }
 
-// An operation, and behind it its value.
+// An operation and its value.
 fn compares(alloc: Global, operation: &[u8], line: &[u8]) -> Result<Option<ConditionLine>, Memory>
     ensures { (word : List ℕ) (words : List (List ℕ)) → words_of line.now ≡ word ∷ words
         → IfOk result (λ c. c ≡ condition_of operation.now (word ∷ words)) }
@@ -117,7 +117,7 @@ fn test_line(alloc: Global, line: &[u8]) -> Result<Option<TestLine>, Memory>
     }
 }
 
-// The calls of a method that a test, or none, picks.
+// The calls of a method, with an optional test.
 #[tactic(auto, using(crate::proofs::Words::optional_test_of_line))]
 fn tested_calls(
     alloc: Global,
@@ -147,7 +147,7 @@ fn all_calls(index: Decimal, sort: Sort) -> CallsLine
     }
 }
 
-// `[reply] [where ..]`, behind the index.
+// `[reply] [where ..]`, after the index.
 fn calls_line(alloc: Global, index: Decimal, line: &[u8]) -> Result<Option<CallsLine>, Memory>
     ensures { IfOk result (λ c. c ≡ calls_of index (words_of line.now)) }
 {
@@ -208,7 +208,7 @@ fn rule_line(alloc: Global, line: &[u8]) -> Result<Option<RuleLine>, Memory>
     Ok(Some(RuleLine { name, allow, about }))
 }
 
-// `NAME allow|deny`, and no more
+// `NAME allow|deny` alone.
 fn every_call(alloc: Global, name: &[u8], verb: &[u8]) -> Result<Option<RuleLine>, Memory>
     ensures { IfOk result (λ r. r ≡ rule_of (name.now ∷ verb.now ∷ [])) }
 {
@@ -231,7 +231,7 @@ fn default_line(line: &[u8]) -> Option<bool>
     }
 }
 
-// What a line says, or `None` where it is out of form.
+// A parsed line, or `None` if the line is malformed.
 #[tactic(auto, unfolding(crate::specs::Lines::line_of))]
 pub(crate) fn line_of(alloc: Global, line: &[u8]) -> Result<Option<Line>, Memory>
     ensures { IfOk result (λ l. l ≡ line_of line.now) }

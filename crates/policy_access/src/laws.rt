@@ -1,4 +1,4 @@
-//! Laws of the texts of policies. These functions do nothing; their clauses hold.
+//! Laws of the texts of policies. The functions have no effect: each clause is a law.
 
 ghost use Rattle.std.specs.Prelude.{◌≡◌, ◌⊎◌, ℕ, List};
 ghost use Rattle.mrpc_table.specs.declared.table.Table.{Table};
@@ -7,19 +7,19 @@ ghost use Rattle.policy_access.specs.Texts.{IsTextOf};
 ghost use Rattle.policy_access.specs.Verdict.{AccessPolicy};
 ghost use Rattle.mrpc_table.specs.declared.policy_lines.RuleReason.{RuleReason};
 
-/// Lines are the text of one policy at most.
+/// Lines are the text of at most one policy.
 pub fn one_policy()
     ensures { (T : Table) (lines : List (List ℕ)) (p q : AccessPolicy)
         → IsTextOf T lines p → IsTextOf T lines q → p ≡ q }
 {}
 
-/// Lines have one first fault at most.
+/// Lines have at most one first fault.
 pub fn one_fault()
     ensures { (T : Table) (lines : List (List ℕ)) (m n : ℕ) (r q : RuleReason)
         → IsFirstFault T lines m r → IsFirstFault T lines n q → (m ≡ n) × (r ≡ q) }
 {}
 
-/// Lines are the text of a policy or have a first fault, and never both.
+/// Lines are the text of a policy or have a first fault, but never both.
 pub fn text_or_fault()
     ensures either { (T : Table) (lines : List (List ℕ))
         → ((policy : AccessPolicy) × IsTextOf T lines policy)

@@ -1,11 +1,10 @@
-//! Access policies: rules that allow or deny a call by its method, its sort and its tree.
+//! Access policies: rules that allow or deny a call by its method, its kind (request or reply) and its tree.
 //!
-//! [`read_access`] reads a policy from its lines, or tells the first line at fault; [`Access::judge`] says
-//! what a policy says of a call. `specs/Verdict.antt` says which rule decides and when a rule matches,
-//! `specs/Texts.antt` which lines are the text of a policy, and `specs/Faults.antt` what stands against
-//! lines that are none. It stands on `mrpc_table`. The layers above use one contract: the
-//! first rule that matches decides, and else the default; and lines are the text of one policy or have one
-//! first fault.
+//! [`read_access`] reads a policy from its lines, or returns the first line at fault. [`Access::judge`] gives the
+//! verdict on a call. `specs/Verdict.antt` defines which rule decides and when a rule matches, `specs/Texts.antt`
+//! which lines are the text of a policy, and `specs/Faults.antt` the faults of other lines. The crate depends on
+//! `mrpc_table`. The layers above use one contract. The first rule that matches decides, otherwise the default. Lines
+//! are the text of one policy or have one first fault.
 #![tactic(auto)]
 
 mod access;

@@ -1,7 +1,7 @@
 //! The limits of access policies, which the definitions share.
 
-/// How many rules a policy has at most.
+/// The maximum number of rules of a policy.
 pub const MAX_RULES: usize = 64;
 
-/// How many bytes a text that a rule compares with has at most.
+/// The maximum number of bytes of a text that a rule compares with.
 pub const MAX_TEXT_VALUE: usize = 255;

@@ -1,4 +1,4 @@
-//! What a line of a policy says, by its form alone.
+//! The content of a policy's line, by its form alone.
 
 ghost use Rattle.std.specs.Prelude.{◌≡◌};
 ghost use Rattle.policy_access.specs.Texts.{with_about};
@@ -6,24 +6,24 @@ ghost use Rattle.policy_access.specs.Texts.{with_about};
 use crate::rule::{About, Comparison, Rule};
 use mrpc_table::{Bytes, Decimal, PathWord, Sort};
 
-// A line in form.
+// A line of valid form.
 #[derive(Drop)]
 pub(crate) enum Line {
     // `rule NAME allow|deny ..`
     Rule(RuleLine),
-    // `default allow|deny`, and whether it allows.
+    // `default allow|deny`; true if it allows.
     Default(bool),
 }
 
 // `rule NAME allow|deny [method INDEX [reply] [where ..]]`
 pub(crate) struct RuleLine {
-    // The word in the name's place.
+    // The word at the name's position.
     pub name: Bytes,
     pub allow: bool,
     pub about: AboutLine,
 }
 
-// By hand, so that a drop is one call where it is needed, and not a drop of each part.
+// Written by hand, so that a drop is one call instead of one for each field.
 impl Drop for RuleLine {
     fn drop(self) {
         let RuleLine {
@@ -35,7 +35,7 @@ impl Drop for RuleLine {
 }
 
 impl RuleLine {
-    // The rule of the line, which is about this.
+    // The rule of the line, with its resolved call selector.
     pub(crate) fn with_about(self, about: About) -> Rule
         ensures { result ≡ with_about self about }
     {
@@ -48,7 +48,7 @@ impl RuleLine {
     }
 }
 
-// What a rule is about, as its line says it.
+// The calls that a rule selects, as its line gives them.
 #[derive(Drop)]
 pub(crate) enum AboutLine {
     // Nothing follows: every call.
@@ -64,7 +64,7 @@ pub(crate) struct CallsLine {
     pub test: Option<TestLine>,
 }
 
-// By hand, so that a drop is one call where it is needed, and not a drop of each part.
+// Written by hand, so that a drop is one call instead of one for each field.
 impl Drop for CallsLine {
     fn drop(self) {
         let CallsLine {
@@ -81,7 +81,7 @@ pub(crate) struct TestLine {
     pub condition: ConditionLine,
 }
 
-// By hand, so that a drop is one call where it is needed, and not a drop of each part.
+// Written by hand, so that a drop is one call instead of one for each field.
 impl Drop for TestLine {
     fn drop(self) {
         let TestLine {

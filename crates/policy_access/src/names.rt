@@ -8,7 +8,7 @@ use mrpc_table::Memory;
 use std::alloc::Global;
 use std::collections::BTreeMap;
 
-// Names, found by an ordered map.
+// Names in an ordered map.
 #[derive(Drop)]
 pub(crate) struct SeenNames {
     names: BTreeMap<Vec<u8>, ()>,

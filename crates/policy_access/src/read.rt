@@ -1,4 +1,4 @@
-//! Access policies from their lines.
+//! Reads access policies from their lines.
 
 ghost use Rattle.std.specs.Prelude.{◌≡◌, ◌+◌, ◌++◌, ◌^◌, ◌<◌, ◌≤◌, ℕ, List, [], ◌∷◌, Err, false, length, IfOk, IfErr, OnOk, MatchResult, nat_le};
 ghost use Rattle.mrpc_table.specs.Valid.{IsValid};
@@ -27,12 +27,12 @@ use mrpc_table::{
 };
 use std::alloc::Global;
 
-// What a line without a fault says.
+// The content of a valid line.
 #[derive(Drop)]
 pub(crate) enum Said {
     // A rule.
     Rule(Rule),
-    // The default, and whether it allows.
+    // The default; true if it allows.
     Default(bool),
 }
 
@@ -42,7 +42,7 @@ fn is_rule_name(name: &[u8]) -> bool
     is_name_form(name) && is_short(name) && !is_word(name, b"default")
 }
 
-// What a line of a rule says behind rules of these names, or its first reason.
+// The rule of a line, after `count` rules with these names; otherwise the first reason against the line.
 fn judged_rule(
     alloc: Global,
     table: &Table,
@@ -64,8 +64,8 @@ fn judged_rule(
     Ok(judged(about, named, known, line))
 }
 
-// What a line of a rule says, or its first reason, by what the rule is about, whether its name is one and whether it
-// stands before.
+// The rule of a line, or the first reason against it. It depends on the selected calls, on whether the name is valid,
+// and on whether an earlier rule has the name.
 fn judged(
     about: Result<About, PartReason>,
     named: bool,
@@ -90,7 +90,7 @@ fn judged(
     }
 }
 
-// The first reason against a line of a rule, by that against what the rule is about.
+// The first reason against a line of a rule whose call selector has a fault.
 fn first_reason(reason: PartReason, named: bool, known: bool) -> RuleReason
     ensures { (line : RuleLine) → judged_rule false (Err reason) named known line ≡ Err result }
 {
@@ -103,7 +103,7 @@ fn first_reason(reason: PartReason, named: bool, known: bool) -> RuleReason
     }
 }
 
-// What a line says behind `count` rules of these names, or its first reason.
+// The content of a line after `count` rules with these names, or the first reason against the line.
 pub(crate) fn said_in(
     alloc: Global,
     table: &Table,
@@ -125,7 +125,7 @@ pub(crate) fn said_in(
     }
 }
 
-// What stands against the line behind the default.
+// The reason against a line after the default.
 fn reason_behind(
     alloc: Global,
     table: &Table,
@@ -149,7 +149,7 @@ struct SoFar {
     names: SeenNames,
 }
 
-// By hand, so that a drop is one call where it is needed, and not a drop of each part.
+// Written by hand, so that a drop is one call instead of one for each field.
 impl Drop for SoFar {
     fn drop(self) {
         let SoFar {
@@ -193,7 +193,7 @@ impl SoFar {
     }
 }
 
-// The policy, where the default's line at this place is the last, or the fault of the line behind it.
+// The policy, if the default's line at this index is the last; otherwise the fault of the line after it.
 fn finish(
     alloc: Global,
     table: &Table,
@@ -224,8 +224,8 @@ fn finish(
     }
 }
 
-// Reads the rules in front of the default's line, and answers its place and whether it allows, or the fault of a line
-// in front of it.
+// Reads the rules before the default's line. Returns the index of that line and whether it allows, or the fault of an
+// earlier line.
 fn read_rules(
     alloc: Global,
     table: &Table,
@@ -267,16 +267,17 @@ fn read_lines(alloc: Global, lines: &[Bytes], table: &Table) -> Result<Access, R
     finish(alloc, table, lines, place, so_far, allow)
 }
 
-/// The access policy that the lines say, or their first fault. Each line but the last is a rule,
-/// `rule NAME allow|deny [method INDEX [reply] [where PATH OP [VALUE]]]`, 64 at most, and the last is
-/// `default allow|deny`. Paths and methods are those of the table. It takes time in proportion to the
-/// text, but for the look-up of names, fields and methods by search. `RuleFault::Memory` comes where
-/// memory runs out.
+/// Reads the access policy from its lines, or returns their first fault. Each line but the last is a rule, `rule NAME
+/// allow|deny [method INDEX [reply] [where PATH OP [VALUE]]]`; there are at most 64 rules. The last line is `default
+/// allow|deny`. Paths and methods refer to the table.
+///
+/// It takes time in proportion to the text, except that names, fields and methods are looked up by search.
+/// `RuleFault::Memory` means out of memory.
 pub fn read_access(alloc: Global, lines: &Lines, table: &Table) -> Result<Access, RuleFault>
     requires { IsValid table.now }
-    // What is read is what the lines say.
+    // The result is the policy of the lines.
     ensures accepted { IfOk result (λ policy. IsTextOf table.now lines.now policy) }
-    // The text of a policy gives this policy, unless memory runs out.
+    // The text of a policy gives this policy, except when out of memory.
     ensures only { (policy : AccessPolicy) → IsTextOf table.now lines.now policy
         → MatchResult result (λ read. read ≡ policy) (λ fault. fault ≡ NoMemory) }
     // A fault is the first one of the lines.

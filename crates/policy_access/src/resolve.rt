@@ -1,4 +1,4 @@
-//! What a rule is about in a table.
+//! Resolves the calls that a rule selects in a table.
 
 ghost use Rattle.std.specs.Prelude.{◌≡◌, ◌<◌, length, IfOk};
 ghost use Rattle.mrpc_table.specs.Valid.{IsValid};
@@ -116,7 +116,7 @@ fn tests_in(
     }
 }
 
-// What stands against the calls of a method that isn't known, and so of whose test the value's form alone is judged.
+// The reason against the calls of an unknown method. Of its test, only the form of the value is judged.
 fn of_unknown_method(
     alloc: Global,
     reason: PartReason,
@@ -175,9 +175,9 @@ fn calls_in(
     }
 }
 
-// What a rule is about in the table: `Number` for an index of more than 16 bits or a value out of range,
-// `Path` for a method or a field that the table lacks or an operation that doesn't go with it, `Word` for
-// a value out of form. Where the method isn't known, a value of no form at all counts before it.
+// The calls that a rule selects, resolved in the table. The reasons are `Number` for an index of more than 16 bits or
+// a value out of range, `Path` for a method or a field that the table doesn't have or an operation that doesn't fit,
+// and `Word` for a malformed value. If the method is unknown, a value that has no form at all counts first.
 pub(crate) fn about_in(
     alloc: Global,
     table: &Table,

@@ -1,16 +1,16 @@
-//! What one rule says.
+//! A rule.
 
 use mrpc_table::{Bytes, Name, Path, Sort};
 
-// One rule of a policy.
+// A rule of a policy.
 pub(crate) struct Rule {
     pub name: Name,
-    // Whether a call that matches is allowed, or else denied.
+    // Whether a matching call is allowed; otherwise it is denied.
     pub allow: bool,
     pub about: About,
 }
 
-// By hand, so that a drop is one call where it is needed, and not a drop of each part.
+// Written by hand, so that a drop is one call instead of one for each field.
 impl Drop for Rule {
     fn drop(self) {
         let Rule {
@@ -21,15 +21,15 @@ impl Drop for Rule {
     }
 }
 
-// Which calls a rule matches.
+// The calls that a rule matches.
 pub(crate) enum About {
     // Every call.
     Every,
-    // The requests, or the replies, of a method.
+    // The requests or the replies of a method.
     Calls(Calls),
 }
 
-// By hand, so that a drop is one call where it is needed, and not a drop of each part.
+// Written by hand, so that a drop is one call instead of one for each field.
 impl Drop for About {
     fn drop(self) {
         match self {
@@ -39,16 +39,16 @@ impl Drop for About {
     }
 }
 
-// The requests, or the replies, of a method, or those of them that meet a test.
+// The requests or the replies of a method, with an optional test.
 pub(crate) struct Calls {
     // The index of the method in the table.
     pub method: u16,
-    // Whether the rule is about requests or about replies.
+    // Whether the rule matches requests or replies.
     pub sort: Sort,
     pub test: Option<Test>,
 }
 
-// By hand, so that a drop is one call where it is needed, and not a drop of each part.
+// Written by hand, so that a drop is one call instead of one for each field.
 impl Drop for Calls {
     fn drop(self) {
         let Calls {
@@ -59,13 +59,13 @@ impl Drop for Calls {
     }
 }
 
-// What a call's tree must be for a rule to match.
+// The condition on a call's tree for a rule to match.
 pub(crate) struct Test {
     pub path: Path,
     pub condition: Condition,
 }
 
-// By hand, so that a drop is one call where it is needed, and not a drop of each part.
+// Written by hand, so that a drop is one call instead of one for each field.
 impl Drop for Test {
     fn drop(self) {
         let Test {
@@ -75,15 +75,15 @@ impl Drop for Test {
     }
 }
 
-// What is asked of the field at the end of a path.
+// The condition on the field at the end of a path.
 pub(crate) enum Condition {
     // `present`: the tree has the field.
     Present,
-    // There is a value, and it compares so with this one.
+    // The field has a value that passes the comparison with this operand.
     Compares(Comparison, Operand),
 }
 
-// By hand, so that a drop is one call where it is needed, and not a drop of each part.
+// Written by hand, so that a drop is one call instead of one for each field.
 impl Drop for Condition {
     fn drop(self) {
         match self {
@@ -93,18 +93,18 @@ impl Drop for Condition {
     }
 }
 
-// How a value compares with that of a rule.
+// How a value is compared with that of a rule.
 #[derive(Clone, Copy, PartialEq, Eq)]
 pub(crate) enum Comparison {
-    // `eq`: it is the same.
+    // `eq`: it is equal.
     Equal,
-    // `ne`: it is another.
+    // `ne`: it is different.
     NotEqual,
     // `lt`: it is a smaller number.
     Less,
     // `gt`: it is a greater number.
     Greater,
-    // `starts`: its bytes begin with those of the rule.
+    // `starts`: the bytes of the rule are a prefix of its bytes.
     Starts,
 }
 
@@ -116,7 +116,7 @@ pub(crate) enum Operand {
     Run(Bytes),
 }
 
-// By hand, so that a drop is one call where it is needed, and not a drop of each part.
+// Written by hand, so that a drop is one call instead of one for each field.
 impl Drop for Operand {
     fn drop(self) {
         match self {

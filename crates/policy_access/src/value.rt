@@ -1,4 +1,4 @@
-//! What a value says of a field of a kind.
+//! Parses the value of a rule by the kind of its field.
 
 ghost use Rattle.std.specs.Prelude.{◌≡◌, nat_lt, IfOk};
 ghost use Rattle.std.specs.List.{list_all};
@@ -14,7 +14,7 @@ use hex::FromHexError;
 use mrpc_table::{Bytes, Decimal, Kind, Memory, cut, number_of};
 use std::alloc::Global;
 
-// How far below zero the numbers of a kind go.
+// The absolute value of the smallest number of a kind.
 fn depth_of(kind: Kind) -> u64
     ensures { result ≡ depth_of kind }
 {
@@ -34,7 +34,7 @@ fn depth_of(kind: Kind) -> u64
     }
 }
 
-// Whether a number without a sign is one of the kind.
+// Whether an unsigned number is in the range of the kind.
 fn is_below_limit(kind: Kind, number: u64) -> bool
     ensures { result ≡ nat_lt number (limit_of kind) }
 {
@@ -101,7 +101,7 @@ fn are_text_bytes(text: &[u8]) -> bool
     text.iter().all(|byte| is_text_byte(*byte))
 }
 
-// Bytes between quotes.
+// The bytes between quotes.
 fn quoted(word: &[u8]) -> Option<&[u8]>
     ensures { option_copied result ≡ quoted word.now }
 {
@@ -156,9 +156,8 @@ fn bytes_value(alloc: Global, word: &[u8]) -> Result<Result<Operand, PartReason>
     }
 }
 
-// What a value says of a field of the kind: `Word` where it is out of form, `Number` where it is out of
-// range. Numbers are digits, behind a `-` or not; a text stands in quotes; bytes are lower-case
-// hexadecimal digits behind an `x`.
+// Parses a value for a field of the kind: `Word` if it is malformed, `Number` if it is out of range. Numbers are
+// digits with an optional `-`. A text is in quotes. Bytes are `x` and lower-case hexadecimal digits.
 pub(crate) fn operand_of(
     alloc: Global,
     kind: Kind,
@@ -187,7 +186,7 @@ pub(crate) fn operand_of(
     }
 }
 
-// Whether a value is out of form for a field of the kind.
+// Whether a value is malformed for a field of the kind.
 fn is_out_of_form(alloc: Global, kind: Kind, word: &[u8]) -> Result<bool, Memory>
     ensures { IfOk result (λ out. out ≡ is_out_of_form kind word.now) }
 {
@@ -197,7 +196,7 @@ fn is_out_of_form(alloc: Global, kind: Kind, word: &[u8]) -> Result<bool, Memory
     }
 }
 
-// Whether a value has none of the three forms: it is neither a number, nor a text, nor bytes.
+// Whether a value has none of the three forms: number, text or bytes.
 pub(crate) fn has_no_form(alloc: Global, word: &[u8]) -> Result<bool, Memory>
     ensures { IfOk result (λ none. none ≡ has_no_form word.now) }
 {

@@ -1,10 +1,10 @@
-//! What a policy says of a call.
+//! The verdict of a policy on a call.
 
-/// What a policy says of a call.
+/// The verdict of a policy on a call.
 #[derive(Clone, Copy)]
 pub struct Verdict {
-    /// Whether the call may go on.
+    /// Whether the call may continue.
     pub allow: bool,
-    /// The place of the rule that decided, from 0; the number of rules stands for the default.
+    /// The index of the rule that decided, from 0. The number of rules means the default.
     pub rule: u32,
 }

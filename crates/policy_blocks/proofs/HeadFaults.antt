@@ -1,4 +1,4 @@
--- What stands against the first line of an item, by the tests of the code.
+-- The reasons of a declaration's first line, by the tests of the code.
 use Rattle.std.proofs.Common.{◌≡◌, ℕ, ◌≤◌, not, Bool, true, false, List, [], ◌∷◌, length, Contains, Some, refl, sym, ◌∙◌, subst, inl, inr, arith}
 use Rattle.std.specs.Prelude.{nat_le, slice_get}
 use Rattle.std.proofs.lemmas.Bool.{and_parts, and_from, leb-true, le-leb, false≢true}
@@ -100,7 +100,7 @@ not_lacking : (d : Declared) (f : ItemForm) (ms : List Meaning) → tests.lacks_
 not_lacking d f ms e quota =
     naming.there (λ t. t.name) (name_at ms 3) d.tenants (not_not_of _ (subst (λ (g : ItemForm). tests.lacks_tenant d g ms ≡ false) quota e))
 
--- the word in the tenant's place
+-- the word at the tenant's index
 pub third_name : (d : Declared) (f : ItemForm) (ws : List (List ℕ)) (ms : List Meaning)
     → AreSaid (sorts_of (form_of f)) ws ms → f ≡ of.Quota → slice_get ws 3 ≡ Some (name_at ms 3)
 third_name d f ws ms h quota = (name_there (sorts_of (form_of of.Quota)) ws ms 3 (subst (λ (g : ItemForm). AreSaid (sorts_of (form_of g)) ws ms) quota h) refl).at

@@ -1,4 +1,4 @@
--- The lines of a text in front of its first line `end`.
+-- The lines of a text before its first line `end`.
 use Rattle.std.proofs.Common.{◌≡◌, ℕ, zero, suc, ◌+◌, ◌-◌, ◌<◌, ◌≤◌, ◌==◌, ◌⊎◌, Bool, true, false, cond, List, []}
 use Rattle.std.proofs.Common.{◌∷◌, ◌++◌, length, get_or, take, drop, Contains, Some, None, refl, sym, ap, subst, ◌∙◌}
 use Rattle.std.proofs.Common.{inl, inr, append_assoc, arith}
@@ -14,7 +14,7 @@ use Rattle.mrpc_table.specs.Lines.{pieces_of, whole_lines, line_count}
 use Rattle.policy_blocks.specs.Blocks.{end_line, is_kept, kept, line_at, IsBlock, IsOpen}
 use Rattle.policy_blocks.specs.Reading.{inner_of, inner_lines, IsLeft}
 
--- how many whole lines a text has
+-- the number of whole lines of a text
 pub whole_count : (text : List ℕ) → length (whole_lines text) ≡ line_count text
 whole_count text = omega (arith, length-take (length (pieces_of text) - 1) (pieces_of text), length-slice_split (λ c. c == 10) text)
 
@@ -27,7 +27,7 @@ has_piece (x ∷ xs) =
       | false ↦ (x ∷ rest.0, rest.1, ap (onto_first x) rest.2)
     ]
 
--- ---- one line more
+-- ---- one more line
 
 inner_step_by : (line : List ℕ) (pieces : List (List ℕ)) (p : List ℕ) (ps : List (List ℕ)) (b : Bool)
     → pieces ≡ p ∷ ps → bytes_eq line end_line ≡ b → inner_of (line ∷ pieces) ≡ cond b [] (line ∷ inner_of pieces)
@@ -39,7 +39,7 @@ pub inner_step : (text line behind : List ℕ) (b : Bool) → pieces_of text ≡
     → bytes_eq line end_line ≡ b → inner_lines text ≡ cond b [] (line ∷ inner_lines behind)
 inner_step text line behind b cut is = let p = has_piece behind in ap inner_of cut ∙ inner_step_by line (pieces_of behind) p.0 p.1 b p.2 is
 
--- ---- where a kept line stands
+-- ---- the number of a kept line
 
 at_line : (skips : Bool) (text line behind : List ℕ) (number : ℕ) (kept first : Bool)
     → pieces_of text ≡ line ∷ pieces_of behind → bytes_eq line end_line ≡ false → is_kept skips line ≡ kept
@@ -62,7 +62,7 @@ at_skipped skips text line behind number cut is k = at_line skips text line behi
 
 -- ---- the lines so far
 
--- lines in front of the rest of a text, none of which is `end`
+-- lines before the remainder of a text, none of which is `end`
 pub record AreDone (text : List ℕ) (done : List (List ℕ)) (rest : List ℕ) : Type 0 where
   pub pieces : pieces_of text ≡ done ++ pieces_of rest
   pub none : Contains done end_line → ⊥
@@ -155,7 +155,7 @@ pub kept_same : (skips : Bool) (done : List (List ℕ)) (line : List ℕ) → is
 kept_same skips done line isnt =
     filter-append (is_kept skips) done (line ∷ []) ∙ ap (λ (ls : List (List ℕ)). kept skips done ++ ls) (kept_one skips line false isnt) ∙ append_none (kept skips done)
 
--- ---- one block
+-- ---- the block is unique
 
 pub block_inner : (text : List ℕ) (inner : List (List ℕ)) (rest : List ℕ) → IsBlock text inner rest → inner_lines text ≡ inner
 block_inner text inner rest b =
@@ -175,7 +175,7 @@ same_rest text inner other x y b c =
     sym b.lines ∙ c.lines ∙ ap (λ (ls : List (List ℕ)). ls ++ end_line ∷ pieces_of y) (sym same) in
     same_pieces x y (ap (drop 1) (append_cancel_left inner (end_line ∷ pieces_of x) (end_line ∷ pieces_of y) both))
 
--- a text with an `end` isn't unended
+-- a text with an `end` isn't open
 pub open_block : (text : List ℕ) (inner : List (List ℕ)) (rest : List ℕ) → IsOpen text → IsBlock text inner rest → ⊥
 open_block text inner rest unended b =
     let p = has_piece rest in
@@ -217,7 +217,7 @@ whole_cons text line behind cut =
 whole_none : (text : List ℕ) → pieces_of text ≡ text ∷ [] → whole_lines text ≡ []
 whole_none text last = ap (λ (ps : List (List ℕ)). take (length ps - 1) ps) last
 
--- the text is its first line and what is behind
+-- the text is its first line and the remainder
 cut_text : (text line behind : List ℕ) → pieces_of text ≡ line ∷ pieces_of behind → text ≡ (line ++ 10 ∷ []) ++ behind
 cut_text text line behind cut =
     let p = has_piece behind in
@@ -227,7 +227,7 @@ cut_text text line behind cut =
     ∙ join_with_byte-slice_split 10 behind)
     ∙ sym (append_assoc line (10 ∷ []) behind)
 
--- a block, of which the rest is the end of the text
+-- a block whose remainder is a suffix of the text
 record IsBlockOf (text : List ℕ) : Type 0 where
   inner : List (List ℕ)
   rest : List ℕ
@@ -288,14 +288,14 @@ ends_or_not text = elim (ends (length text) text (omega arith)) [
   | inr unended ↦ inr unended
 ]
 
--- what is left behind a block is the end of the text
+-- the remainder after a block is a suffix of the text
 pub block_end : (text : List ℕ) (inner : List (List ℕ)) (rest : List ℕ) → IsBlock text inner rest → (passed : List ℕ) × (text ≡ passed ++ rest)
 block_end text inner rest block = elim (ends (length text) text (omega arith)) [
   | inl b ↦ (b.passed, b.text_is ∙ ap (λ (t : List ℕ). b.passed ++ t) (same_rest text b.inner inner b.rest rest b.block block))
   | inr unended ↦ absurd (open_block text inner rest unended block)
 ]
 
--- ---- how far down a line can stand
+-- ---- the range of a line's number
 
 line_at_is : (skips : Bool) (line : List ℕ) (lines : List (List ℕ)) (number : ℕ) (kept first : Bool) → is_kept skips line ≡ kept → (number == 1) ≡ first
     → line_at skips (line ∷ lines) number ≡ cond kept (cond first 1 (1 + line_at skips lines (number - 1))) (1 + line_at skips lines number)

@@ -1,4 +1,4 @@
--- What is read of items is what their lines declare, or their first fault.
+-- What is read of a declaration is what its lines declare, or their first fault.
 use Rattle.std.proofs.Common.{◌≡◌, ℕ, ◌+◌, ◌<◌, ◌≤◌, Bool, true, false, cond, List, length, Option, Some, None, Result, Ok, Err, refl, sym, ap, subst, arith}
 use Rattle.std.specs.Borrow.{Bor}
 use Rattle.std.specs.Prelude.{nat_le, is_some, MatchResult}
@@ -32,7 +32,7 @@ past : (a b : ℕ) → nat_le a b ≡ false → b < a
 past a b e = grind arith
 
 module _ (First : List (List ℕ) → ℕ → RuleReason → Type 0) where
-  -- what a fault says of the block behind an item's first line
+  -- the fault of the block after a declaration's first line
   abbrev pub IsBroken : Bool → List ℕ → ScriptFault → Type 0
   IsBroken skips text (script.At at reason) = (behind : ℕ) × Breaks First skips text behind reason × (at ≡ 1 + behind)
   IsBroken skips text script.Memory = Unit {0}
@@ -95,7 +95,7 @@ pub redact_fault : (T : Table) (skips : Bool) (text : List ℕ) (f : ScriptFault
 redact_fault T skips text (script.At at reason) h = h
 redact_fault T skips text script.Memory h = tt
 
--- ---- items
+-- ---- declarations
 
 abbrev Read : Type 0
 Read = Result (Item × Bor (List ℕ)) ScriptFault

@@ -1,4 +1,4 @@
--- Where something of a name stands in a list.
+-- The index of a name in a list.
 use Rattle.std.proofs.Common.{◌≡◌, ℕ, zero, suc, ◌+◌, ◌<◌, ◌≤◌, not, Bool, true, false, cond, List, [], ◌∷◌, ◌++◌}
 use Rattle.std.proofs.Common.{length, get_or, map, Contains, Option, Some, None, refl, sym, ap, subst, ◌∙◌, inl, inr}
 use Rattle.std.proofs.Common.{eq-eqb, ◌==◌, arith}
@@ -29,7 +29,7 @@ module _ {X : Type 0} (f : X → List ℕ) where
   first_by : (name : List ℕ) (x : X) (xs : List X) (b : Bool) → bytes_eq (f x) name ≡ b → first name (x ∷ xs) ≡ cond (not b) (1 + first name xs) 0
   first_by name x xs b e = ap (λ t. cond (not t) (1 + first name xs) 0) e
 
-  -- a name that is there is found
+  -- a name in the list is found
   first_within : (name : List ℕ) (xs : List X) (k : ℕ) → k < length (map f xs) → get_or (map f xs) k name ≡ name → first name xs < length xs
   first_within name [] k within at = absurd (omega (arith, within))
   first_within name (x ∷ xs) zero within at =
@@ -43,7 +43,7 @@ module _ {X : Type 0} (f : X → List ℕ) where
         omega (arith, here, more)
   ]
 
-  -- what is found is there
+  -- what is found is in the list
   first_is : (name : List ℕ) (xs : List X) → first name xs < length xs → (x : X) × (slice_get xs (first name xs) ≡ Some x) × (f x ≡ name)
   first_is name [] within = absurd (omega (arith, within))
   first_is name (x ∷ xs) within = elim (cases_Bool (bytes_eq (f x) name)) [
@@ -103,7 +103,7 @@ module _ {X : Type 0} (f : X → List ℕ) where
   none_by true n e = absurd cc
   none_by false n e = refl
 
-  -- ---- one more
+  -- ---- one more name
 
   found_or_end : (name : List ℕ) (xs : List X) → first name xs ≤ length xs
   found_or_end name [] = omega arith

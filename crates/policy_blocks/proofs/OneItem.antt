@@ -1,4 +1,4 @@
--- Lines begin with one item, or have one first fault.
+-- Lines have exactly one declaration, or exactly one first fault.
 use Rattle.std.proofs.Common.{◌≡◌, ◌⊎◌, ℕ, ◌+◌, ◌≤◌, Bool, true, false, List, length, not, Option, Some, None, refl}
 use Rattle.std.proofs.Common.{sym, ap, ◌∙◌, subst, inl, inr, arith, [], ◌++◌}
 use Rattle.std.specs.Prelude.{is_some, slice_get}
@@ -55,7 +55,7 @@ module _ (First : List (List ℕ) → ℕ → RuleReason → Type 0) (one : (lin
   one_break skips text m n r q (no_end unended none e f) (in_open j what shut second inside g h) = absurd (none j what second inside)
   one_break skips text m n r q (no_end unended none e f) (no_end shut never g h) = (e ∙ sym g, f ∙ sym h)
 
-  -- a block of sound lines doesn't break
+  -- a block of valid lines has no fault
   pub block_or_break : (skips : Bool) (text : List ℕ) (inner : List (List ℕ)) (rest : List ℕ) (m : ℕ)
       (r : ScriptReason) → IsBlock text inner rest → ((k : ℕ) (why : RuleReason) → First (kept skips inner) k why → ⊥)
       → Breaks First skips text m r → ⊥
@@ -64,7 +64,7 @@ module _ (First : List (List ℕ) → ℕ → RuleReason → Type 0) (one : (lin
   block_or_break skips text inner rest m r b none (in_open j what unended second inside g h) = open_block text inner rest unended b
   block_or_break skips text inner rest m r b none (no_end unended never g h) = open_block text inner rest unended b
 
-  -- a block of sound lines, or a break
+  -- a block of valid lines, or a fault, exists
   abbrev pub HasBlock : (List (List ℕ) → Type 0) → Bool → List ℕ → Type 0
   HasBlock Sound skips text =
       ((inner : List (List ℕ)) × (rest : List ℕ) × IsBlock text inner rest × Sound (kept skips inner)) ⊎ ((m : ℕ) × (r : ScriptReason) × Breaks First skips text m r)
@@ -115,7 +115,7 @@ pub record Laws : Type 0 where
   pub redact_or_fault : (T : Table) (lines : List (List ℕ)) (p : List Clear) (k : ℕ) (q : RuleReason)
       → redact_texts.IsTextOf T lines p → redact_faults.IsFirstFault T lines k q → ⊥
 
--- ---- one item
+-- ---- the declaration is unique
 
 same_quota : (d : Declared) (ms : List Meaning) (p q : ThePolicy) → IsQuotaSaid d ms p → IsQuotaSaid d ms q → p ≡ q
 same_quota d ms p q a b =
@@ -150,7 +150,7 @@ module _ (laws : Laws) (T : Table) (skips : Bool) (d : Declared) where
   one_item f line text i j x y h k =
       gives_one f k.meanings text i j x y (subst (λ (ms : List Meaning). Gives T skips d f ms text i x) (same_meanings f line h.meanings k.meanings h.heads k.heads) h.gives) k.gives
 
-  -- ---- one fault
+  -- ---- the fault is unique
 
   one_broken : (f : ItemForm) (text : List ℕ) (m n : ℕ) (r q : ScriptReason) → BreaksIn T skips f text m r → BreaksIn T skips f text n q → (m ≡ n) × (r ≡ q)
   one_broken of.Access text m n r q h k = one_break (access_faults.IsFirstFault T) (laws.one_access_fault T) skips text m n r q h k
@@ -263,7 +263,7 @@ module _ (laws : Laws) (T : Table) (skips : Bool) (d : Declared) where
     ]
   ]
 
-  -- ---- what is left
+  -- ---- the remainder
 
   gives_left : (f : ItemForm) (ms : List Meaning) (text : List ℕ) (i : Item) (x : List ℕ) → Gives T skips d f ms text i x → (passed : List ℕ) × (text ≡ passed ++ x)
   gives_left of.Tenant ms text i x g = ([], sym g.1)
@@ -276,7 +276,7 @@ module _ (laws : Laws) (T : Table) (skips : Bool) (d : Declared) where
   pub item_left : (f : ItemForm) (line text : List ℕ) (i : Item) (x : List ℕ) → Declares T skips d f line text i x → (passed : List ℕ) × (text ≡ passed ++ x)
   item_left f line text i x h = gives_left f h.meanings text i x h.gives
 
-  -- ---- where a line is at fault
+  -- ---- the range of a faulty line's number
 
   breaks_place : (First : List (List ℕ) → ℕ → RuleReason → Type 0) (text : List ℕ) (m : ℕ) (r : ScriptReason) → Breaks First skips text m r → m ≤ line_count text + 1
   breaks_place First text m r (in_block inner rest k why b first e g) = omega (arith, e, line_at_small skips inner k, inner_count text inner rest b)

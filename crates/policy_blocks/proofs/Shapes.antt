@@ -1,4 +1,4 @@
--- What the words of first lines say, by their places.
+-- The values of first lines, by the index of the word.
 use Rattle.std.proofs.Common.{◌≡◌, ℕ, zero, suc, List, [], ◌∷◌, Some, refl, sym, ap, subst}
 use Rattle.std.specs.Prelude.{slice_get}
 use Rattle.std.proofs.lemmas.Option.{same_Some}
@@ -48,7 +48,7 @@ name_there (s ∷ sorts) (w ∷ ws) (m ∷ ms) zero h at =
     record { at = ap (λ (x : List ℕ). Some x) n.0; named = n.1 }
 name_there (s ∷ sorts) (w ∷ ws) (m ∷ ms) (suc i) h at = let more = name_there sorts ws ms i h.1 at in record { at = more.at; named = more.named }
 
--- the name of an item
+-- the name of a declaration
 pub item_named : (f : ItemForm) (ws : List (List ℕ)) (ms : List Meaning) → AreSaid (sorts_of (form_of f)) ws ms → IsNamed ws ms 1
 item_named of.Tenant ws ms h = name_there (sorts_of (form_of of.Tenant)) ws ms 1 h refl
 item_named of.Access ws ms h = name_there (sorts_of (form_of of.Access)) ws ms 1 h refl

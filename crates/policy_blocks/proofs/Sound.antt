@@ -1,4 +1,4 @@
--- What is declared stays sound with one item more.
+-- Declarations stay valid with one more.
 use Rattle.std.proofs.Common.{ℕ, ◌<◌, ◌≤◌, Bool, List, [], ◌∷◌, ◌++◌, length, map, get_or, All, Contains, refl, sym, subst, inl, inr, arith}
 use Rattle.std.proofs.lemmas.Bool.{cases_lt}
 use Rattle.std.proofs.lemmas.List.{map_push, length_push}
@@ -43,7 +43,7 @@ names_distinct f xs x d new = subst (λ (ns : List (List ℕ)). AreDistinct ns) 
 names_named : {X : Type 0} (f : X → List ℕ) (xs : List X) (x : X) → All IsName (map f xs) → IsName (f x) → All IsName (map f (xs ++ x ∷ []))
 names_named f xs x all one = subst (λ (ns : List (List ℕ)). All IsName ns) (sym (map_push f xs x)) (All-push IsName (map f xs) (f x) all one)
 
--- the name of an item is new
+-- the name of a declaration is new
 new_name : (d : Declared) (f : ItemForm) (line : List ℕ) (ms : List Meaning) → Heads d f line ms → Contains (names_before d f) (name_at ms 1) → ⊥
 new_name d f line ms h there = h.free reason.Known (is_known (name_at ms 1) (item_named f (words_of line) ms h.said).at there refl)
 
@@ -72,7 +72,7 @@ module _ (T : Table) (skips : Bool) (d : Declared) where
   pub is_new : (f : ItemForm) (line text : List ℕ) (i : Item) (x : List ℕ) → Declares T skips d f line text i x → IsNew d i
   is_new f line text i x h = gives_new f line text h.meanings i x h.heads h.gives
 
--- ---- one tenant more
+-- ---- one more tenant
 
 abbrev IsWindow : Tenant → Type 0
 IsWindow t = (1 ≤ t.per) × (t.per ≤ 86400000)
@@ -102,7 +102,7 @@ tenant_sound d t s new room name window = record {
   );
 }
 
--- ---- one policy more
+-- ---- one more policy
 
 policy_sound : (d : Declared) (name : List ℕ) (p : ThePolicy) → IsSound d → (Contains (policy_names d) name → ⊥)
     → IsName name → IsPolicy p → KnowsTenantOf (λ place. place < length d.tenants) p

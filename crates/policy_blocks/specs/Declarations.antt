@@ -1,4 +1,4 @@
--- What is declared: tenants and policies, each under a name of its own (this project's own).
+-- The declarations of a text: tenants and policies, each with a unique name (this project's own).
 use Rattle.std.specs.Prelude.{◌≡◌, ℕ, ◌<◌, ◌≤◌, List, [], ◌∷◌, ◌++◌, map, length, All, Option, None, position}
 use Rattle.std.specs.Str.{bytes_eq}
 use Rattle.mrpc_table.specs.Names.{IsName}
@@ -10,7 +10,7 @@ use Rattle.policy_blocks.specs.declared.item.Item.{Item}
 use Rattle.policy_blocks.specs.declared.item.Item.TheVariants as item
 use Rattle.policy_blocks.specs.declared.limits.TheConstants.{MAX_TENANTS}
 
--- in the order in which they are declared
+-- in the order of their declarations
 pub record Declared : Type 0 where
   pub tenants : List Tenant
   pub policies : List NamedPolicy
@@ -24,24 +24,24 @@ tenant_names d = map (λ t. t.name) d.tenants
 abbrev pub policy_names : Declared → List (List ℕ)
 policy_names d = map (λ p. p.name) d.policies
 
--- where the tenant, or the policy, of a name stands, counted from 0; none where there is none
+-- the index of the tenant, or the policy, with a name, counted from 0; none if there is none
 abbrev pub tenant_place : Declared → List ℕ → Option ℕ
 tenant_place d name = position (λ t. bytes_eq t.name name) d.tenants
 
 abbrev pub policy_place : Declared → List ℕ → Option ℕ
 policy_place d name = position (λ p. bytes_eq p.name name) d.policies
 
--- no other item of its sort has its name, and a tenant has room
+-- its name is free among tenants or policies, and there is room for one more tenant if it is one
 abbrev pub IsNew : Declared → Item → Type 0
 IsNew d (item.Tenant t) = (tenant_place d t.name ≡ None) × (length d.tenants < MAX_TENANTS)
 IsNew d (item.Policy p) = policy_place d p.name ≡ None
 
--- one more
+-- one more declaration
 abbrev pub with_item : Declared → Item → Declared
 with_item d (item.Tenant t) = record { tenants = d.tenants ++ t ∷ []; policies = d.policies }
 with_item d (item.Policy p) = record { tenants = d.tenants; policies = d.policies ++ p ∷ [] }
 
--- what holds of what is declared: names are distinct, numbers are in their ranges, and the tenants of quotas are declared
+-- the declarations are valid: names are distinct, numbers are in their ranges, and each quota's tenant is declared
 pub record IsSound (d : Declared) : Type 0 where
   pub few : length d.tenants ≤ MAX_TENANTS
   pub tenants_distinct : AreDistinct (tenant_names d)

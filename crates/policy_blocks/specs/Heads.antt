@@ -1,4 +1,4 @@
--- The code's own: the tests of an item's first line.
+-- The code's own: the tests of a declaration's first line.
 use Rattle.std.specs.Prelude.{nat_le, Bool, false, ◌&&◌, not, List, length, is_some}
 use Rattle.script_words.specs.Sorts.{Meaning, name_at}
 use Rattle.policy_blocks.specs.Declarations.{Declared, tenant_place, policy_place}

@@ -1,4 +1,4 @@
--- What the lines of an item declare, behind what is declared, or which of them is at fault first (this project's own).
+-- What the lines of a declaration mean, after earlier declarations, or their first fault (this project's own).
 use Rattle.std.specs.Prelude.{◌≡◌, ℕ, ◌+◌, ◌≤◌, Bool, true, false, List, length, Contains, Option, Some, None, option_and_then, slice_get}
 use Rattle.mrpc_table.specs.Lines.{words_of}
 use Rattle.mrpc_table.specs.declared.table.Table.{Table}
@@ -31,7 +31,7 @@ use Rattle.policy_blocks.specs.declared.item.Item.{Item}
 use Rattle.policy_blocks.specs.declared.item.Item.TheVariants as item
 use Rattle.policy_blocks.specs.declared.limits.TheConstants.{MAX_TENANTS}
 
--- the forms of the first lines of items
+-- the form of a declaration's first line
 abbrev pub form_of : ItemForm → Form
 form_of OfTenant = form.Tenant
 form_of Access = form.Access
@@ -49,7 +49,7 @@ item_form form.Count = Some Count
 item_form form.Redact = Some Redact
 item_form _ = None
 
--- the form of the item that a line begins; none where it begins none
+-- the form of the declaration that a line starts; none if it starts none
 abbrev pub item_form_in : List (List ℕ) → Option ItemForm
 item_form_in words = option_and_then item_form (form_in words)
 
@@ -63,23 +63,23 @@ names_before d _ = policy_names d
 
 -- ---- the first line
 
--- a reason stands against the first line of an item, which has this form
+-- the first line of a declaration of this form has this reason
 pub data IsAgainstHead (d : Declared) (f : ItemForm) (words : List (List ℕ)) (reason : ScriptReason) : Type 0 where
   in_words : IsAgainst (sorts_of (form_of f)) words reason → IsAgainstHead d f words reason
   too_many : is_tenant f ≡ true → MAX_TENANTS ≤ length d.tenants → reason ≡ Number → IsAgainstHead d f words reason
-  -- a tenant, or a policy, has the name
+  -- another tenant, or another policy, has the name
   is_known : (other : List ℕ) → slice_get words 1 ≡ Some other → Contains (names_before d f) other → reason ≡ Known
       → IsAgainstHead d f words reason
   -- the tenant of a quota isn't declared
   no_tenant : (other : List ℕ) → f ≡ Quota → slice_get words 3 ≡ Some other
       → (Contains (tenant_names d) other → ⊥) → reason ≡ Unknown → IsAgainstHead d f words reason
 
--- nothing stands against the line, and its words say this
+-- the line has no fault, and its words have these values
 pub record Heads (d : Declared) (f : ItemForm) (line : List ℕ) (meanings : List Meaning) : Type 0 where
   pub said : AreSaid (sorts_of (form_of f)) (words_of line) meanings
   pub free : (reason : ScriptReason) → IsAgainstHead d f (words_of line) reason → ⊥
 
--- ---- items, by the words of their first lines, counted from 0
+-- ---- declarations, by the values of their first lines; words are counted from 0
 
 abbrev pub named : List ℕ → ThePolicy → Item
 named label p = item.Policy (record { name = label; policy = p })
@@ -92,7 +92,7 @@ abbrev pub is_hold : Option Keyword → Bool
 is_hold (Some keyword.Hold) = true
 is_hold _ = false
 
--- `policy NAME rate N per P burst B hold`, or `deny` at its end
+-- `policy NAME rate N per P burst B hold`, or with `deny` at the end
 abbrev pub rate_said : List Meaning → ThePolicy
 rate_said meanings = policy.Rate (record {
   amount = number_at meanings 3;
@@ -101,7 +101,7 @@ rate_said meanings = policy.Rate (record {
   hold = is_hold (keyword_at meanings 8);
 })
 
--- `policy NAME quota TENANT cap C`: a quota has the number of its tenant, counted from 0, and its window
+-- `policy NAME quota TENANT cap C`: a quota has the index of its tenant, counted from 0, and the tenant's window
 pub record IsQuotaSaid (d : Declared) (meanings : List Meaning) (p : ThePolicy) : Type 0 where
   pub place : ℕ
   pub tenant : Tenant
@@ -109,7 +109,7 @@ pub record IsQuotaSaid (d : Declared) (meanings : List Meaning) (p : ThePolicy) 
   pub there : slice_get d.tenants place ≡ Some tenant
   pub policy_is : p ≡ policy.Quota place tenant.per (number_at meanings 5)
 
--- a policy stands in a block, behind which the rest is left
+-- the text starts with the block of this policy, and this is the remainder
 pub record IsAccessIn (T : Table) (skips : Bool) (text : List ℕ) (p : AccessPolicy) (rest : List ℕ) : Type 0 where
   pub inner : List (List ℕ)
   pub block : IsBlock text inner rest
@@ -120,7 +120,7 @@ pub record IsRedactIn (T : Table) (skips : Bool) (text : List ℕ) (p : List Cle
   pub block : IsBlock text inner rest
   pub text_of : redact_texts.IsTextOf T (kept skips inner) p
 
--- a first line that says this, and the text behind it, are this item, and the rest is left
+-- a first line with these values and the text after it are this declaration, and this is the remainder
 abbrev pub Gives : Table → Bool → Declared → ItemForm → (meanings : List Meaning) → (text : List ℕ) → Item
     → (rest : List ℕ) → Type 0
 Gives T skips d OfTenant meanings text i rest = (i ≡ tenant_said meanings) × (rest ≡ text)
@@ -133,7 +133,7 @@ Gives T skips d Access meanings text i rest =
 Gives T skips d Redact meanings text i rest =
     (p : List Clear) × IsRedactIn T skips text p rest × (i ≡ named (name_at meanings 1) (policy.Redact p))
 
--- the line, which has this form, and the text behind it begin with this item, and the rest is left
+-- a line of this form and the text after it start with this declaration, and this is the remainder
 pub record Declares (T : Table) (skips : Bool) (d : Declared) (f : ItemForm) (line text : List ℕ) (i : Item)
     (rest : List ℕ) : Type 0 where
   pub meanings : List Meaning
@@ -142,21 +142,20 @@ pub record Declares (T : Table) (skips : Bool) (d : Declared) (f : ItemForm) (li
 
 -- ---- faults
 
--- a line behind the first one is at fault, counted from 1 behind it
+-- a line after the first one is the first with a fault; lines are counted from 1 after the first one
 abbrev pub BreaksIn : Table → Bool → ItemForm → (text : List ℕ) → (line : ℕ) → ScriptReason → Type 0
 BreaksIn T skips Access text line reason = Breaks (access_faults.IsFirstFault T) skips text line reason
 BreaksIn T skips Redact text line reason = Breaks (redact_faults.IsFirstFault T) skips text line reason
 BreaksIn T skips _ text line reason = ⊥
 
--- of the line, which has this form, and the lines of the text behind it this is the first at fault, counted from 1,
--- with its first reason
+-- a line of this form and the lines after it have their first fault here, counted from 1, and this is its first reason
 pub data FailsAt (T : Table) (skips : Bool) (d : Declared) (f : ItemForm) (line text : List ℕ) (at : ℕ)
     (reason : ScriptReason) : Type 0 where
   in_head : IsFirst (IsAgainstHead d f (words_of line)) reason → at ≡ 1 → FailsAt T skips d f line text at reason
   in_block : (meanings : List Meaning) (behind : ℕ) → Heads d f line meanings → BreaksIn T skips f text behind reason
       → at ≡ 1 + behind → FailsAt T skips d f line text at reason
 
--- what a fault says of lines; running out of memory says nothing
+-- the lines have this fault; running out of memory claims nothing
 abbrev pub IsFaultOf : (T : Table) (skips : Bool) (d : Declared) (f : ItemForm) (line text : List ℕ) → ScriptFault
     → Type 0
 IsFaultOf T skips d f line text (fault.At at reason) = FailsAt T skips d f line text at reason

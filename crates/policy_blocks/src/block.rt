@@ -10,39 +10,39 @@ use mrpc_table::{Bytes, Lines, Memory, RuleFault, cut, line_count};
 use script_words::{ScriptFault, ScriptReason};
 use std::alloc::Global;
 
-// The line behind the last one of a policy.
+// The line that ends a policy.
 const END: &[u8] = b"end";
 
-// The lines of a policy that say something of it, and what stands behind its `end`; none where it has no `end`.
+// The lines that define a policy, and the remainder after its `end`; `None` if it has no `end`.
 #[derive(Drop)]
 pub(crate) struct Block<'a> {
     pub lines: Lines,
     pub rest: Option<&'a [u8]>,
 }
 
-/// Whether a line is empty, or begins with `#`.
+/// Returns true if a line is empty or starts with `#`.
 pub fn is_skipped(line: &[u8]) -> bool
     ensures { result ≡ is_skipped line.now }
 {
     matches!(line, [] | [b'#', ..])
 }
 
-// Whether it is the line behind the last one of a policy.
+// Returns true for the line that ends a policy.
 fn is_end(line: &[u8]) -> bool
     ensures { result ≡ bytes_eq line.now end_line }
 {
     line == END
 }
 
-// Whether the line says something of the policy.
+// Returns true if the line is one of the policy's own: all lines are, or all but those that `is_skipped` accepts.
 fn is_kept(skips: bool, line: &[u8]) -> bool
     ensures { result ≡ is_kept skips line.now }
 {
     !(skips && is_skipped(line))
 }
 
-// The lines at the front of a text up to a line `end`, or all of them. Where such lines are skipped, empty ones and
-// those that begin with `#` are left out.
+// Reads the lines of a text before its first line `end`, or all lines. If `skips` is true, it leaves out empty lines
+// and lines that start with `#`.
 pub(crate) fn read_block<'a>(
     alloc: Global,
     text: &'a [u8],
@@ -68,7 +68,7 @@ pub(crate) fn read_block<'a>(
     Ok(Block { lines, rest: None })
 }
 
-// Where the kept line of a number stands among the lines of a block, both counted from 1.
+// Maps the number of a kept line to its number among all lines of the block, both counted from 1.
 fn line_of(text: &[u8], skips: bool, number: u64) -> u64
     ensures line { result ≡ line_at skips (inner_lines text.now) number }
     ensures small { result ≤ length text.now + 1 }
@@ -92,8 +92,7 @@ fn line_of(text: &[u8], skips: bool, number: u64) -> u64
     line
 }
 
-// The fault of an item, by that of the lines of its policy, which stand at the front of this text behind its first
-// line.
+// The fault of a declaration, from the fault of its policy's lines. `text` is the remainder after its first line.
 pub(crate) fn item_fault(
     block: &Block<'_>,
     text: &[u8],
@@ -119,7 +118,7 @@ pub(crate) fn item_fault(
     }
 }
 
-// The fault of an item that lacks its `end`, behind whose first line this text stands.
+// The fault of a declaration that lacks its `end`. `text` is the remainder after its first line.
 pub(crate) fn endless_fault(text: &[u8]) -> ScriptFault
     ensures { result ≡ ScriptFault.At (length (whole_lines text.now) + 2) ScriptReason.Word }
 {

@@ -1,4 +1,4 @@
-//! What is declared so far, found by name.
+//! The declarations so far, looked up by name.
 
 ghost use Rattle.std.specs.Prelude.{◌≡◌, ◌<◌, ◌≤◌, length, None, IfOk};
 ghost use Rattle.policy_blocks.specs.Declarations.{nothing, tenant_place, policy_place, IsNew, with_item};
@@ -9,16 +9,16 @@ use std::alloc::Global;
 use std::collections::BTreeMap;
 use std::marker::Model;
 
-/// Tenants and policies in the order in which they are declared, found by their names: a policy by search in an
-/// ordered map, a tenant among the few that there are.
+/// Tenants and policies in the order of their declarations. A policy is looked up in an ordered map, a tenant by linear
+/// search, since there are at most 16.
 pub struct Declarations {
     tenants: Sequence<Tenant>,
     policies: Sequence<NamedPolicy>,
-    // Where each policy stands.
+    // The index of each policy, by its name.
     places: BTreeMap<Vec<u8>, usize>,
 }
 
-// By hand, so that a drop is one call where it is needed, and not a drop of each part.
+// Written by hand, so that a drop is one call, not one call per field.
 impl Drop for Declarations {
     fn drop(self) {
         let Declarations {
@@ -43,7 +43,7 @@ impl Model for Declarations {
 }
 
 impl Declarations {
-    /// Nothing yet. It takes no memory.
+    /// No declarations. It allocates no memory.
     pub fn new(alloc: Global) -> Declarations
         ensures { result ≡ nothing }
     {
@@ -54,7 +54,7 @@ impl Declarations {
         }
     }
 
-    /// The tenants, in order.
+    /// The tenants, in the order of their declarations.
     pub fn tenants(&self) -> &[Tenant]
         ensures tenants { result.now ≡ self.now.tenants }
         ensures few { length result.now ≤ 16 }
@@ -62,14 +62,14 @@ impl Declarations {
         self.tenants.as_slice()
     }
 
-    /// The policies, in order.
+    /// The policies, in the order of their declarations.
     pub fn policies(&self) -> &[NamedPolicy]
         ensures { result.now ≡ self.now.policies }
     {
         self.policies.as_slice()
     }
 
-    /// Where the tenant of a name stands, counted from 0; none where there is none.
+    /// Returns the index of the tenant with a name, counted from 0; `None` if there is no such tenant.
     pub fn tenant(&self, name: &[u8]) -> Option<usize>
         ensures { result ≡ tenant_place self.now name.now }
     {
@@ -79,15 +79,16 @@ impl Declarations {
             .position(|tenant| tenant.name.as_slice() == name)
     }
 
-    /// Where the policy of a name stands, counted from 0; none where there is none. It takes time by the logarithm of
-    /// the number of policies.
+    /// Returns the index of the policy with a name, counted from 0; `None` if there is no such policy. The time is
+    /// logarithmic in the number of policies.
     pub fn policy(&self, name: &[u8]) -> Option<usize>
         ensures { result ≡ policy_place self.now name.now }
     {
         self.places.get(name).copied()
     }
 
-    /// These and one item more, whose name isn't taken by another one of its sort; a tenant has room.
+    /// Appends a declaration. Its name is free among tenants or policies, and there are fewer than 16 tenants if it is
+    /// one.
     pub fn with(self, alloc: Global, item: Item) -> Result<Declarations, Memory>
         requires { IsNew self item }
         ensures { IfOk result (λ d. d ≡ with_item self item) }

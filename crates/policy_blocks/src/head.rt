@@ -1,4 +1,4 @@
-//! The first line of an item.
+//! The first line of a declaration.
 
 ghost use Rattle.std.specs.Prelude.{◌≡◌, MatchResult};
 ghost use Rattle.mrpc_table.specs.Lines.{words_of};
@@ -12,14 +12,14 @@ use crate::item_form::ItemForm;
 use crate::limits::MAX_TENANTS;
 use script_words::{Judged, Said, ScriptReason, judge, name_at, one_judgement};
 
-// Whether no tenant more may be declared, where the item is one.
+// Returns true if this is a tenant, and 16 tenants are declared.
 fn is_full(declared: &Declarations, form: ItemForm) -> bool
     ensures { result ≡ is_full declared.now form }
 {
     form.is_tenant() && declared.tenants().len() >= MAX_TENANTS
 }
 
-// Whether the name of the item is taken.
+// Returns true if another tenant, or another policy, has the name.
 fn is_known(declared: &Declarations, form: ItemForm, words: &[Said<'_>]) -> bool
     ensures { result ≡ is_known declared.now form (meanings_of words.now) }
 {
@@ -31,14 +31,14 @@ fn is_known(declared: &Declarations, form: ItemForm, words: &[Said<'_>]) -> bool
     }
 }
 
-// Whether the item is a quota of a tenant that isn't declared.
+// Returns true if this is a quota whose tenant isn't declared.
 fn lacks_tenant(declared: &Declarations, form: ItemForm, words: &[Said<'_>]) -> bool
     ensures { result ≡ lacks_tenant declared.now form (meanings_of words.now) }
 {
     matches!(form, ItemForm::Quota) && declared.tenant(name_at(words, 3)).is_none()
 }
 
-// What the words of an item's first line say, or the first reason against it.
+// Returns the values of the words of a declaration's first line, or its first reason.
 pub(crate) fn read_head<'a>(
     declared: &Declarations,
     form: ItemForm,

@@ -1,16 +1,16 @@
-//! What is declared.
+//! Tenants, policies, and declarations.
 
 use engine_core::Policy;
 use mrpc_table::Name;
 
-/// A tenant, whose quotas count tickets by windows.
+/// A tenant. Its quotas count tickets per window.
 pub struct Tenant {
     pub name: Name,
-    /// The milliseconds of a window, 1 to 86400000.
+    /// The length of a window in milliseconds, 1 to 86400000.
     pub per: u64,
 }
 
-// By hand, so that a drop is one call where it is needed, and not a drop of each part.
+// Written by hand, so that a drop is one call, not one call per field.
 impl Drop for Tenant {
     fn drop(self) {
         let Tenant {
@@ -20,13 +20,13 @@ impl Drop for Tenant {
     }
 }
 
-/// A policy, with the name under which it is declared.
+/// A policy with its declared name.
 pub struct NamedPolicy {
     pub name: Name,
     pub policy: Policy,
 }
 
-// By hand, so that a drop is one call where it is needed, and not a drop of each part.
+// Written by hand, so that a drop is one call, not one call per field.
 impl Drop for NamedPolicy {
     fn drop(self) {
         let NamedPolicy {
@@ -36,7 +36,7 @@ impl Drop for NamedPolicy {
     }
 }
 
-/// What an item declares.
+/// One declaration: a tenant or a policy.
 #[derive(Drop)]
 pub enum Item {
     Tenant(Tenant),

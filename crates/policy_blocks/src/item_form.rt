@@ -1,4 +1,4 @@
-//! Which items there are, by their first lines.
+//! The forms of declarations, by their first lines.
 
 ghost use Rattle.std.specs.Prelude.{◌≡◌};
 ghost use Rattle.mrpc_table.specs.Lines.{words_of};
@@ -6,12 +6,12 @@ ghost use Rattle.policy_blocks.specs.Items.{form_of, item_form, item_form_in, is
 
 use script_words::{Form, form_of};
 
-/// The form of an item's first line.
+/// The form of a declaration's first line.
 #[derive(Clone, Copy)]
 pub enum ItemForm {
     /// `tenant NAME PER`
     Tenant,
-    /// `policy NAME access`, in front of the lines of a policy and `end`
+    /// `policy NAME access`, followed by the lines of a policy and `end`
     Access,
     /// `policy NAME rate N per P burst B hold|deny`
     Rate,
@@ -19,19 +19,19 @@ pub enum ItemForm {
     Quota,
     /// `policy NAME count`
     Count,
-    /// `policy NAME redact`, in front of the lines of a policy and `end`
+    /// `policy NAME redact`, followed by the lines of a policy and `end`
     Redact,
 }
 
 impl ItemForm {
-    /// The form of the item that a line begins; none where it begins none.
+    /// Returns the form of the declaration that a line starts; `None` if it starts none.
     pub fn of(line: &[u8]) -> Option<ItemForm>
         ensures { result ≡ item_form_in (words_of line.now) }
     {
         ItemForm::of_form(form_of(line)?)
     }
 
-    /// The item that begins with a line of the form; none where none does.
+    /// Returns the form of the declaration whose first line has this form; `None` if there is none.
     pub fn of_form(form: Form) -> Option<ItemForm>
         ensures { result ≡ item_form form }
     {
@@ -46,7 +46,7 @@ impl ItemForm {
         }
     }
 
-    /// The form of its first line.
+    /// The line form of its first line.
     pub fn form(self) -> Form
         ensures { result ≡ form_of self }
     {
@@ -60,7 +60,7 @@ impl ItemForm {
         }
     }
 
-    /// Whether it declares a tenant, and no policy.
+    /// Returns true for a tenant, false for a policy.
     pub fn is_tenant(self) -> bool
         ensures { result ≡ is_tenant self }
     {

@@ -1,4 +1,4 @@
-//! Laws of items. These functions do nothing; their clauses hold.
+//! Laws of declarations. These functions do nothing; each contract is a law.
 
 ghost use Rattle.std.specs.Prelude.{◌≡◌, ◌⊎◌, ◌++◌, ◌+◌, ◌≤◌, ℕ, Bool, List};
 ghost use Rattle.mrpc_table.specs.Lines.{line_count};
@@ -17,7 +17,7 @@ use policy_redact::{
 };
 use script_words::one_judgement;
 
-/// Lines that begin in a form begin with one item, or have one first fault, and never both.
+/// Lines whose first line starts a declaration have exactly one declaration, or exactly one first fault, never both.
 pub fn one_item()
     ensures one { (T : Table) (skips : Bool) (d : Declared) (f : ItemForm) (line text : List ℕ) (i j : Item)
         (x y : List ℕ) → Declares T skips d f line text i x → Declares T skips d f line text j y
@@ -31,10 +31,10 @@ pub fn one_item()
     ensures either { (T : Table) (skips : Bool) (d : Declared) (f : ItemForm) (line text : List ℕ)
         → ((i : Item) × (x : List ℕ) × Declares T skips d f line text i x)
         ⊎ ((n : ℕ) × (r : ScriptReason) × FailsAt T skips d f line text n r) }
-    // A fault is on one of the lines, or right behind them.
+    // A fault is in one of the lines, or in the line right after them.
     ensures place { (T : Table) (skips : Bool) (d : Declared) (f : ItemForm) (line text : List ℕ) (n : ℕ)
         (r : ScriptReason) → FailsAt T skips d f line text n r → n ≤ line_count text + 2 }
-    // What is left behind an item is the end of the text.
+    // The remainder after a declaration is a suffix of the text.
     ensures left { (T : Table) (skips : Bool) (d : Declared) (f : ItemForm) (line text : List ℕ) (i : Item)
         (x : List ℕ) → Declares T skips d f line text i x → (passed : List ℕ) × (text ≡ passed ++ x) }
 {
@@ -47,7 +47,7 @@ pub fn one_item()
     redact_or_fault();
 }
 
-/// An item that is declared is new, and with it what is declared stays sound.
+/// Each declaration that is read is new, and adding it preserves validity.
 pub fn stays_sound()
     ensures new { (T : Table) (skips : Bool) (d : Declared) (f : ItemForm) (line text : List ℕ) (i : Item) (x : List ℕ)
         → Declares T skips d f line text i x → IsNew d i }

@@ -1,11 +1,12 @@
-//! Tenants and policies, as scripts and the inputs of `audit` declare them.
+//! Declarations of tenants and policies, in scripts and in the inputs of `audit`.
 //!
-//! [`ItemForm::of`] tells which item a line begins, [`read_item`] reads it with the lines of its block, or tells which of
-//! its lines is at fault first, and [`Declarations`] keep what was read. `specs/Items.antt` says what the lines of an
-//! item declare and which of them is at fault, `specs/Blocks.antt` where a block ends, and `specs/Declarations.antt`
-//! what holds of what is declared. It stands on `mrpc_table`, `policy_access`, `policy_rate`, `policy_redact`,
-//! `engine_core` and `script_words`. The layers above use one contract: behind what is declared, lines begin with one
-//! item or have one first fault.
+//! [`ItemForm::of`] recognizes the first line of a declaration. [`read_item`] reads a declaration with the lines of its
+//! block, or returns its first fault. [`Declarations`] keeps what was read.
+//!
+//! `specs/Items.antt` defines what the lines of a declaration mean, and their first fault. `specs/Blocks.antt` defines
+//! where a block ends, and `specs/Declarations.antt` which declarations are valid. The crate depends on `mrpc_table`,
+//! `policy_access`, `policy_rate`, `policy_redact`, `engine_core` and `script_words`. Its one contract for the layers
+//! above: after some declarations, lines that start one have exactly one next declaration, or exactly one first fault.
 #![tactic(auto)]
 
 mod block;

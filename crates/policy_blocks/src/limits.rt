@@ -1,4 +1,4 @@
-//! The limits of declarations, which the definitions share.
+//! The limit of declarations, which definitions use too.
 
-/// How many tenants are declared at most.
+/// The largest number of tenants.
 pub const MAX_TENANTS: usize = 16;

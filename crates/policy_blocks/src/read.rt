@@ -1,4 +1,4 @@
-//! Items from their lines.
+//! Reads declarations from their lines.
 
 ghost use Rattle.std.specs.Prelude.{◌≡◌, ℕ, List, IfOk, IfErr, MatchResult};
 ghost use Rattle.mrpc_table.specs.Valid.{IsValid};
@@ -25,25 +25,25 @@ use policy_redact::{one_fault as one_redact_fault, read_redact, text_or_fault as
 use script_words::{Keyword, Said, ScriptFault, keyword_at, name_at, number_at};
 use std::alloc::Global;
 
-/// The lines at which an item begins.
+/// The text of a declaration, split after its first line.
 #[derive(Clone, Copy)]
 pub struct ItemLines<'a> {
     /// The form of its first line.
     pub form: ItemForm,
     /// Its first line, without its line feed.
     pub line: &'a [u8],
-    /// The text behind that line.
+    /// The text after that line.
     pub behind: &'a [u8],
 }
 
-/// The item that lines begin, and the text that is left behind it. Lines that are empty or begin with `#` are skipped in
-/// a block, or aren't, which makes them lines of its policy. It takes time in proportion to the item, but for the look-up
-/// of names.
+/// Reads a declaration, and returns it with the remainder of the text after it. If `skips` is true, a block's lines
+/// that are empty or start with `#` are skipped; otherwise they are lines of its policy. Apart from look-ups of names,
+/// the time is linear in the length of the declaration.
 ///
 /// # Errors
 ///
-/// [`ScriptFault::At`] has the first line at fault, counted from 1 at the item's first line, and its first reason;
-/// [`ScriptFault::Memory`] comes where no memory was found.
+/// [`ScriptFault::At`] has the first line with a fault, counted from 1 at the declaration's first line, and its first
+/// reason. [`ScriptFault::Memory`] means out of memory.
 pub fn read_item<'a>(
     alloc: Global,
     table: &Table,
@@ -52,14 +52,14 @@ pub fn read_item<'a>(
     skips: bool,
 ) -> Result<(Item, &'a [u8]), ScriptFault>
     requires { IsValid table.now }
-    // What is read is what the lines declare.
+    // The result is what the lines declare.
     ensures read { IfOk result (λ r. Declares table.now skips declared.now lines.entry.form lines.entry.line.now
         lines.entry.behind.now r.0 r.1.now) }
-    // What the lines declare is read, unless memory runs out.
+    // If the lines declare something, the call returns it, unless it runs out of memory.
     ensures only { (i : TheItem) (rest : List ℕ) → Declares table.now skips declared.now lines.entry.form
         lines.entry.line.now lines.entry.behind.now i rest
         → MatchResult result (λ r. (r.0 ≡ i) × (r.1.now ≡ rest)) (λ e. e ≡ OutOfMemory) }
-    // A fault is that of the lines: the first line at fault, with its first reason.
+    // A fault is the lines': the first line with a fault, and its first reason.
     ensures fault { IfErr result (IsFaultOf table.now skips declared.now lines.entry.form lines.entry.line.now
         lines.entry.behind.now) }
 {
@@ -106,7 +106,7 @@ fn tenant_of(alloc: Global, words: &[Said<'_>]) -> Result<Item, Memory>
     }))
 }
 
-// The policy under the name that stands behind `policy`.
+// Gives the policy the name that follows the word `policy`.
 fn named(alloc: Global, words: &[Said<'_>], policy: Policy) -> Result<Item, Memory>
     ensures { IfOk result (λ i. i ≡ named (name_at (meanings_of words.now) 1) policy) }
 {

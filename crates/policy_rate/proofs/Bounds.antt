@@ -1,4 +1,4 @@
--- What a level is at most, and how many charges a time pays for.
+-- The maximum of a level, and the number of charges that a period pays for.
 use Rattle.std.proofs.Common.{◌≡◌, ℕ, ◌+◌, ◌-◌, ◌*◌, ◌/◌, ◌≤◌, ◌<◌, min, max, List, [], ◌∷◌, ◌++◌, refl, ap, arith}
 use Rattle.std.proofs.Math.Nat.{min-le_left, min-le_right, le-div_iff_mul-le}
 use Rattle.policy_rate.specs.Level.{IsRate, BucketHappening, moment, charge, upgrade, full_level, level, rate_after, moment_after, charges, IsPaid, HasNoUpgrade}
@@ -10,33 +10,33 @@ level-le-full first start (moment now ∷ past) = min-le_left _ _
 level-le-full first start (charge ∷ past) = omega (arith, level-le-full first start past)
 level-le-full first start (upgrade new ∷ past) = min-le_left _ _
 
--- without an upgrade the policy in force stays
+-- without an upgrade the policy in force is unchanged
 rate_after-append : (first : Rate) (past recent : List BucketHappening) → HasNoUpgrade recent → rate_after first (recent ++ past) ≡ rate_after first past
 rate_after-append first past [] same = refl
 rate_after-append first past (moment now ∷ recent) same = rate_after-append first past recent same
 rate_after-append first past (charge ∷ recent) same = rate_after-append first past recent same
 rate_after-append first past (upgrade new ∷ recent) same = absurd same
 
--- the moment never falls
+-- the timestamp never falls
 moment_after-append : (start : ℕ) (past recent : List BucketHappening) → moment_after start past ≤ moment_after start (recent ++ past)
 moment_after-append start past [] = omega arith
 moment_after-append start past (moment now ∷ recent) = omega (arith, moment_after-append start past recent)
 moment_after-append start past (charge ∷ recent) = moment_after-append start past recent
 moment_after-append start past (upgrade new ∷ recent) = moment_after-append start past recent
 
--- what two stretches of time add is what the whole adds
+-- two consecutive periods add what the whole period adds
 joined_time : (amount from to now : ℕ) → from ≤ to → amount * (to - from) + amount * (now - to) ≡ amount * (max to now - from)
 joined_time amount from to now later =
     let split : (to - from) + (now - to) ≡ max to now - from = omega arith in
     omega (arith, ap (λ n. amount * n) split)
 
--- a step of the clock pays for what it adds
+-- advancing the clock pays for what it adds
 clocked : (spent full before level amount from to now : ℕ) → spent + level ≤ before + amount * (to - from) → from ≤ to
     → spent + min full (level + amount * (now - to)) ≤ before + amount * (max to now - from)
 clocked spent full before level amount from to now paid later =
     omega (arith, min-le_right full (level + amount * (now - to)), joined_time amount from to now later)
 
--- what the calls cost, with what is left, is no more than what there was and what time added
+-- the cost of the calls and the remaining level are at most the first level and what time added
 paid_for : (first : Rate) (start : ℕ) (past recent : List BucketHappening) → IsPaid first start (recent ++ past) → HasNoUpgrade recent
     → charges recent * (rate_after first past).per + level first start (recent ++ past)
     ≤ level first start past + (rate_after first past).amount * (moment_after start (recent ++ past) - moment_after start past)

@@ -1,4 +1,4 @@
--- The level of a rate policy's bucket, from what happened to its attachment (this project's own).
+-- The level of a rate policy's bucket, by the events of its attachment (this project's own).
 use Rattle.std.specs.Prelude.{ℕ, ◌+◌, ◌-◌, ◌*◌, ◌/◌, ◌≤◌, min, max, List, [], ◌∷◌}
 use Rattle.policy_rate.specs.declared.rate.Rate.{Rate}
 
@@ -11,27 +11,26 @@ pub record IsRate (r : Rate) : Type 0 where
   pub burst_from : 1 ≤ r.burst
   pub burst_to : r.burst ≤ 1000000
 
--- what a full bucket holds: the cost of as many calls as its burst
+-- the level of a full bucket: the cost of `burst` calls
 abbrev pub full_level : Rate → ℕ
 full_level r = r.burst * r.per
 
--- a level after some milliseconds: each adds `amount`, and no bucket is more than full
+-- a level after some milliseconds: each adds `amount`, up to a full bucket
 abbrev pub level_after : Rate → ℕ → ℕ → ℕ
 level_after r level passed = min (full_level r) (level + r.amount * passed)
 
--- a level under a new policy: it pays for as many calls as before, rounded down, and is no more than full
+-- a level under a new policy: it pays for as many calls as before, rounded down, up to a full bucket
 abbrev pub converted_level : Rate → Rate → ℕ → ℕ
 converted_level old new level = min (full_level new) (level * new.per / old.per)
 
--- what happens to an attachment: the clock shows a moment in milliseconds, a call is charged, or the
--- policy is replaced
+-- an event of an attachment: a timestamp in milliseconds, a charged call, or a new policy
 pub data BucketHappening : Type 0 where
   moment : ℕ → BucketHappening
   charge : BucketHappening
   upgrade : Rate → BucketHappening
 
--- The past of an attachment is the list of what happened to it, the latest first. `first` is the policy
--- that was attached, and `start` the moment of the attachment.
+-- The past of an attachment is the list of its events, the latest first. `first` is the policy that was attached, and
+-- `start` the timestamp of the attachment.
 
 -- the policy in force
 abbrev pub rate_after : Rate → List BucketHappening → Rate
@@ -40,14 +39,14 @@ rate_after first (moment now ∷ past) = rate_after first past
 rate_after first (charge ∷ past) = rate_after first past
 rate_after first (upgrade new ∷ past) = new
 
--- the latest moment; a lower one counts as the one before
+-- the latest timestamp; an earlier one counts as the one before it
 abbrev pub moment_after : ℕ → List BucketHappening → ℕ
 moment_after start [] = start
 moment_after start (moment now ∷ past) = max (moment_after start past) now
 moment_after start (charge ∷ past) = moment_after start past
 moment_after start (upgrade new ∷ past) = moment_after start past
 
--- the level: a bucket begins full, time fills it, a call costs `per`, and an upgrade converts it
+-- the level: a bucket starts full, time fills it, a call costs `per`, and an upgrade converts it
 abbrev pub level : Rate → ℕ → List BucketHappening → ℕ
 level first start [] = full_level first
 level first start (moment now ∷ past) =
@@ -55,14 +54,14 @@ level first start (moment now ∷ past) =
 level first start (charge ∷ past) = level first start past - (rate_after first past).per
 level first start (upgrade new ∷ past) = converted_level (rate_after first past) new (level first start past)
 
--- each call was charged where the level had its cost
+-- each call was charged at a level that covered its cost
 abbrev pub IsPaid : Rate → ℕ → List BucketHappening → Type 0
 IsPaid first start [] = Unit {0}
 IsPaid first start (moment now ∷ past) = IsPaid first start past
 IsPaid first start (charge ∷ past) = ((rate_after first past).per ≤ level first start past) × IsPaid first start past
 IsPaid first start (upgrade new ∷ past) = IsPaid first start past
 
--- how many calls were charged
+-- the number of charged calls
 abbrev pub charges : List BucketHappening → ℕ
 charges [] = 0
 charges (moment now ∷ past) = charges past

@@ -5,26 +5,26 @@ ghost use Rattle.policy_rate.specs.Level.{IsRate, full_level, level_after, conve
 
 use crate::rate::Rate;
 
-/// What an attachment of a rate policy may still spend. A call costs the `per` of the policy.
+/// What an attachment of a rate policy may still spend. A call costs the `per` of its policy.
 #[derive(Clone, Copy)]
 pub struct Bucket {
-    /// What it holds.
+    /// The current level.
     pub level: u64,
-    /// The latest moment that it was shown, in milliseconds.
+    /// The latest timestamp, in milliseconds.
     pub last: u64,
 }
 
-/// What became of a call that was to be charged.
+/// The outcome of charging a call.
 #[derive(Clone, Copy, PartialEq, Eq)]
 pub enum Step {
-    /// The call was charged, and this is the level after it.
+    /// The call was charged; `level` is the level afterwards.
     Pass { level: u64 },
     /// The level is below the cost of a call. Nothing changed.
     Short { level: u64, cost: u64 },
 }
 
 impl Bucket {
-    /// A full bucket, at the moment of the attachment. It takes no memory, as no call of a bucket does.
+    /// A full bucket, with the timestamp of the attachment. Like every call of a bucket, it allocates nothing.
     pub fn full(rate: &Rate, now: u64) -> Bucket
         requires { IsRate rate.now }
         ensures level { result.level ≡ full_level rate.now }
@@ -36,8 +36,8 @@ impl Bucket {
         }
     }
 
-    /// Brings the bucket to a moment: what the milliseconds since the last one add, as far as the bucket
-    /// has room. A lower moment counts as the last one.
+    /// Advances the bucket to a timestamp. It adds `amount` for each millisecond since the last one, up to a full
+    /// bucket. An earlier timestamp counts as the last one.
     pub fn clock(&mut self, rate: &Rate, now: u64)
         requires { IsRate rate.now }
         ensures level { self.new.level ≡ level_after rate.now self.old.level (now - self.old.last) }
@@ -49,7 +49,7 @@ impl Bucket {
         self.last = self.last.max(now);
     }
 
-    /// Charges a call, where the level has its cost.
+    /// Charges a call, if the level covers its cost.
     pub fn step(&mut self, rate: &Rate) -> Step
         ensures pass { rate.now.per ≤ self.old.level → result ≡ Step.Pass self.new.level }
         ensures charged { rate.now.per ≤ self.old.level → self.new.level ≡ self.old.level - rate.now.per }
@@ -68,8 +68,8 @@ impl Bucket {
         Step::Pass { level: self.level }
     }
 
-    /// Takes the level over into another policy, in which a call costs the `per` of the new one: as many
-    /// calls as before may be charged, rounded down, as far as the new bucket has room.
+    /// Converts the level to another policy, in which a call costs the new `per`. As many calls as before may be
+    /// charged, rounded down, up to a full new bucket.
     pub fn convert(&mut self, old: &Rate, new: &Rate)
         requires old { IsRate old.now }
         requires new { IsRate new.now }
@@ -81,7 +81,7 @@ impl Bucket {
     }
 }
 
-// What a full bucket holds.
+// The level of a full bucket.
 fn full_level(rate: &Rate) -> u64
     requires { IsRate rate.now }
     ensures { result ≡ full_level rate.now }

@@ -1,17 +1,17 @@
-//! What holds of each past of an attachment. These functions do nothing; their clauses hold.
+//! Laws of each past of an attachment. The functions have no effect: each clause is a law.
 
 ghost use Rattle.std.specs.Prelude.{◌+◌, ◌-◌, ◌*◌, ◌/◌, ◌≤◌, ◌++◌, ℕ, List};
 ghost use Rattle.policy_rate.specs.Level.{IsRate, BucketHappening, full_level, level, moment_after, rate_after, charges, IsPaid, HasNoUpgrade};
 ghost use Rattle.policy_rate.specs.declared.rate.Rate.{Rate};
 
-/// A bucket never holds more than a full one of the policy then in force.
+/// A bucket never holds more than a full one under the policy in force.
 pub fn bounded_level()
     ensures { (first : Rate) (start : ℕ) (past : List BucketHappening)
         → level first start past ≤ full_level (rate_after first past) }
 {}
 
-/// Between two moments without an upgrade an attachment is charged for no more calls than a full bucket and the time
-/// between them pay for, where each call was charged at a level that had its cost.
+/// Between two timestamps without an upgrade, an attachment is charged for at most as many calls as a full bucket and
+/// the time between them pay for. The condition: each call was charged at a level that covered its cost.
 pub fn bounded_charges()
     ensures { (first : Rate) (start : ℕ) (past recent : List BucketHappening) → IsRate (rate_after first past)
         → IsPaid first start (recent ++ past) → HasNoUpgrade recent

@@ -1,10 +1,10 @@
-//! Rate policies: how many calls may be charged in a time.
+//! Rate policies: how many calls may be charged in a period.
 //!
-//! A policy of `amount` calls per `per` milliseconds with a burst of `burst` calls keeps a [`Bucket`]
-//! for each place where it is attached. A call costs `per`, a full bucket has `burst * per`, and each
-//! millisecond adds `amount`. `specs/Level.antt` says what the level is after moments, charges and
-//! upgrades. It stands on no crate of the project. The layers above use one contract: a bucket's level
-//! follows its past; of paid ones the charges between two moments without an upgrade are bounded.
+//! A policy of `amount` calls per `per` milliseconds, with a burst of `burst` calls, keeps a [`Bucket`] for each of
+//! its attachments. A call costs `per`, a full bucket has `burst * per`, and each millisecond adds `amount`.
+//! `specs/Level.antt` defines the level after timestamps, charges and upgrades. The crate depends on no other crate
+//! of the project. The layers above use one contract. A bucket's level follows from its past. If every charge was
+//! covered, the charges between two timestamps without an upgrade are bounded.
 #![tactic(auto)]
 
 mod bucket;

@@ -1,4 +1,4 @@
--- What is said of a line, and what stands against it.
+-- The content of a line, and the reasons against it.
 use Rattle.std.proofs.Common.{◌≡◌, ℕ, ◌≤◌, Bool, true, false, List, Option, Some, None, Ok, Err, refl, arith}
 use Rattle.std.specs.Prelude.{nat_lt, length, option_map, option_and_then, if◌then◌else◌}
 use Rattle.std.proofs.lemmas.Grind.{common_steps}
@@ -16,7 +16,7 @@ use Rattle.policy_redact.specs.Texts.{path_in_call, clear_of, clear_in, said_cle
 use Rattle.policy_redact.specs.declared.line.ClearLine.{ClearLine}
 use Rattle.policy_redact.specs.declared.redact.Clear.{Clear}
 
--- ---- a clear is said where it is said
+-- ---- the clear of a line is the one that is read
 
 at_to : (l : ClearLine) (method : ℕ) (p : Option Path) (c : Clear) → said_at l method p ≡ Ok c → option_map (clear_of method l.sort) p ≡ Some c
 at_to l method None c e = absurd cc
@@ -50,7 +50,7 @@ says T line c e = in_to T (line_of line) c e
 pub is_said : (T : Table) (line : List ℕ) (c : Clear) → said_clear T line ≡ Some c → said_in T (line_of line) ≡ Ok c
 is_said T line c e = in_from T (line_of line) c e
 
--- ---- a reason stands against a line where it is the answer
+-- ---- a reason is against a line if the reader returns it
 
 not_below : (m n : ℕ) → n ≤ m → nat_lt m n ≡ false
 not_below m n le = grind (arith, common_steps)

@@ -8,7 +8,7 @@ use Rattle.mrpc_table.specs.Weight.{weight, content_weight, item_weight}
 use Rattle.mrpc_table.specs.PathTrees.{AscendsFrom, HoldsAscending, IsAscendingItem}
 use Rattle.policy_redact.specs.Leaving.{without, content_without, item_without}
 
--- ---- the set alone counts
+-- ---- only the set of paths counts
 
 pub without-same : (p q : List ℕ → Bool) (t : Node) → ((path : List ℕ) → p path ≡ q path) → without p t ≡ without q t
 without-same p q t same = let e : p ≡ q = λ i path. same path i in ap (λ (at : List ℕ → Bool). without at t) e
@@ -63,7 +63,7 @@ mutual
   item_without-without p q (run bytes) = refl
   item_without-without p q (node t) = ap node (without-without p q t)
 
--- ---- what is left ascends, and is no larger
+-- ---- the resulting tree ascends, and is no larger
 
 pub lower : (low last : ℕ) (t : Node) → low ≤ last → AscendsFrom last t → AscendsFrom low t
 lower low last no_fields le up = tt
@@ -110,7 +110,7 @@ pub above : (t : Node) (last n : ℕ) (path : List ℕ) → AscendsFrom last t �
 above no_fields last n path up le = refl
 above (field m c t) last n path up le = other m n path c t (omega (arith, up.0)) ∙ ap (field m c) (above t m n path up.2 (omega (arith, up.0)))
 
--- ---- what is left is the tree, or lighter
+-- ---- the result is the tree itself, or a lighter one
 
 no_heavier : (t u : Node) → (t ≡ u) ⊎ (weight t < weight u) → weight t ≤ weight u
 no_heavier t u (inl same) = omega (arith, ap weight same)

@@ -65,7 +65,7 @@ pub same-lines : (a b : List Clear) (call : Call) → ((clear : Clear) → Conta
 same-lines a b call same =
     without-same (is_listed a call) (is_listed b call) call.tree (λ path. any_same (λ (clear : Clear). is_for clear call && is_at clear path) a b same)
 
--- one line more
+-- one more line
 pub one-more : (clears : List Clear) (i : ℕ) (clear : Clear) (call : Call) → i < length clears → clear ≡ get_or clears i clear
     → cleared (take (i + 1) clears) call ≡ without (λ path. is_for clear call && is_at clear path) (cleared (take i clears) call)
 one-more clears i clear call within at =
@@ -76,14 +76,14 @@ one-more clears i clear call within at =
     (or_false (is_for clear call && is_at clear path)))
     ∙ sym (without-without (is_listed (take i clears) call) (λ path. is_for clear call && is_at clear path) call.tree)
 
--- what the clears leave ascends
+-- the tree after the clears ascends
 pub cleared-ascends : (clears : List Clear) (call : Call) → IsAscending call.tree → IsAscending (cleared clears call)
 cleared-ascends clears call up = without-ascends (is_listed clears call) 0 call.tree up
 
 pub nothing-listed : (call : Call) → cleared [] call ≡ call.tree
 nothing-listed call = without-nothing call.tree
 
--- the call that one line more leaves
+-- the call after one more line
 pub more-cleared : (clears : List Clear) (i : ℕ) (clear : Clear) (call now next : Call) → i < length clears
     → clear ≡ get_or clears i clear → now ≡ cleared_call (take i clears) call
     → next ≡ record now { tree = without (λ path. is_for clear now && is_at clear path) now.tree } → next ≡ cleared_call (take (i + 1) clears) call
@@ -92,7 +92,7 @@ more-cleared clears i clear call now next within at so_far step =
     ∙ ap (λ (c : Call). record c { tree = without (λ path. is_for clear c && is_at clear path) c.tree }) so_far
     ∙ ap (λ (t : Node). record call { tree = t }) (sym (one-more clears i clear call within at))
 
--- a tree that changed before or changes now is smaller, and one that did not is the same
+-- if the tree changed before or changes now, it is smaller; otherwise it is the same
 lighter : (start now next : Call) → weight now.tree < weight start.tree → weight next.tree < weight now.tree → weight next.tree < weight start.tree
 lighter start now next before after = omega arith
 

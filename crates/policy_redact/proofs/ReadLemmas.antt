@@ -1,4 +1,4 @@
--- Lines in front of a place, and one more; texts and first faults.
+-- The lines before an index, and one more; texts and first faults.
 use Rattle.std.proofs.Common.{◌≡◌, ℕ, zero, suc, ◌+◌, ◌-◌, ◌<◌, ◌≤◌, ◌==◌, ◌⊎◌, List, [], ◌∷◌, ◌++◌, length, get_or}
 use Rattle.std.proofs.Common.{take, drop, Option, Some, Result, Ok, Err, refl, sym, ap, subst, ◌∙◌, arith, inl, inr}
 use Rattle.std.proofs.Common.{add-one}
@@ -59,12 +59,12 @@ said-at T (l ∷ ls) (c ∷ cs) (suc i) line each at = said-at T ls cs i line ea
 pub one-policy : (T : Table) (lines : List (List ℕ)) (p q : List Clear) → IsTextOf T lines p → IsTextOf T lines q → p ≡ q
 one-policy T lines p q t u = said-same T lines p q t.each u.each
 
--- ---- what stands against the line at a place
+-- ---- the reasons against the line at an index
 
 same_line : (o : Option (List ℕ)) (a b : List ℕ) → o ≡ Some a → o ≡ Some b → a ≡ b
 same_line o a b e d = cc
 
--- of the first 64 lines only the line itself speaks
+-- for the first 64 lines the reason depends on the line alone
 here-to : (T : Table) (lines : List (List ℕ)) (i : ℕ) (line : List ℕ) (q : RuleReason) → i < 64
     → slice_get lines i ≡ Some line → IsAgainstAt T lines i q → said_in T (line_of line) ≡ Err q
 here-to T lines i line q few at (at_line other e a) =
@@ -78,7 +78,7 @@ one_answer r q p e d = cc
 not_both : (r : Result Clear RuleReason) (c : Clear) (q : RuleReason) → r ≡ Ok c → r ≡ Err q → ⊥
 not_both r c q e d = cc
 
--- ---- one line more
+-- ---- one more line
 
 below_or_at : (i : ℕ) (P : ℕ → Type 0) → ((j : ℕ) → j < i → P j) → P i → (j : ℕ) → j < i + 1 → P j
 below_or_at i P below here j lt = elim (cases_lt j i) [ inl less ↦ below j less | inr more ↦ let same : i ≡ j = omega arith in subst P same here ]
@@ -246,7 +246,7 @@ pub text-or-first-fault : (T : Table) (lines : List (List ℕ)) → TextOrFault 
 text-or-first-fault T [] = inr (1, reason.Word, fault-empty T [] refl)
 text-or-first-fault T (line ∷ lines) = rest-either T (line ∷ lines) (line ∷ lines) 0 [] (read-nothing T (line ∷ lines) (omega arith)) refl
 
--- ---- what the reader found
+-- ---- the reader's result
 
 pub fault-found : (T : Table) (lines : List (List ℕ)) (i : ℕ) (clears : List Clear) (line : List ℕ) (q : RuleReason)
     (e : RuleFault) → AreRead T lines i clears → i < 64 → i < length lines → line ≡ get_or lines i line

@@ -14,7 +14,7 @@ use Rattle.mrpc_table.specs.PathTrees.{AscendsFrom, HoldsAscending, IsAscending}
 use Rattle.policy_redact.specs.Leaving.{without, content_without}
 use Rattle.policy_redact.proofs.Leaving.{other, at_end, on_way, above}
 
--- ---- no field of the number
+-- ---- no field with the number
 
 none_by : (same : Bool) (m n : ℕ) (c : Content) (rest : Option Content) → (m == n) ≡ same → (if same then Some c else rest) ≡ None → (m ≢ n) × (rest ≡ None)
 none_by true m n c rest is none = absurd cc
@@ -29,7 +29,7 @@ none-under (field m c t) n path none =
     let less = none_here m n c t none in
     other m n path c t less.0 ∙ ap (field m c) (none-under t n path less.1)
 
--- ---- a field that goes
+-- ---- a field that is removed
 
 above_first : (fs : List (ℕ × FieldValue)) (last i n : ℕ) (d : ℕ × FieldValue) → AscendsFrom last (node_of fs) → i < length fs → (get_or fs i d).0 ≡ n → last < n
 above_first [] last i n d up within at = absurd (omega arith)
@@ -77,14 +77,14 @@ lighter-inside [] i d v within less = absurd (omega arith)
 lighter-inside (f ∷ fs) zero d v within less = omega (arith, less)
 lighter-inside (f ∷ fs) (suc i) d v within less = omega (arith, lighter-inside fs i d v (omega arith) less)
 
--- the same is left where a field has what it had
+-- the tree is unchanged if the field's content is
 pub same-inside : (fs : List (ℕ × FieldValue)) (i : ℕ) (d v : ℕ × FieldValue) → i < length fs
     → v.0 ≡ (get_or fs i d).0 → content_of v.1 ≡ content_of (get_or fs i d).1 → node_of (set fs i v) ≡ node_of fs
 same-inside [] i d v within number content = absurd (omega arith)
 same-inside (f ∷ fs) zero d v within number content = ap (λ (k : ℕ). field k (content_of v.1) (node_of fs)) number ∙ ap (λ (c : Content). field f.0 c (node_of fs)) content
 same-inside (f ∷ fs) (suc i) d v within number content = ap (field f.0 (content_of f.1)) (same-inside fs i d v (omega arith) number content)
 
--- what a field has ascends
+-- the content of a field ascends
 pub held : (fs : List (ℕ × FieldValue)) (last i : ℕ) (d : ℕ × FieldValue) → AscendsFrom last (node_of fs) → i < length fs → HoldsAscending (content_of (get_or fs i d).1)
 held [] last i d up within = absurd (omega arith)
 held (f ∷ fs) last zero d up within = up.1
@@ -106,7 +106,7 @@ goes_on : (way : List ℕ) (number : ℕ) → (m : ℕ) × (path : List ℕ) × 
 goes_on [] number = (number, [], refl)
 goes_on (m ∷ way) number = (m, way ++ number ∷ [], refl)
 
--- what a path leaves, where the message that it goes through first has less
+-- the tree without the field at a path, if the first message on its way is without the field at the path's remainder
 pub stepped : (fs : List (ℕ × FieldValue)) (i : ℕ) (way : List ℕ) (number : ℕ) (f : ℕ × FieldValue) (new : FieldValue)
     → IsAscending (node_of fs) → 1 ≤ length way → i < length fs
     → f ≡ get_or fs i f → (get_or fs i f).0 ≡ get_or way 0 0 → content_of new ≡ content_without (bytes_eq (rest_of way ++ number ∷ [])) (content_of f.1)

@@ -14,7 +14,7 @@ use Rattle.policy_redact.specs.Redacting.{cleared}
 use Rattle.policy_redact.specs.Texts.{said_clear, IsTextOf}
 use Rattle.policy_redact.specs.declared.redact.Clear.{Clear}
 
--- ---- what is left of a tree
+-- ---- the tree after clears
 
 abbrev to : ℕ → Path
 to n = record { way = []; number = n; kind = Uint64; label = Plain }
@@ -34,7 +34,7 @@ reply t = record { conn = 1; seq = 1; method = 0; number = 9; tree = t }
 abbrev two : Node
 two = field 1 (one (number 7)) (field 2 (one (number 9)) no_fields)
 
--- a message 3 that has two fields, and a field 4
+-- a message 3 with two fields, and a field 4
 abbrev nested : Node
 nested = field 3 (one (node two)) (field 4 (one (number 5)) no_fields)
 
@@ -56,7 +56,7 @@ all_lines_count = refl
 behind_a_message : cleared (of_requests (through 3 1) ∷ []) (request nested) ≡ field 3 (one (node (field 2 (one (number 9)) no_fields))) (field 4 (one (number 5)) no_fields)
 behind_a_message = refl
 
--- the last field of a message leaves the message
+-- clearing the last field of a message keeps the message
 an_empty_message_stays : cleared (of_requests (through 3 1) ∷ of_requests (through 3 2) ∷ []) (request nested) ≡ field 3 (one (node no_fields)) (field 4 (one (number 5)) no_fields)
 an_empty_message_stays = refl
 
@@ -66,7 +66,7 @@ behind_no_message = refl
 behind_a_number : cleared (of_requests (through 4 1) ∷ []) (request nested) ≡ nested
 behind_a_number = refl
 
--- of two paths of which one goes through the other either order gives one tree
+-- two paths, one through the end of the other, give one tree in either order
 through_first : cleared (of_requests (through 3 1) ∷ of_requests (to 3) ∷ []) (request nested) ≡ field 4 (one (number 5)) no_fields
 through_first = refl
 
@@ -154,7 +154,7 @@ a_line_out_of_form : IsAgainstAt small (codes "clear method 0" ∷ []) 0 reason.
 unfolding line_of
 a_line_out_of_form = at_line (codes "clear method 0") refl (out_of_form refl refl)
 
--- an index of 17 bits is at fault before a path that leads nowhere
+-- an index of 17 bits is at fault before a path that leads to no field
 an_index_too_large : IsAgainstAt small (codes "clear method 65536 9" ∷ []) 0 reason.Number
 unfolding line_of
 an_index_too_large = at_line (codes "clear method 65536 9") refl (large_index _ refl refl refl)
@@ -163,7 +163,7 @@ a_method_that_is_missing : IsAgainstAt small (codes "clear method 1 1" ∷ []) 0
 unfolding line_of
 a_method_that_is_missing = at_line (codes "clear method 1 1") refl (no_method _ 1 refl refl (omega arith) refl)
 
--- a way goes through no number
+-- a way can't lead through a number
 a_path_through_a_number : IsAgainstAt small (codes "clear method 0 1.1" ∷ []) 0 reason.Path
 unfolding line_of
 a_path_through_a_number = at_line (codes "clear method 0 1.1") refl (no_field _ 0 refl refl refl refl)

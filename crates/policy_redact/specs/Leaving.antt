@@ -1,9 +1,9 @@
--- What is left of a tree without the fields at some paths. A path is the numbers of the messages on its way and, at
--- its end, of the field: it leads through messages that stand alone in their fields, as each path does.
+-- A tree without the fields at some paths. A path is the field numbers of the messages on its way, and last that of
+-- the field. It leads through single messages, never through elements or entries.
 use Rattle.std.specs.Prelude.{ℕ, Bool, if◌then◌else◌, List, [], ◌∷◌}
 use Rattle.mrpc_table.specs.Node.{Node, no_fields, field, Content, one, Item, node}
 
--- without the fields at the paths that meet a test
+-- without the fields at the paths that pass a test
 abbrev mutual
   pub without : (List ℕ → Bool) → Node → Node
   without at no_fields = no_fields

@@ -1,4 +1,4 @@
--- What a line of a redacting policy says, by its form alone (this project's own format).
+-- The content of a line of a redacting policy, by its form alone (this project's own format).
 use Rattle.std.specs.Prelude.{ℕ, ◌&&◌, if◌then◌else◌, List, [], ◌∷◌, codes, Option, None, option_map, option_and_then}
 use Rattle.std.specs.Str.{bytes_eq}
 use Rattle.mrpc_table.specs.Lines.{words_of}
@@ -11,7 +11,7 @@ use Rattle.policy_redact.specs.declared.line.ClearLine.{ClearLine}
 abbrev pub with_path : Decimal → Sort → List ℕ → Option ClearLine
 with_path index sort word = option_map (λ p. record { index = index; sort = sort; path = p }) (path_of word)
 
--- behind the index: `[reply] PATH`
+-- after the index: `[reply] PATH`
 abbrev pub behind_index : Decimal → List (List ℕ) → Option ClearLine
 behind_index index (path ∷ []) = with_path index Request path
 behind_index index (word ∷ path ∷ []) = if bytes_eq word (codes "reply") then with_path index Reply path else None
@@ -25,6 +25,6 @@ line_of_words (first ∷ second ∷ index ∷ words) =
     else None
 line_of_words _ = None
 
--- what a line says, if it is in form
+-- the parsed line; none if the line is malformed
 unfoldable pub line_of : List ℕ → Option ClearLine
 line_of line = line_of_words (words_of line)

@@ -1,4 +1,4 @@
--- The code's own: lines while they are read.
+-- The code's own: lines during reading.
 use Rattle.std.specs.Prelude.{ℕ, ◌<◌, ◌≤◌, List, length, take}
 use Rattle.mrpc_table.specs.PolicyLines.{SayEach}
 use Rattle.mrpc_table.specs.declared.table.Table.{Table}
@@ -8,7 +8,8 @@ use Rattle.policy_redact.specs.Texts.{said_clear}
 use Rattle.policy_redact.specs.declared.limits.TheConstants.{MAX_CLEARS}
 use Rattle.policy_redact.specs.declared.redact.Clear.{Clear}
 
--- The lines in front of a place say these clears, and none is at fault: what each step of reading a redacting policy knows.
+-- The lines before an index are these clears, and none is at fault. This is the invariant of reading a redacting
+-- policy.
 pub record AreRead (T : Table) (lines : List (List ℕ)) (i : ℕ) (clears : List Clear) : Type 0 where
   pub some : 0 < length lines
   pub within : i ≤ length lines

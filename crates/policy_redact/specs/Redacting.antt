@@ -1,4 +1,4 @@
--- What a redacting policy leaves of a call's tree (this project's own).
+-- The tree of a call after a redacting policy (this project's own).
 use Rattle.std.specs.Prelude.{ℕ, ◌==◌, Bool, ◌&&◌, List, [], ◌∷◌, ◌++◌}
 use Rattle.std.specs.List.{list_any}
 use Rattle.std.specs.Str.{bytes_eq}
@@ -11,11 +11,11 @@ use Rattle.mrpc_table.specs.declared.call.Call.{Call}
 use Rattle.policy_redact.specs.Leaving.{without}
 use Rattle.policy_redact.specs.declared.redact.Clear.{Clear}
 
--- the numbers of a path, that of its field the last
+-- the numbers of a path, the field's last
 abbrev pub numbers_of : Path → List ℕ
 numbers_of path = path.way ++ path.number ∷ []
 
--- the clear is of the call's method and sort
+-- the clear is for the call's method and kind (request or reply)
 abbrev pub is_for : Clear → Call → Bool
 is_for clear call = (call.method == clear.method) && is_of_sort clear.sort call.number
 
@@ -27,7 +27,7 @@ is_at clear path = bytes_eq (numbers_of clear.path) path
 abbrev pub is_listed : List Clear → Call → List ℕ → Bool
 is_listed clears call path = list_any (λ clear. is_for clear call && is_at clear path) clears
 
--- what the clears leave of the call's tree: all but the fields at the paths that are listed for the call
+-- the call's tree after the clears: without the fields at the paths that are listed for the call
 abbrev pub cleared : List Clear → Call → Node
 cleared clears call = without (is_listed clears call) call.tree
 
@@ -35,6 +35,6 @@ cleared clears call = without (is_listed clears call) call.tree
 abbrev pub cleared_call : List Clear → Call → Call
 cleared_call clears call = record call { tree = cleared clears call }
 
--- there is a table by which the call's tree fits its type
+-- for some table, the call's tree fits its type
 abbrev pub FitsSomeTable : Call → Type 0
 FitsSomeTable call = (T : Table) × IsCallOf T call

@@ -1,4 +1,4 @@
--- The code's own: what a line says, or the reason that stands against it.
+-- The code's own: the content of a line, or the reason against it.
 use Rattle.std.specs.Prelude.{ℕ, Option, Some, None, Result, Ok, Err}
 use Rattle.mrpc_table.specs.declared.table.Table.{Table}
 use Rattle.mrpc_table.specs.declared.path.Path.{Path}

@@ -12,16 +12,16 @@ use Rattle.policy_redact.specs.declared.limits.TheConstants.{MAX_CLEARS}
 use Rattle.policy_redact.specs.declared.line.ClearLine.{ClearLine}
 use Rattle.policy_redact.specs.declared.redact.Clear.{Clear}
 
--- the path in the message of a method's requests, or of its replies; none where the table lacks the method
+-- the path in the request message or the reply message of a method; none if the table doesn't have the method
 abbrev pub path_in_call : Table → ℕ → Sort → PathWord → Option Path
 path_in_call T method sort p =
     if nat_lt method (length T.methods) then path_in T (message_of T method sort) p else None
 
--- a method, a sort and a path
+-- a method, a kind (request or reply) and a path
 abbrev pub clear_of : ℕ → Sort → Path → Clear
 clear_of method sort path = record { method = method; sort = sort; path = path }
 
--- the clear that a line says
+-- the clear of a line
 abbrev pub clear_in : Table → ClearLine → Option Clear
 clear_in T l =
     option_and_then
@@ -31,7 +31,7 @@ clear_in T l =
 abbrev pub said_clear : Table → List ℕ → Option Clear
 said_clear T line = option_and_then (clear_in T) (line_of line)
 
--- lines are the text of a policy: a line for each clear, of which there is one and not too many
+-- Lines are the text of a policy: one line for each clear. There is at least one, and at most `MAX_CLEARS`.
 pub record IsTextOf (T : Table) (lines : List (List ℕ)) (clears : List Clear) : Type 0 where
   pub each : SayEach (said_clear T) lines clears
   pub some : 0 < length clears

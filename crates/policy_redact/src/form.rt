@@ -1,4 +1,4 @@
-//! Lines by their form.
+//! Parses lines by their form.
 
 ghost use Rattle.std.specs.Prelude.{◌≡◌, IfOk};
 ghost use Rattle.mrpc_table.specs.Lines.{words_of};
@@ -36,7 +36,7 @@ fn behind_index(alloc: Global, index: Decimal, line: &[u8]) -> Result<Option<Cle
     }
 }
 
-// What a line says, or `None` where it is out of form.
+// A parsed line, or `None` if the line is malformed.
 #[tactic(auto, unfolding(crate::specs::Lines::line_of))]
 pub(crate) fn line_of(alloc: Global, line: &[u8]) -> Result<Option<ClearLine>, Memory>
     ensures { IfOk result (λ l. l ≡ line_of line.now) }

@@ -1,4 +1,4 @@
-//! Laws of redacting policies and of their texts. These functions do nothing; their clauses hold.
+//! Laws of redacting policies and of their texts. The functions have no effect: each clause is a law.
 
 ghost use Rattle.std.specs.Prelude.{◌≡◌, ◌<◌, ◌⊎◌, ◌++◌, ◌↔◌, ℕ, List, Contains};
 ghost use Rattle.mrpc_table.specs.Weight.{weight};
@@ -11,7 +11,7 @@ ghost use Rattle.policy_redact.specs.Redacting.{cleared, cleared_call};
 ghost use Rattle.policy_redact.specs.Texts.{IsTextOf};
 ghost use Rattle.policy_redact.specs.declared.redact.Clear.{Clear};
 
-/// Clears in any order, and any number of times, give one tree: what is left depends on which clears there are.
+/// Clears commute, and repeating them changes nothing: the result depends only on which clears there are.
 pub fn any_order()
     ensures of_lines { (a b : List Clear) (call : Call) →
         ((clear : Clear) → Contains a clear ↔ Contains b clear) → cleared a call ≡ cleared b call }
@@ -31,24 +31,24 @@ pub fn stays_normal()
         IsCallOf T call → IsCallOf T (cleared_call clears call) }
 {}
 
-/// What is left is the tree, or a smaller one: the number of its parts falls where anything is cleared.
+/// The result is the tree itself, or a smaller one: its number of parts falls if anything is cleared.
 pub fn gets_smaller()
     ensures { (clears : List Clear) (call : Call) →
         (cleared clears call ≡ call.tree) ⊎ (weight (cleared clears call) < weight call.tree) }
 {}
 
-/// Lines are the text of one policy at most.
+/// Lines are the text of at most one policy.
 pub fn one_policy()
     ensures { (T : Table) (lines : List (List ℕ)) (p q : List Clear) → IsTextOf T lines p → IsTextOf T lines q → p ≡ q }
 {}
 
-/// Lines have one first fault at most.
+/// Lines have at most one first fault.
 pub fn one_fault()
     ensures { (T : Table) (lines : List (List ℕ)) (m n : ℕ) (r q : RuleReason) →
         IsFirstFault T lines m r → IsFirstFault T lines n q → (m ≡ n) × (r ≡ q) }
 {}
 
-/// Lines are the text of a policy or have a first fault, and never both.
+/// Lines are the text of a policy or have a first fault, but never both.
 pub fn text_or_fault()
     ensures either { (T : Table) (lines : List (List ℕ)) →
         ((policy : List Clear) × IsTextOf T lines policy)

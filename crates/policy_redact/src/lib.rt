@@ -1,10 +1,10 @@
 //! Redacting policies: fields that are cleared from the trees of calls.
 //!
-//! [`read_redact`] reads a policy from its lines, or tells the first line at fault; [`Redact::clear`] removes the
-//! listed fields from the tree of a call. `specs/Redacting.antt` says what the clears leave of a tree,
-//! `specs/Texts.antt` which lines are the text of a policy, and `specs/Faults.antt` what stands against lines that
-//! are none. It stands on `mrpc_table`. The layers above use one contract: a tree without the fields at the listed paths
-//! is left, whatever the order of the lines; and lines are the text of one policy or have one first fault.
+//! [`read_redact`] reads a policy from its lines, or returns the first line at fault. [`Redact::clear`] removes the
+//! listed fields from the tree of a call. `specs/Redacting.antt` defines the tree after the clears,
+//! `specs/Texts.antt` which lines are the text of a policy, and `specs/Faults.antt` the faults of other lines. The
+//! crate depends on `mrpc_table`. The layers above use one contract. The result is the tree without the fields at the
+//! listed paths, in whatever order the lines are. Lines are the text of one policy or have one first fault.
 #![tactic(auto)]
 
 mod form;

@@ -1,4 +1,4 @@
 //! The limits of redacting policies, which the definitions share.
 
-/// How many clears a policy has at most.
+/// The maximum number of clears of a policy.
 pub const MAX_CLEARS: usize = 64;

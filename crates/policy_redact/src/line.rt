@@ -1,4 +1,4 @@
-//! What a line of a policy says, by its form alone.
+//! The content of a policy's line, by its form alone.
 
 use mrpc_table::{Decimal, PathWord, Sort};
 
@@ -9,7 +9,7 @@ pub(crate) struct ClearLine {
     pub path: PathWord,
 }
 
-// By hand, so that a drop is one call where it is needed, and not a drop of each part.
+// Written by hand, so that a drop is one call instead of one for each field.
 impl Drop for ClearLine {
     fn drop(self) {
         let ClearLine {

@@ -1,4 +1,4 @@
-//! Redacting policies from their lines.
+//! Reads redacting policies from their lines.
 
 ghost use Rattle.std.specs.Prelude.{◌≡◌, ◌+◌, ◌^◌, ◌<◌, ℕ, List, IfOk, IfErr, MatchResult};
 ghost use Rattle.mrpc_table.specs.Valid.{IsValid};
@@ -18,7 +18,7 @@ use mrpc_table::{
 };
 use std::alloc::Global;
 
-// The path in the message of a method's requests, or of its replies.
+// The path in the request message or the reply message of a method.
 fn path_in_call(
     alloc: Global,
     table: &Table,
@@ -36,7 +36,7 @@ fn path_in_call(
     path.resolve(alloc, table, message)
 }
 
-// The clear that a line says, or the reason that stands against it.
+// The clear of a line, or the reason against the line.
 fn said_in(alloc: Global, table: &Table, line: &[u8]) -> Result<Result<Clear, RuleReason>, Memory>
     requires { IsValid table.now }
     ensures { IfOk result (λ s. s ≡ said_in table.now (line_of line.now)) }
@@ -76,16 +76,17 @@ fn read_lines(alloc: Global, lines: &[Bytes], table: &Table) -> Result<Redact, R
     Ok(Redact::new(clears))
 }
 
-/// The redacting policy that the lines say, or their first fault. Each line is `clear method INDEX [reply] PATH`, and
-/// there are 1 to 64. Methods and paths are those of the table; the last number of a path is any field. It takes time
-/// in proportion to the text, but for the look-up of fields by search. The reasons are `Word` for a line out of form,
-/// for a 65th line, and at line 1 where there is none, `Number` for an index above 65535, and `Path` for a method or
-/// a field that the table lacks. `RuleFault::Memory` comes where memory runs out.
+/// Reads the redacting policy from its lines, or returns their first fault. Each line is `clear method INDEX [reply]
+/// PATH`, and there are 1 to 64. Methods and paths refer to the table; the last number of a path is any field.
+///
+/// The reasons are `Word` for a malformed line, for a 65th line, and at line 1 if there is no line, `Number` for an
+/// index above 65535, and `Path` for a method or a field that the table doesn't have. `RuleFault::Memory` means out
+/// of memory. It takes time in proportion to the text, except that fields are looked up by search.
 pub fn read_redact(alloc: Global, lines: &Lines, table: &Table) -> Result<Redact, RuleFault>
     requires { IsValid table.now }
-    // What is read is what the lines say.
+    // The result is the policy of the lines.
     ensures accepted { IfOk result (λ policy. IsTextOf table.now lines.now policy) }
-    // The text of a policy gives this policy, unless memory runs out.
+    // The text of a policy gives this policy, except when out of memory.
     ensures only { (policy : List TheClear) → IsTextOf table.now lines.now policy →
         MatchResult result (λ read. read ≡ policy) (λ fault. fault ≡ NoMemory) }
     // A fault is the first one of the lines.

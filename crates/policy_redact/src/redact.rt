@@ -1,4 +1,4 @@
-//! A redacting policy, as it was read.
+//! A redacting policy after reading.
 
 ghost use Rattle.std.specs.Prelude.{◌≡◌, ◌≢◌, ◌<◌, ◌≤◌, ◌↔◌, length, IsTrue, IfOk};
 ghost use Rattle.std.specs.Bool.{OnTrue, OnFalse};
@@ -9,17 +9,17 @@ use mrpc_table::{Call, Memory, Path, Sequence, Sort, normal_ascends};
 use std::alloc::Global;
 use std::marker::Model;
 
-/// A field that is cleared, of the requests or of the replies of a method.
+/// A field to clear from the requests or the replies of a method.
 pub struct Clear {
     /// The index of the method in the table.
     pub method: u16,
-    /// Whether it is cleared of requests or of replies.
+    /// Whether it is cleared from requests or from replies.
     pub sort: Sort,
-    /// Where the field stands in a call's tree.
+    /// The path of the field in a call's tree.
     pub path: Path,
 }
 
-// By hand, so that a drop is one call where it is needed, and not a drop of each part.
+// Written by hand, so that a drop is one call instead of one for each field.
 impl Drop for Clear {
     fn drop(self) {
         let Clear {
@@ -42,7 +42,7 @@ impl Clear {
         call.method == self.method && call.is_of(self.sort)
     }
 
-    // Removes the field, where the call is of the method and the sort, and answers whether it was there.
+    // Removes the field, if the call has the method and the kind. Returns whether the field was there.
     fn remove_from(&self, call: &mut Call) -> bool
         requires { IsAscending call.old.tree }
         ensures left { call.new ≡
@@ -67,12 +67,12 @@ impl Clear {
     }
 }
 
-/// A redacting policy: as it is read, 1 to 64 clears. Clauses see their list.
+/// A redacting policy: 1 to 64 clears after reading. Clauses see their list.
 pub struct Redact {
     clears: Sequence<Clear>,
 }
 
-// By hand, so that a drop is one call where it is needed, and not a drop of each part.
+// Written by hand, so that a drop is one call instead of one for each field.
 impl Drop for Redact {
     fn drop(self) {
         let Redact { clears: _clears } = self;
@@ -102,9 +102,11 @@ impl Redact {
         }
     }
 
-    /// Removes from the call's tree the field at each path that is listed for calls of its method and sort, where
-    /// every message on the way is set, and answers whether the tree changed. Each path takes time by the logarithm
-    /// of the fields on its way, and in proportion to those of the message that loses one. It takes no memory.
+    /// Removes listed fields from the call's tree: the field at each path for calls of its method and kind, if each
+    /// message on the way is set. Returns whether the tree changed.
+    ///
+    /// Each path takes time in proportion to the logarithm of the number of fields on its way, and to the fields of
+    /// the message that loses one. It allocates nothing.
     pub fn clear(&self, call: &mut Call) -> bool
         requires { FitsSomeTable call.old }
         // The tree is the old one without the fields at the listed paths, and nothing else changes.

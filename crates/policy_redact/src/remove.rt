@@ -1,4 +1,4 @@
-//! A field that is removed from a tree.
+//! Removes a field from a tree.
 
 ghost use Rattle.std.specs.Prelude.{◌≡◌, ◌<◌, ◌∷◌, [], ◌++◌};
 ghost use Rattle.std.specs.Bool.{OnTrue, OnFalse};
@@ -24,7 +24,7 @@ fn remove_field(tree: &mut Tree, number: u32) -> bool
     true
 }
 
-// Removes it from the message that a field has, if it has one.
+// Removes the field from the message in this content, if there is one.
 #[cycle(remove)]
 fn remove_inside(content: &mut FieldValue, way: &[u32], number: u32) -> bool
     requires { HoldsAscending (content_of content.old) }
@@ -41,7 +41,7 @@ fn remove_inside(content: &mut FieldValue, way: &[u32], number: u32) -> bool
     }
 }
 
-// Removes the field of a number from the message behind a way, where each message on the way is set, and answers
+// Removes the field with a number from the message at the end of a way, if each message on the way is set. Returns
 // whether there was one.
 #[cycle(remove)]
 pub(crate) fn remove_at(tree: &mut Tree, way: &[u32], number: u32) -> bool

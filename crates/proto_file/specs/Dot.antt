@@ -1,4 +1,4 @@
--- The sign between the parts of a full name, which a type's name may begin with.
+-- The byte that separates the parts of a full name, and that a type's name may start with.
 use Rattle.std.specs.Prelude.{ℕ}
 
 abbrev pub dot : ℕ

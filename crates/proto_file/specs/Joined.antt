@@ -1,5 +1,5 @@
--- Files that are resolved together, as if their texts stood one behind another: their declarations in one list each, a
--- start of a later file behind all those of the earlier ones. A file alone is one of them.
+-- Files that are resolved together, as if their texts were concatenated: each kind of declaration is in one list, and
+-- the offsets of a later file come after those of the earlier ones. A file alone is a special case.
 use Rattle.std.specs.Prelude.{◌≡◌, ℕ, List, [], ◌∷◌, Option, Some, None, slice_get, Contains}
 use Rattle.mrpc_table.specs.Names.{parts_of}
 use Rattle.proto_file.specs.declared.file.Word.{Word}
@@ -17,7 +17,7 @@ pub record Joined : Type 0 where
   pub enums : List EnumDecl
   pub services : List ServiceDecl
 
--- a file alone sees itself
+-- a file alone, which sees itself
 abbrev pub alone : File → Joined
 alone F = record {
   heads = (record { «package» = F.package; sees = 0 ∷ [] }) ∷ [];
@@ -26,7 +26,7 @@ alone F = record {
   services = F.services;
 }
 
--- ---- where declarations stand
+-- ---- what encloses a declaration
 
 abbrev pub home_in : ℕ → Option ℕ → Home
 home_in file None = home.File file
@@ -40,7 +40,7 @@ enum_home_of e = home_in e.file e.parent
 
 -- ---- files
 
--- the parts of a package's name; a file without one stands at the root
+-- the parts of a package's name; a file without one is at the root
 abbrev pub package_parts : Option Word → List (List ℕ)
 package_parts None = []
 package_parts (Some w) = parts_of w.name
@@ -49,11 +49,11 @@ abbrev pub package_in : Option Head → List (List ℕ)
 package_in None = []
 package_in (Some p) = package_parts p.package
 
--- the package of the file at a place
+-- the package of the file with an index
 abbrev pub package_at : Joined → ℕ → List (List ℕ)
 package_at F file = package_in (slice_get F.heads file)
 
--- the references of one file may name types and packages of the other
+-- references in one file may name types and packages of the other
 pub record Sees (F : Joined) (file other : ℕ) : Type 0 where
   pub head : Head
   pub at : slice_get F.heads file ≡ Some head

@@ -1,5 +1,5 @@
--- What holds of every file that was read: which places it keeps, which forms its names have, and in which order its
--- names and numbers start in the text.
+-- Invariants of every file that was read: its indices, the forms of its names, and the order in which its names and
+-- numbers start in the text.
 use Rattle.std.specs.Prelude.{◌≡◌, ℕ, ◌<◌, length, List, ◌∷◌, Option, Some, slice_get, IfSome, All, Contains, IsTrue}
 use Rattle.mrpc_table.specs.Names.{is_name_form, is_full_form}
 use Rattle.proto_file.specs.Dot.{dot}
@@ -16,9 +16,9 @@ use Rattle.proto_file.specs.declared.file.RpcDecl.{RpcDecl}
 use Rattle.proto_file.specs.declared.file.ServiceDecl.{ServiceDecl}
 use Rattle.proto_file.specs.declared.file.File.{File}
 
--- ---- places, and forms of names
+-- ---- indices, and forms of names
 
--- it is one of the first n places, or none
+-- none, or an index below n
 abbrev pub IsPlaceBelow : ℕ → Option ℕ → Type 0
 IsPlaceBelow n place = IfSome place (λ i. i < n)
 
@@ -29,18 +29,18 @@ HasName w = IsTrue (is_name_form w.name)
 abbrev pub HasFullName : Word → Type 0
 HasFullName w = IsTrue (is_full_form w.name)
 
--- a full name, also behind a dot
+-- a full name, optionally after a dot
 pub data HasTypeName (w : Word) : Type 0 where
   relative : IsTrue (is_full_form w.name) → HasTypeName w
   absolute : (full : List ℕ) → w.name ≡ dot ∷ full → IsTrue (is_full_form full) → HasTypeName w
 
--- each type that stands in the type of a field has such a name
+-- each type name in the type of a field has this form
 abbrev pub HasTypeNames : FieldType → Type 0
 HasTypeNames (Named w) = HasTypeName w
 HasTypeNames (Map key value) = HasTypeName key × HasTypeName value
 HasTypeNames (NestedMap key) = HasTypeName key
 
--- a field of a message with this many oneofs
+-- a field of a message that has this many oneofs
 pub record IsFormedField (oneofs : ℕ) (f : FieldDecl) : Type 0 where
   pub name : HasName f.name
   pub types : HasTypeNames f.kind
@@ -73,14 +73,14 @@ pub record IsFormed (F : File) : Type 0 where
   pub messages : All IsFormedMessage F.messages
   pub enums : All IsFormedEnum F.enums
   pub services : All IsFormedService F.services
-  -- a message stands in the file or in a message before it
+  -- a message is in the file or in an earlier message
   pub parents : (i : ℕ) (m : MessageDecl) → slice_get F.messages i ≡ Some m → IsPlaceBelow i m.parent
-  -- an enum stands in the file or in a message of it
+  -- an enum is in the file or in one of its messages
   pub enum_parents : All (λ e. IsPlaceBelow (length F.messages) e.parent) F.enums
 
 -- ---- names and numbers in the text
 
--- a declaration of a file, by its places in the file's lists
+-- a declaration of a file, by its indices in the file's lists
 pub data Declaration : Type 0 where
   package_decl : Declaration
   import_decl : ℕ → Declaration
@@ -93,7 +93,7 @@ pub data Declaration : Type 0 where
   service_decl : ℕ → Declaration
   rpc_decl : ℕ → ℕ → Declaration
 
--- what stands in a declaration, in this order
+-- the parts of a declaration, in this order
 pub data Part : Type 0 where
   its_type : Part
   its_key : Part
@@ -112,7 +112,7 @@ rank_of its_number = 4
 rank_of its_input = 5
 rank_of its_output = 6
 
--- the parts of a field, and where they stand
+-- a part of a field has this span
 pub data IsOfField (f : FieldDecl) (span : Span) : Part → Type 0 where
   field_type : (w : Word) → f.kind ≡ Named w → span ≡ w.span → IsOfField f span its_type
   map_key : (key value : Word) → f.kind ≡ Map key value → span ≡ key.span → IsOfField f span its_key
@@ -121,7 +121,7 @@ pub data IsOfField (f : FieldDecl) (span : Span) : Part → Type 0 where
   field_name : span ≡ f.name.span → IsOfField f span its_name
   field_number : span ≡ f.number.span → IsOfField f span its_number
 
--- the parts of a value of an enum, and of an rpc
+-- a part of an enum's value has this span; then a part of an rpc
 pub data IsOfValue (v : ValueDecl) (span : Span) : Part → Type 0 where
   value_name : span ≡ v.name.span → IsOfValue v span its_name
   value_number : span ≡ v.number.span → IsOfValue v span its_number
@@ -131,7 +131,7 @@ pub data IsOfRpc (r : RpcDecl) (span : Span) : Part → Type 0 where
   rpc_input : span ≡ r.input.span → IsOfRpc r span its_input
   rpc_output : span ≡ r.output.span → IsOfRpc r span its_output
 
--- A part of a declaration stands here. Of an import its path is the name.
+-- a part of a declaration has this span; the path of an import counts as its name
 pub data StandsAt (F : File) (span : Span) : Declaration → Part → Type 0 where
   package_name : (w : Word) → F.package ≡ Some w → span ≡ w.span → StandsAt F span package_decl its_name
   import : (i : ℕ) (x : Import) → slice_get F.imports i ≡ Some x → span ≡ x.span
@@ -151,7 +151,7 @@ pub data StandsAt (F : File) (span : Span) : Declaration → Part → Type 0 whe
   rpc : (i j : ℕ) (s : ServiceDecl) (r : RpcDecl) {part : Part} → slice_get F.services i ≡ Some s
       → slice_get s.rpcs j ≡ Some r → IsOfRpc r span part → StandsAt F span (rpc_decl i j) part
 
--- in each text the one declaration stands before the other
+-- in every text the first declaration comes before the second
 pub data Precedes : Declaration → Declaration → Type 0 where
   imports : (i j : ℕ) → i < j → Precedes (import_decl i) (import_decl j)
   messages : (i j : ℕ) → i < j → Precedes (message_decl i) (message_decl j)
@@ -167,15 +167,15 @@ pub data Precedes : Declaration → Declaration → Type 0 where
   in_service : (i j : ℕ) → Precedes (service_decl i) (rpc_decl i j)
 
 pub record IsOrdered (F : File) : Type 0 where
-  -- what starts at one place is one
+  -- only one part of one declaration starts at an offset
   pub apart : (x y : Declaration) (p q : Part) (s t : Span) → StandsAt F s x p → StandsAt F t y q → s.start ≡ t.start
       → (x ≡ y) × (p ≡ q) × (s ≡ t)
-  -- a declaration stands before those that it precedes
+  -- a declaration comes before those that it precedes
   pub ascend : (x y : Declaration) (p q : Part) (s t : Span) → Precedes x y → StandsAt F s x p → StandsAt F t y q
       → s.start < t.start
-  -- the parts of a declaration stand in their order
+  -- the parts of a declaration come in their order
   pub parts : (x : Declaration) (p q : Part) (s t : Span) → rank_of p < rank_of q → StandsAt F s x p → StandsAt F t x q
       → s.start < t.start
-  -- an enum stands behind the name of its message
+  -- an enum comes after the name of its message
   pub enum_behind : (i j : ℕ) (m : MessageDecl) (e : EnumDecl) → slice_get F.messages i ≡ Some m
       → slice_get F.enums j ≡ Some e → e.parent ≡ Some i → m.name.span.start < e.name.span.start

@@ -1,5 +1,5 @@
--- What holds of files that are resolved together, and were read: which places they keep, which forms their names have,
--- and in which order their names and numbers start.
+-- Invariants of files that were read and are resolved together: their indices, the forms of their names, and the
+-- order in which their names and numbers start.
 use Rattle.std.specs.Prelude.{◌≡◌, ℕ, ◌<◌, length, Some, slice_get, IfSome, All, Contains}
 use Rattle.proto_file.specs.Joined.{Joined}
 use Rattle.proto_file.specs.Order.{IsPlaceBelow, HasFullName, IsFormedMessage, IsFormedEnum, IsFormedService, Part, its_name, rank_of, IsOfField, IsOfValue, IsOfRpc}
@@ -13,9 +13,9 @@ use Rattle.proto_file.specs.declared.file.RpcDecl.{RpcDecl}
 use Rattle.proto_file.specs.declared.file.ServiceDecl.{ServiceDecl}
 use Rattle.proto_file.specs.declared.joined.Head.{Head}
 
--- ---- places and forms of names
+-- ---- indices, and forms of names
 
--- it sees itself, and files that are there
+-- a file sees itself, and only files that exist
 pub record IsFormedHead (files place : ℕ) (h : Head) : Type 0 where
   pub package_name : IfSome h.package HasFullName
   pub itself : Contains h.sees place
@@ -26,11 +26,11 @@ pub record IsFormed (F : Joined) : Type 0 where
   pub messages : All IsFormedMessage F.messages
   pub enums : All IsFormedEnum F.enums
   pub services : All IsFormedService F.services
-  -- a message stands in a file or in a message before it
+  -- a message is in a file or in an earlier message
   pub parents : (i : ℕ) (m : MessageDecl) → slice_get F.messages i ≡ Some m → IsPlaceBelow i m.parent
-  -- an enum stands in a file or in a message
+  -- an enum is in a file or in a message
   pub enum_parents : All (λ e. IsPlaceBelow (length F.messages) e.parent) F.enums
-  -- each is of a file that is there, and what stands in a message is of its file
+  -- each declaration is of a file that exists, and a nested one is of the file of its message
   pub message_files : All (λ m. m.file < length F.heads) F.messages
   pub enum_files : All (λ e. e.file < length F.heads) F.enums
   pub service_files : All (λ s. s.file < length F.heads) F.services
@@ -41,7 +41,7 @@ pub record IsFormed (F : Joined) : Type 0 where
 
 -- ---- names and numbers
 
--- a declaration, by its places in the lists
+-- a declaration, by its indices in the lists
 pub data Declaration : Type 0 where
   package_decl : ℕ → Declaration
   message_decl : ℕ → Declaration
@@ -53,7 +53,7 @@ pub data Declaration : Type 0 where
   service_decl : ℕ → Declaration
   rpc_decl : ℕ → ℕ → Declaration
 
--- a part of a declaration stands here
+-- a part of a declaration has this span
 pub data StandsAt (F : Joined) (span : Span) : Declaration → Part → Type 0 where
   package_name : (k : ℕ) (h : Head) (w : Word) → slice_get F.heads k ≡ Some h → h.package ≡ Some w → span ≡ w.span
       → StandsAt F span (package_decl k) its_name
@@ -72,7 +72,7 @@ pub data StandsAt (F : Joined) (span : Span) : Declaration → Part → Type 0 w
   rpc : (i j : ℕ) (s : ServiceDecl) (r : RpcDecl) {part : Part} → slice_get F.services i ≡ Some s
       → slice_get s.rpcs j ≡ Some r → IsOfRpc r span part → StandsAt F span (rpc_decl i j) part
 
--- the one declaration starts before the other, whatever the files say
+-- the first declaration starts before the second, whatever the files contain
 pub data Precedes : Declaration → Declaration → Type 0 where
   messages : (i j : ℕ) → i < j → Precedes (message_decl i) (message_decl j)
   enums : (i j : ℕ) → i < j → Precedes (enum_decl i) (enum_decl j)
@@ -86,7 +86,7 @@ pub data Precedes : Declaration → Declaration → Type 0 where
   in_enum : (i j : ℕ) → Precedes (enum_decl i) (value_decl i j)
   in_service : (i j : ℕ) → Precedes (service_decl i) (rpc_decl i j)
 
--- the place of the file that a declaration stands in
+-- the index of the file that contains a declaration
 pub data IsInFile (F : Joined) (k : ℕ) : Declaration → Type 0 where
   its_package : IsInFile F k (package_decl k)
   in_message_of : (i : ℕ) (m : MessageDecl) → slice_get F.messages i ≡ Some m → m.file ≡ k
@@ -102,7 +102,7 @@ pub data IsInFile (F : Joined) (k : ℕ) : Declaration → Type 0 where
   in_rpc_of : (i j : ℕ) (s : ServiceDecl) → slice_get F.services i ≡ Some s → s.file ≡ k → IsInFile F k (rpc_decl i j)
 
 pub record IsOrdered (F : Joined) : Type 0 where
-  -- what starts at one place is one
+  -- only one part of one declaration starts at an offset
   pub apart : (x y : Declaration) (p q : Part) (s t : Span) → StandsAt F s x p → StandsAt F t y q → s.start ≡ t.start
       → (x ≡ y) × (p ≡ q) × (s ≡ t)
   -- a declaration starts before those that it precedes
@@ -111,9 +111,9 @@ pub record IsOrdered (F : Joined) : Type 0 where
   -- the parts of a declaration start in their order
   pub parts : (x : Declaration) (p q : Part) (s t : Span) → rank_of p < rank_of q → StandsAt F s x p → StandsAt F t x q
       → s.start < t.start
-  -- an enum starts behind the name of its message
+  -- an enum starts after the name of its message
   pub enum_behind : (i j : ℕ) (m : MessageDecl) (e : EnumDecl) → slice_get F.messages i ≡ Some m
       → slice_get F.enums j ≡ Some e → e.parent ≡ Some i → m.name.span.start < e.name.span.start
-  -- what stands in a file starts before all that stands in a later one
+  -- every part in a file starts before every part in a later file
   pub files : (j k : ℕ) (x y : Declaration) (p q : Part) (s t : Span) → j < k → IsInFile F j x → IsInFile F k y
       → StandsAt F s x p → StandsAt F t y q → s.start < t.start

@@ -1,5 +1,5 @@
--- What a file says stands in a text of this many bytes: each name and number in it, also the reserved ones, but for the
--- paths of its imports.
+-- The names and numbers of a file lie in a text of this many bytes, including reserved ones; paths of imports aren't
+-- covered.
 use Rattle.std.specs.Prelude.{ℕ, ◌<◌, ◌≤◌, IfSome, All}
 use Rattle.proto_file.specs.declared.file.Span.{Span}
 use Rattle.proto_file.specs.declared.file.Word.{Word}

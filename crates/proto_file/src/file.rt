@@ -1,36 +1,36 @@
-//! What a proto file says.
+//! The declarations of a proto file.
 //!
-//! All messages and enums of a file stand in one list each, nested ones too, in the order of their names in the text; a
-//! nested one has the place of the message that it stands in. So nothing here is recursive.
+//! All messages of a file are in one list, nested ones too, in the order of their names in the text; so are all
+//! enums. A nested one has the index of the message that encloses it. So nothing here is recursive.
 
 use mrpc_table::{Decimal, Name, Sequence};
 
-/// Where something stands in a text.
+/// A range of bytes of a text.
 #[derive(Clone, Copy, Debug)]
 pub struct Span {
-    /// The place of its first byte, from 0.
+    /// The offset of its first byte, from 0.
     pub start: usize,
-    /// The place behind its last byte.
+    /// The offset just after its last byte.
     pub end: usize,
     /// The line in which it starts, from 1.
     pub line: u64,
 }
 
-/// A name as it is written, without what stands between its parts, and where it stands.
+/// A name as it is written, without the gaps between its parts, and its span.
 #[derive(Drop)]
 pub struct Word {
-    /// A name, or names joined by dots; a type's name may begin with a dot.
+    /// A name, or names joined by dots; the name of a type may start with a dot.
     pub name: Name,
     pub span: Span,
 }
 
-/// Names with their places.
+/// Names with their spans.
 pub type Words = Sequence<Word>;
 
-/// A whole number as it is written, and where it stands.
+/// An integer as it is written, and its span.
 #[derive(Clone, Copy)]
 pub struct Number {
-    /// Whether a `-` stands before it; the span begins there.
+    /// True if a `-` precedes it; the span includes the `-`.
     pub negative: bool,
     pub value: Decimal,
     pub span: Span,
@@ -38,14 +38,14 @@ pub struct Number {
 
 /// An import of another file.
 pub struct Import {
-    /// What the path's string stands for.
+    /// The value of the path's string.
     pub path: Name,
     pub public: bool,
-    /// Where the path stands.
+    /// The span of the path.
     pub span: Span,
 }
 
-// By hand, so that a drop is one call where it is needed, and not a drop of each part.
+// Written by hand so that dropping a value is one call in the caller, not one for each field.
 impl Drop for Import {
     fn drop(self) {
         let Import {
@@ -73,11 +73,11 @@ pub enum FieldType {
     Named(Word),
     /// `map<KEY, VALUE>`
     Map { key: Word, value: Word },
-    /// `map<KEY, map<..>>`, of which the outer key alone is kept: no map is a map's value.
+    /// `map<KEY, map<..>>`, of which only the outer key is kept: a map can't be the value of a map.
     NestedMap { key: Word },
 }
 
-// By hand, so that a drop is one call where it is needed, and not a drop of each part.
+// Written by hand so that dropping a value is one call in the caller, not one for each field.
 impl Drop for FieldType {
     fn drop(self) {
         match self {
@@ -97,13 +97,13 @@ pub struct FieldDecl {
     pub number: Number,
     pub kind: FieldType,
     pub label: FieldLabel,
-    /// The place of its oneof among those of its message.
+    /// The index of its oneof among those of its message.
     pub oneof: Option<usize>,
-    /// What its last option `packed` says, of those that are `true` or `false`.
+    /// The value of its last `packed` option that is `true` or `false`.
     pub packed: Option<bool>,
 }
 
-// By hand, so that a drop is one call where it is needed, and not a drop of each part.
+// Written by hand so that dropping a value is one call in the caller, not one for each field.
 impl Drop for FieldDecl {
     fn drop(self) {
         let FieldDecl {
@@ -124,7 +124,7 @@ pub type FieldDecls = Sequence<FieldDecl>;
 #[derive(Clone, Copy)]
 pub struct Range {
     pub first: Number,
-    /// The last one, none for `max`.
+    /// The last one; `None` means `max`.
     pub last: Option<Number>,
 }
 
@@ -135,9 +135,9 @@ pub type Ranges = Sequence<Range>;
 #[derive(Drop)]
 pub struct MessageDecl {
     pub name: Word,
-    /// The place of its file among those that are resolved together; 0 in a file by itself.
+    /// The index of its file among the files that are resolved together; 0 in a file by itself.
     pub file: usize,
-    /// The place of the message that it stands in.
+    /// The index of the enclosing message.
     pub parent: Option<usize>,
     pub fields: FieldDecls,
     pub oneofs: Words,
@@ -155,7 +155,7 @@ pub struct ValueDecl {
     pub number: Number,
 }
 
-// By hand, so that a drop is one call where it is needed, and not a drop of each part.
+// Written by hand so that dropping a value is one call in the caller, not one for each field.
 impl Drop for ValueDecl {
     fn drop(self) {
         let ValueDecl {
@@ -172,9 +172,9 @@ pub type ValueDecls = Sequence<ValueDecl>;
 #[derive(Drop)]
 pub struct EnumDecl {
     pub name: Word,
-    /// The place of its file among those that are resolved together; 0 in a file by itself.
+    /// The index of its file among the files that are resolved together; 0 in a file by itself.
     pub file: usize,
-    /// The place of the message that it stands in.
+    /// The index of the enclosing message.
     pub parent: Option<usize>,
     pub values: ValueDecls,
     pub ranges: Ranges,
@@ -192,7 +192,7 @@ pub struct RpcDecl {
     pub output: Word,
 }
 
-// By hand, so that a drop is one call where it is needed, and not a drop of each part.
+// Written by hand so that dropping a value is one call in the caller, not one for each field.
 impl Drop for RpcDecl {
     fn drop(self) {
         let RpcDecl {
@@ -210,7 +210,7 @@ pub type RpcDecls = Sequence<RpcDecl>;
 #[derive(Drop)]
 pub struct ServiceDecl {
     pub name: Word,
-    /// The place of its file among those that are resolved together; 0 in a file by itself.
+    /// The index of its file among the files that are resolved together; 0 in a file by itself.
     pub file: usize,
     pub rpcs: RpcDecls,
 }
@@ -218,7 +218,7 @@ pub struct ServiceDecl {
 /// Services in the order of the text.
 pub type ServiceDecls = Sequence<ServiceDecl>;
 
-/// What a proto file says.
+/// The declarations of a proto file.
 #[derive(Drop)]
 pub struct File {
     pub package: Option<Word>,

@@ -7,17 +7,17 @@ use crate::file::{EnumDecl, MessageDecl, ServiceDecl, Word};
 use mrpc_table::Sequence;
 use std::marker::Model;
 
-/// Places of files among those that are resolved together, from 0.
+/// Indices of files among those that are resolved together, from 0.
 pub type Places = Sequence<usize>;
 
-/// What stands at the head of a file among those that are resolved together.
+/// The package of a file that is resolved with others, and the files visible to it.
 pub struct Head {
     pub package: Option<Word>,
-    /// The files whose types and packages its references may name, itself among them.
+    /// The files whose types and packages its references may name, including itself.
     pub sees: Places,
 }
 
-// By hand, so that a drop is one call where it is needed, and not a drop of each part.
+// Written by hand so that dropping a value is one call in the caller, not one for each field.
 impl Drop for Head {
     fn drop(self) {
         let Head {
@@ -30,17 +30,17 @@ impl Drop for Head {
 /// Files in the order in which they are resolved.
 pub type Heads = Sequence<Head>;
 
-/// What a message or an enum stands in.
+/// The file or message that encloses a declaration.
 #[derive(Clone, Copy)]
 pub enum Home {
-    /// In the file at this place, and in no message.
+    /// The file with this index; the declaration is at its top level.
     File(usize),
-    /// In the message at this place.
+    /// The message with this index.
     Message(usize),
 }
 
 impl MessageDecl {
-    /// What the message stands in.
+    /// The file or message that encloses the message.
     pub fn home(&self) -> Home
         ensures { result ≡ home_of self.now }
     {
@@ -52,7 +52,7 @@ impl MessageDecl {
 }
 
 impl EnumDecl {
-    /// What the enum stands in.
+    /// The file or message that encloses the enum.
     pub fn home(&self) -> Home
         ensures { result ≡ enum_home_of self.now }
     {
@@ -63,8 +63,8 @@ impl EnumDecl {
     }
 }
 
-/// What files say that are resolved together, or one alone: the declarations of all of them, file by file, as if their
-/// texts stood one behind another. Clauses see four lists.
+/// The declarations of files that are resolved together, or of one alone: file by file, as if their texts were
+/// concatenated. Clauses see four lists.
 pub struct Joined<'a> {
     heads: &'a [Head],
     messages: &'a [MessageDecl],
@@ -72,7 +72,7 @@ pub struct Joined<'a> {
     services: &'a [ServiceDecl],
 }
 
-// By hand, so that a drop is one call where it is needed, and not a drop of each part.
+// Written by hand so that dropping a value is one call in the caller, not one for each field.
 impl Drop for Joined<'_> {
     fn drop(self) {
         let Joined {
@@ -98,7 +98,7 @@ impl<'a> Model for Joined<'a> {
 }
 
 impl<'a> Joined<'a> {
-    /// Files that are resolved together, by what they declare.
+    /// Joins files that are resolved together, given their heads and their declarations.
     pub fn new(
         heads: &'a [Head],
         messages: &'a [MessageDecl],

@@ -1,9 +1,10 @@
-//! What a proto file says, as plain data (Protocol Buffers, proto3 language specification).
+//! The declarations of a proto file, as plain data (Protocol Buffers, proto3 language specification).
 //!
-//! [`File`] is what `proto_schema` reads of a text. `specs/Order.antt` says what holds of every file that was read: it
-//! is well formed, and its names and numbers start in the order of its lists. [`Joined`] are files that are resolved
-//! together, and `specs/Together.antt` says the same of them. It stands on `mrpc_table`. The crates
-//! that look names up and judge a file stand on this one and not on the reader, so that they don't wait for it.
+//! [`File`] is what `proto_schema` reads from a text. `specs/Order.antt` states the invariants of every file that was
+//! read: its names, indices and members are valid, and its names and numbers start in the order of its lists.
+//! [`Joined`] are files that are resolved together, and `specs/Together.antt` states the same invariants for them.
+//! The crate uses `mrpc_table`. The crates that resolve names and validate a file use this crate and not the reader,
+//! so that they don't depend on it.
 #![tactic(auto)]
 
 mod file;

@@ -36,7 +36,7 @@ place_of p = p.1
 abbrev pub AreNamed : List Member → List Pair → Type 0
 AreNamed set pairs = All (λ (p : Pair). HasPath set p.1 p.0.now) pairs
 
--- the files before the i-th one that were left, but the root
+-- the finished files before index i, except the root
 pub record OthersBefore (set : List Member) (marks : List Mark) (i : ℕ) (pairs : List Pair) : Type 0 where
   pub named : AreNamed set pairs
   pub those : (k : ℕ) → (Contains (places_in pairs) k → (k ≢ 0) × (k < i) × (slice_get marks k ≡ Some Left))
@@ -145,7 +145,7 @@ others_sorted set marks n pairs sorted own all h moved ascends =
           (λ k d l. sorted_step set sorted own named apart ascends k d (omega (arith, length-map sorted place_of)));
     }
 
--- ---- the joined order
+-- ---- the resolved order
 
 pub order_more : (pairs : List Pair) (i : ℕ) (d : Pair) (old new : List ℕ) → i < length pairs
     → old ≡ 0 ∷ take i (places_in pairs) → new ≡ old ++ (get_or pairs i d).1 ∷ []

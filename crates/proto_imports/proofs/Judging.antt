@@ -76,7 +76,7 @@ pub known_file : (set : List Member) (paths : Paths) (path : List ℕ) (o : Opti
     → o ≡ place_in paths path → (((j : ℕ) → HasPath set j path → ⊥) → ⊥) → IsSome o
 known_file set paths path o known e there = subst (λ (p : Option ℕ). IsSome p) (sym e) (known_is set path (place_in paths path) (known.each path) there)
 
--- ---- imports before the n-th one
+-- ---- imports before index n
 
 abbrev pub FreeBefore : List Member → ImportReason → ℕ → ℕ → Type 0
 FreeBefore set q i n = (m : ℕ) → m < n → IsFault set q i m → ⊥
@@ -118,7 +118,7 @@ fault_import (missing x at nobody) by_ring = (x, at)
 fault_import (twice x y l a b e) by_ring = (y, b)
 fault_import (cycle {i = i} {n = n} v) by_ring = by_ring i n v
 
--- a file that has a path doesn't lack it
+-- an import isn't missing if a file has its path
 pub not_missing : (set : List Member) (i n j : ℕ) (xs : List Import) (d : Import) → AreImports set i xs
     → n < length xs → HasPath set j (get_or xs n d).path → IsFault set Missing i n → ⊥
 not_missing set i n j xs d h l has f =
@@ -126,7 +126,7 @@ not_missing set i n j xs d h l has f =
     let same : get_or xs n d ≡ p.import = import_one (import_in h n d l) p.import_at in
     p.no_file j (subst (λ (x : Import). HasPath set j x.path) same has)
 
--- past the last import
+-- no import is at fault if none is before the end of the list
 pub free_all : (set : List Member) (q : ImportReason) (i n : ℕ) (xs : List Import) → AreImports set i xs
     → length xs ≤ n → ((m : ℕ) → IsFault set q i m → (x : Import) × HasImport set i m x) → FreeBefore set q i n
     → IsFreeAt set q i
@@ -134,7 +134,7 @@ free_all set q i n xs h l has before m f =
     let x = has m f in
     before m (omega (arith, slice_get_within xs m x.0 (import_within h x.1))) f
 
--- ---- the first of all
+-- ---- the first fault of the set
 
 pub rank_one : (q r : ImportReason) → rank_of q ≡ rank_of r → q ≡ r
 rank_one Missing Missing e = refl
@@ -204,7 +204,7 @@ none_above_cycle set known once Missing l = known
 none_above_cycle set known once Twice l = once
 none_above_cycle set known once Cycle l = absurd (omega arith)
 
--- a ring is the first fault where no import is missing or stands twice
+-- a cycle is the first fault if no import is missing or repeated
 pub ring_first : (set : List Member) (i n : ℕ) (x : Import) (e : ImportFault) → ArePathsApart set → IsFree set Missing
     → IsFree set Twice → HasImport set i n x → e ≡ fault.At Cycle i x.span → VisitsRoot set (ring i n)
     → IsFaultOf set e

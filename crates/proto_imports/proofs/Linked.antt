@@ -1,4 +1,4 @@
--- Where the imports of a file lead.
+-- The files that the imports of a file lead to.
 use Rattle.std.proofs.Common.{◌≡◌, ℕ, zero, suc, ◌+◌, ◌<◌, ◌≤◌, ◌⊎◌, ⊎_elim, Bool, true, List, [], ◌∷◌, ◌++◌, inl}
 use Rattle.std.proofs.Common.{inr, length, set, refl, sym, ap, ◌∙◌, subst, arith}
 use Rattle.std.specs.Prelude.{slice_get, Some}
@@ -69,13 +69,13 @@ links_none set i links e = subst (LinksBefore set i 0) (sym e) (record {
   once = λ m less f. absurd (omega arith);
 })
 
--- two files of one path are one
+-- a file has one path
 pub path_same : {set : List Member} {j : ℕ} {p q : List ℕ} → HasPath set j p → HasPath set j q → p ≡ q
 path_same a b =
     let same : a.member ≡ b.member = same_Some a.member b.member (sym a.member_at ∙ b.member_at) in
     sym a.path_is ∙ ap (λ (m : Member). m.path) same ∙ b.path_is
 
--- an import that leads to where an earlier one leads
+-- an import that leads to the file of an earlier one is repeated
 pub linked_twice : (set : List Member) (i n j : ℕ) (x : Import) (links : List Link) → LinksBefore set i n links
     → HasImport set i n x → HasPath set j x.path → IsLinked links j → IsFault set Twice i n
 linked_twice set i n j x links known at has h =
@@ -155,7 +155,7 @@ keeps_more set n links old new known here once e = subst (KeepsBefore set (n + 1
 pub keeps_all : (set : List Member) (n : ℕ) (all : List (List Link)) → n ≡ length set → KeepsBefore set n all → KeepsLinks set all
 keeps_all set n all e known = record { count = known.count ∙ e; each = known.each }
 
--- ---- what links say
+-- ---- what links imply
 
 pub link_leads : {set : List Member} {i : ℕ} {links : List Link} → AreLinks set i links → (n : ℕ) (l : Link) → slice_get links n ≡ Some l → Leads set i n l.file
 link_leads h n l at = (h.each n l at).leads

@@ -1,4 +1,4 @@
--- A set has a reach where it has no first fault.
+-- A set without a first fault has an import closure.
 use Rattle.std.proofs.Common.{◌≡◌, ℕ, zero, suc, ◌+◌, ◌<◌, ◌≤◌, ◌⊎◌, List, [], ◌∷◌, ◌++◌, inl, inr, length, refl, sym}
 use Rattle.std.proofs.Common.{ap, ◌∙◌, subst, arith, add-one}
 use Rattle.std.specs.Prelude.{slice_get, Some, None, Contains}
@@ -32,7 +32,7 @@ use Rattle.proto_imports.proofs.Placing.{same_bytes, other_bytes}
 use Rattle.proto_imports.proofs.Sorting.{first_is_least, ascends_apart, apart_distinct, ascends_rest, ascends_push}
 use Rattle.proto_imports.proofs.Reached.{reach_is, path_trans, path_strict, reached_within}
 
--- ---- where there is no first fault, nothing is at fault
+-- ---- without a first fault, no import is at fault
 
 module _ (set : List Member) (q : ImportReason) (above : NoneAbove set q) (none : (i : ℕ) (s : Span) → HasFault set q i s → ⊥) where
   rows : (i : ℕ) → ((k : ℕ) → k < i → IsFreeAt set q k) → (n : ℕ) → FreeBefore set q i n
@@ -131,7 +131,7 @@ find_import set i n = elim (cases_get set i) [
   | inr out ↦ inr (λ x h. (let bad : None ≡ Some h.member = sym out ∙ h.member_at in cc))
 ]
 
--- ---- the walk ends
+-- ---- the traversal terminates
 
 take_out : (rest : List ℕ) (j : ℕ) → Contains rest j → (less : List ℕ) × (suc (length less) ≡ length rest) × ((k : ℕ)
     → Contains rest k → (k ≡ j → ⊥) → Contains less k)
@@ -156,14 +156,14 @@ take_out (x ∷ xs) j c = elim (cons_cases x xs j c) [
       )
 ]
 
--- the new files are among these
+-- the list contains all files that are not visited yet
 abbrev Covers : List Member → List ℕ → List ℕ → List ℕ → Type 0
 Covers set rest visiting left = (j : ℕ) → j < length set → IsNew visiting left j → Contains rest j
 
 abbrev Comes : List Member → List ℕ → List ℕ → ℕ → ℕ → Type 0
 Comes set within left i n = (o : Outcome) × Visits set within left i n o
 
--- what comes of files within which fewer than a are new
+-- a visit has an outcome if fewer than a files are not visited yet
 abbrev Solves : List Member → ℕ → Type 0
 Solves set a = (within left : List ℕ) (i : ℕ) (rest : List ℕ) → length rest < a → IsAt within left i
     → Covers set rest (within ++ i ∷ []) left → Comes set within left i 0
@@ -393,7 +393,7 @@ joined_of set left own some v =
       },
     )
 
--- ---- what files see
+-- ---- the files that are seen
 
 record SeenBelow (set : List Member) (i n : ℕ) : Type 0 where
   pub seen : List ℕ

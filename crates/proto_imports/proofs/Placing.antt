@@ -1,4 +1,4 @@
--- The places of files by their paths.
+-- The indices of files by path.
 use Rattle.std.proofs.Common.{◌≡◌, ℕ, ◌+◌, ◌<◌, ◌≤◌, Bool, true, false, cond, List, [], inl, inr, length, get_or, refl, sym, ap, ◌∙◌, subst, arith}
 use Rattle.std.specs.Prelude.{MatchOption, Option, Some, None}
 use Rattle.std.specs.Borrow.{Bor}
@@ -25,7 +25,7 @@ bytes_same x q e =
 pub other_bytes : (x q : List ℕ) → is_eq (slice_cmp nat_cmp x q) ≡ false → x ≡ q → ⊥
 other_bytes x q e same = let t : is_eq (slice_cmp nat_cmp x q) ≡ true = bytes_same x q same in let bad : true ≡ false = sym t ∙ e in cc
 
--- where the first files stand
+-- the indices of the files before i
 abbrev Places : List Member → ℕ → List ℕ → Option ℕ → Type 0
 Places set i path o = MatchOption o ((j : ℕ) → j < i → HasPath set j path → ⊥) (λ j. HasPath set j path)
 

@@ -1,4 +1,4 @@
--- What is answered, and which fault is the first.
+-- What is returned, and which fault is the first.
 use Rattle.std.proofs.Common.{◌≡◌, ℕ, ◌<◌, inl, inr, List, [], ◌∷◌, length, get_or, refl, sym, ap, ◌∙◌, subst, arith}
 use Rattle.std.specs.Prelude.{Contains, All}
 use Rattle.std.specs.List.{AllZip}
@@ -23,7 +23,7 @@ use Rattle.proto_imports.proofs.Judging.{cycle_parts}
 use Rattle.proto_imports.proofs.Linked.{link_file, path_same}
 use Rattle.proto_imports.proofs.Sorting.{below_trans, below_strict, ascends_same}
 
--- ---- what is answered
+-- ---- what is returned
 
 pub left_are_reached : (set : List Member) (marks : List Mark) → ArePathsApart set → HasLeft set marks → AreReached set marks
 left_are_reached set marks own h = record {
@@ -111,7 +111,7 @@ reach_or_fault {set} h (cycle {i = i} {n = n} v) =
     let r = ring_is v in
     h.open_ended i r.0 (record { n = n; j = r.1.0; leads = r.1.1; back = r.1.2 })
 
--- ---- one reach
+-- ---- the import closure is unique
 
 pub path_trans : (set : List Member) (i j k : ℕ) → IsPathBelow set i j → IsPathBelow set j k → IsPathBelow set i k
 path_trans set i j k a b =

@@ -1,4 +1,4 @@
--- How much of a walk is left: the imports of files that are being visited, and those of new files.
+-- The remaining work of a traversal: the imports of files that are being visited, and those of new files.
 use Rattle.std.proofs.Common.{◌≡◌, ℕ, zero, suc, ◌+◌, ◌-◌, ◌<◌, ◌≤◌, List, [], ◌∷◌, ◌++◌, length, set, ap, arith}
 use Rattle.std.specs.Prelude.{slice_get, Option, Some, None}
 use Rattle.std.proofs.lemmas.Option.{slice_get_within}
@@ -14,11 +14,11 @@ abbrev pub count_in : Option Member → ℕ
 count_in None = 0
 count_in (Some m) = length m.file.imports
 
--- how many imports a file has
+-- the number of imports of a file
 abbrev pub count_at : List Member → ℕ → ℕ
 count_at set' i = count_in (slice_get set' i)
 
--- the imports that come next, and leaving each file
+-- the remaining imports, and one step to finish each file
 abbrev pub pending : List Member → List Frame → ℕ
 pending set' [] = 0
 pending set' (f ∷ fs) = suc (count_at set' f.file - f.next) + pending set' fs
@@ -43,7 +43,7 @@ count_past {set'} {i} {n} {x} h =
     let e : count_at set' i ≡ length h.member.file.imports = ap count_in h.member_at in
     omega (arith, l)
 
--- an old mark for another
+-- a file's mark changes to `Left`
 pub fresh_left : (set' : List Member) (marks : List Mark) (i : ℕ) → fresh set' (set marks i Left) ≤ fresh set' marks
 fresh_left [] marks i = omega arith
 fresh_left (m ∷ ms) [] i = omega arith
@@ -54,7 +54,7 @@ fresh_left (m ∷ ms) (New ∷ marks) (suc i) = omega (arith, fresh_left ms mark
 fresh_left (m ∷ ms) (Visiting ∷ marks) (suc i) = fresh_left ms marks i
 fresh_left (m ∷ ms) (Left ∷ marks) (suc i) = fresh_left ms marks i
 
--- a new file that is entered
+-- a new file's visit starts
 pub fresh_entered : (set' : List Member) (marks : List Mark) (i : ℕ) → i < length set' → slice_get marks i ≡ Some New
     → fresh set' (set marks i Visiting) + suc (count_at set' i) ≡ fresh set' marks
 fresh_entered [] marks i l e = absurd (omega arith)
@@ -66,7 +66,7 @@ fresh_entered (m ∷ ms) (New ∷ marks) (suc i) l e = omega (arith, fresh_enter
 fresh_entered (m ∷ ms) (Visiting ∷ marks) (suc i) l e = fresh_entered ms marks i (omega arith) e
 fresh_entered (m ∷ ms) (Left ∷ marks) (suc i) l e = fresh_entered ms marks i (omega arith) e
 
--- the innermost file is left
+-- the innermost file is finished
 pub less_left : (set' : List Member) (rest : List Frame) (f : Frame) (marks : List Mark) → remaining set' rest (set marks f.file Left) < remaining set' (rest ++ f ∷ []) marks
 less_left set' rest f marks =
     omega (arith, pending-append set' rest (f ∷ []), fresh_left set' marks f.file)

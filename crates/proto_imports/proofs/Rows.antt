@@ -1,4 +1,5 @@
--- The definitions on small sets: which imports lead where, what comes of visiting the root, and what is at fault.
+-- The definitions on small sets: which imports lead where, the outcome of visiting the root, and which import is at
+-- fault.
 use Rattle.std.proofs.Common.{◌≡◌, ℕ, zero, suc, ◌+◌, ◌<◌, true, false, List, [], ◌∷◌, Some, None, inl, inr, nat_eq, get_or, refl, sym, ap, ◌∙◌, subst, arith}
 use Rattle.std.specs.Prelude.{codes, Contains, slice_get}
 use Rattle.std.proofs.lemmas.Bool.{eqb-false}
@@ -86,7 +87,7 @@ z_sees_d : Sees set 0 3
 unfolding b_d
 z_sees_d = publicly (imported z_b) (record { leads = b_d; is_public = refl })
 
--- what d imports plainly is not seen through it
+-- a file that d imports without `public` isn't visible through d
 not_through_d : (j : ℕ) → LeadsPublicly set 3 0 j → ⊥
 unfolding d_c
 not_through_d j h =
@@ -118,7 +119,7 @@ not_in (x ∷ xs) k a c = elim (cons_cases x xs k c) [
 fresh : (visiting left : List ℕ) (j : ℕ) → Avoids j visiting → Avoids j left → IsNew visiting left j
 fresh visiting left j a b = record { unvisited = not_in visiting j a; unleft = not_in left j b }
 
--- each file is left behind those that it imports, each once
+-- each file is finished after those that it imports, and only once
 all_left : VisitsRoot set (leaves (0 ∷ 1 ∷ 3 ∷ 2 ∷ []))
 all_left =
     enters z_b (fresh (0 ∷ []) [] 1 (refl, tt) tt)
@@ -131,7 +132,7 @@ all_left =
     (passes z_c (cons_more 1 (3 ∷ 2 ∷ []) 2 (cons_more 3 (2 ∷ []) 2 (cons_here 2 [])))
     (ends (past set 0 2 z refl refl)))
 
--- ---- rings
+-- ---- cycles
 
 -- x imports y, and y imports x
 abbrev pair : List Member
@@ -151,11 +152,11 @@ y_x = record {
   path_at = record { member = member (codes "x") (plain (codes "y") 1 ∷ []); member_at = refl; path_is = refl };
 }
 
--- the import of y closes the ring, and is at fault
+-- the import of y closes the cycle, and is at fault
 y_closes : IsFault pair Cycle 1 0
 y_closes = cycle (meets x_y (fresh (0 ∷ []) [] 1 (refl, tt) tt) (closes y_x (cons_here 0 (1 ∷ []))))
 
--- a file that imports itself is a ring
+-- a file that imports itself is a cycle
 abbrev own : List Member
 own = member (codes "x") (plain (codes "x") 1 ∷ []) ∷ []
 
@@ -168,7 +169,7 @@ itself_closes = cycle (closes (record {
 
 -- ---- other faults
 
--- z imports z twice, and a file that isn't there
+-- z imports z twice, and a file that doesn't exist
 abbrev bad : Member
 bad = member (codes "z") (plain (codes "z") 1 ∷ plain (codes "z") 2 ∷ plain (codes "q") 3 ∷ [])
 
@@ -189,6 +190,6 @@ nobody (suc j) h = absurd (let e : None ≡ Some h.member = h.member_at in cc)
 not_there : IsFault wrong Missing 0 2
 not_there = missing (plain (codes "q") 3) (record { member = bad; member_at = refl; import_at = refl }) nobody
 
--- a missing import comes before one that stands twice, though it stands behind it
+-- a missing import counts before a repeated one, even if it comes after it
 missing_first : ComesFirst Missing 0 2 Twice 0 1
 missing_first = by_reason (omega arith)

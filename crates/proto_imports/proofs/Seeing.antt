@@ -1,4 +1,4 @@
--- What a file sees.
+-- The files that a file sees.
 use Rattle.std.proofs.Common.{◌≡◌, ℕ, zero, suc, ◌+◌, ◌<◌, ◌≤◌, ◌⊎◌, inl, inr, Bool, true, false, List, [], ◌∷◌, ◌++◌}
 use Rattle.std.proofs.Common.{length, get_or, set, take, replicate, refl, sym, ap, ◌∙◌, subst, arith, length-set}
 use Rattle.std.specs.Prelude.{Contains, All, Some, slice_get, Result, Ok, Err, IfOk}
@@ -186,7 +186,7 @@ public_skip links i d a b l is f =
 pub public_all : (links : List Link) (i : ℕ) (a b : Seen) → length links ≤ i → MarksMore (IsLinkedPublicly (take i links)) a b → MarksMore (IsLinkedPublicly links) a b
 public_all links i a b l f = subst (λ (ls : List Link). MarksMore (IsLinkedPublicly ls) a b) (take_all i links l) f
 
--- ---- the places that are marked
+-- ---- the indices that are marked
 
 pub record PlacesBefore (marks : List Bool) (i : ℕ) (places : List ℕ) : Type 0 where
   pub those : (k : ℕ) → (Contains places k → (k < i) × (slice_get marks k ≡ Some true)) × ((k < i) × (slice_get marks k ≡ Some true) → Contains places k)
@@ -237,7 +237,7 @@ places_those marks i places all h k = (
   λ e. (h.those k).1 (omega (arith, slice_get_within marks k true e), e),
 )
 
--- ---- what a file sees so far
+-- ---- the files seen so far
 
 no_element : {k : ℕ} → Contains {X = ℕ} [] k → ⊥
 no_element c = absurd (let l : c.0 < 0 = c.1 in omega arith)
@@ -343,7 +343,7 @@ seen_is set' i s places h e those ascend = record {
   ascend = ascend;
 }
 
--- ---- what each of some files sees
+-- ---- the files that each of some files sees
 
 pub zip_push : {X Y : Type 0} (R : X → Y → Type 0) (xs : List X) (ys : List Y) (x : X) (y : Y) → AllZip R xs ys → R x y → AllZip R (xs ++ x ∷ []) (ys ++ y ∷ [])
 zip_push R [] [] x y h r = (r, tt)

@@ -1,4 +1,4 @@
--- Lists that were sorted, and lists that have no element twice.
+-- Sorted lists, and lists without repeated elements.
 use Rattle.std.proofs.Common.{◌≡◌, ◌≢◌, ℕ, zero, suc, ◌<◌, inl, inr, false, List, [], ◌∷◌, ◌++◌, length, get_or, refl, sym, ap, ◌∙◌, subst, arith}
 use Rattle.std.specs.Prelude.{Contains, Some}
 use Rattle.std.specs.List.{swap}
@@ -16,7 +16,7 @@ use Rattle.mrpc_table.specs.Valid.{Ascends, AreDistinct, IsBelow}
 use Rattle.proto_imports.proofs.Visited.{cons_here, cons_more, cons_cases}
 use Rattle.proto_imports.proofs.Walked.{Once}
 
--- ---- no element twice
+-- ---- no repeated elements
 
 abbrev pub AreApart : {X : Type 0} → List X → Type 0
 AreApart {X} xs =
@@ -89,7 +89,7 @@ pub ascends_rest : {X : Type 0} (R : X → X → Type 0) (x : X) (xs : List X) �
 ascends_rest R x [] h = tt
 ascends_rest R x (y ∷ xs) h = h.1
 
--- what ascends by a strict order has no element twice
+-- a list that ascends by a strict order has no repeated element
 pub ascends_apart : {X : Type 0} (R : X → X → Type 0) → ((x y z : X) → R x y → R y z → R x z)
     → ((x : X) → R x x → ⊥) → (xs : List X) → Ascends R xs → AreApart xs
 ascends_apart R trans strict [] h i j d a b e = absurd (omega arith)
@@ -109,7 +109,7 @@ less_at Less p rest e apart not_less = absurd (false≢true (sym not_less))
 less_at Equal p rest e apart not_less = absurd (apart refl)
 less_at Greater p rest e apart not_less = e
 
--- what isn't sorted the other way round and isn't the same ascends
+-- two elements that compare as not greater and not equal ascend
 pub less_from : {K : Type 0} (R : K → K → Ordering) → IsTotalOrder R → (a b : K) (rest : Ordering)
     → (R b a ≡ Equal → ⊥) → is_lt (ordering_then (R b a) rest) ≡ false → R a b ≡ Less
 less_from R total a b rest apart not_less =
@@ -130,9 +130,9 @@ pub once_apart : (xs : List ℕ) → Once xs → AreApart xs
 once_apart xs once i j d a b e =
     once i j (get_or xs i d) (slice_get-get_or xs i d a) (slice_get-get_or xs j d b ∙ ap Some (sym e))
 
--- ---- lists of the same elements
+-- ---- lists with the same elements
 
--- nothing stands before the first one
+-- the first element is the least
 pub first_is_least : {X : Type 0} (R : X → X → Type 0) → ((x y z : X) → R x y → R y z → R x z) → (x : X) (xs : List X)
     → Ascends R (x ∷ xs) → (y : X) → Contains xs y → R x y
 first_is_least {X} R trans x xs h y c = subst (R x) c.2 (ascends_past R trans x xs h c.0 y c.1)
@@ -169,7 +169,7 @@ ascends_same {X} R trans strict (x ∷ xs) (y ∷ ys) h k to from =
     (rest_contains R trans strict x y xs ys h e to) (rest_contains R trans strict y x ys xs k (sym e) from) in
     cc
 
--- one more at the end
+-- one more element at the end
 pub ascends_push : (xs : List ℕ) (x : ℕ) → ((k : ℕ) → Contains xs k → k < x) → Ascends ◌<◌ xs → Ascends ◌<◌ (xs ++ x ∷ [])
 ascends_push [] x below h = tt
 ascends_push (y ∷ []) x below h = (below y (cons_here y []), tt)

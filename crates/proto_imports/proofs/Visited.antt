@@ -1,4 +1,4 @@
--- What comes of visiting a file: one outcome, a ring that is one, and files that no imports lead back to.
+-- The outcome of visiting a file is unique; a reported cycle exists; finished files are in no cycle.
 use Rattle.std.proofs.Common.{◌≡◌, ℕ, zero, suc, ◌+◌, ◌<◌, ◌≤◌, ◌⊎◌, inl, inr, List, [], ◌∷◌, ◌++◌, length, get_or}
 use Rattle.std.proofs.Common.{Some, refl, ap, sym, ◌∙◌, subst, arith}
 use Rattle.std.specs.Prelude.{slice_get, Contains, map}
@@ -20,7 +20,7 @@ import_one {set} {i} {n} {x} {y} a b =
     let at : slice_get b.member.file.imports n ≡ Some x = subst (λ (m : Member). slice_get m.file.imports n ≡ Some x) same a.import_at in
     same_Some x y (sym at ∙ b.import_at)
 
--- no two files have one path
+-- no two files have the same path
 pub record ArePathsApart (set : List Member) : Type 0 where
   pub one : {i j : ℕ} {path : List ℕ} → HasPath set i path → HasPath set j path → i ≡ j
 
@@ -61,7 +61,7 @@ leads_one {set} {i} {n} {j} {k} apart a b =
 pub leads_has : {set : List Member} {i n j : ℕ} → Leads set i n j → HasNoImport set i n → ⊥
 leads_has l none = none l.import l.import_at
 
--- imports end where one is missing
+-- there is no import after a missing one
 pub none_after : {set : List Member} {i n m : ℕ} → HasNoImport set i n → n ≤ m → HasNoImport set i m
 none_after {set} {i} {n} {m} none l x h =
     let within : n < length h.member.file.imports = omega (arith, slice_get_within h.member.file.imports m x h.import_at) in
@@ -86,7 +86,7 @@ pub cons_cases : {X : Type 0} (x : X) (xs : List X) (y : X) → Contains (x ∷ 
 cons_cases x xs y (zero, l, e) = inl e
 cons_cases x xs y (suc k, l, e) = inr (k, omega arith, e)
 
--- ---- what a left file leaves behind
+-- ---- the finished files after a visit
 
 pub record Leaves (within left : List ℕ) (i : ℕ) (after : List ℕ) : Type 0 where
   pub keeps : (k : ℕ) → Contains left k → Contains after k
@@ -126,7 +126,7 @@ leaves_so {set} {within} {left} {i} at (enters {after = mid} {j = j} l new v w) 
       apart = then.apart;
     }
 
--- ---- one outcome
+-- ---- the outcome is unique
 
 pub visits_one : {set : List Member} {within left : List ℕ} {i n : ℕ} {o p : Outcome} → ArePathsApart set
     → IsAt within left i → Visits set within left i n o → Visits set within left i n p → o ≡ p
@@ -193,7 +193,7 @@ at_root = (none_in 0, λ k c d. none_in k d)
 pub root_one : {set : List Member} {o p : Outcome} → ArePathsApart set → VisitsRoot set o → VisitsRoot set p → o ≡ p
 root_one apart v w = visits_one apart at_root v w
 
--- ---- a ring is one
+-- ---- a reported cycle exists
 
 below_reached : {set : List Member} {i n j : ℕ} (visiting : List ℕ) → Leads set i n j
     → ((k : ℕ) → Contains visiting k → Reaches set k i) → (k : ℕ) → Contains (visiting ++ j ∷ []) k → Reaches set k j
@@ -217,15 +217,15 @@ ring_is {set} v = ring_from here (λ k c. elim (cons_cases 0 [] k c) [
   | inr nil ↦ absurd (none_in k nil)
 ]) v
 
--- ---- left files
+-- ---- finished files
 
--- each file was left behind those that its imports lead to
+-- each file finished after those that its imports lead to
 pub data AreLeft (set : List Member) : List ℕ → Type 0 where
   nothing : AreLeft set []
   behind : {i : ℕ} {left : List ℕ} → ((n j : ℕ) → Leads set i n j → Contains left j) → (Contains left i → ⊥)
       → AreLeft set left → AreLeft set (i ∷ left)
 
--- the imports before the n-th one lead to left files
+-- the imports before index n lead to finished files
 abbrev pub LedBefore : List Member → List ℕ → ℕ → ℕ → Type 0
 LedBefore set left i n = (m j : ℕ) → m < n → Leads set i m j → Contains left j
 
@@ -257,7 +257,7 @@ left_so {set} {within} {left} {i} {n} apart at before known (enters {after = mid
     let mids = left_so apart below (λ m k less lk. absurd (omega arith)) known v in
     left_so apart (at.0, so.apart) (led_more left mid apart l so.has so.keeps before) mids w
 
--- left files are closed under imports
+-- the finished files are closed under imports
 left_closed : {set : List Member} {left : List ℕ} → AreLeft set left → (k n j : ℕ) → Contains left k → Leads set k n j → Contains left j
 left_closed nothing k n j c l = absurd (none_in k c)
 left_closed {set} (behind {i = i} {left = left} leads out known) k n j c l = elim (cons_cases i left k c) [
@@ -287,7 +287,7 @@ none_in_ring {set} {left} {i} apart v r back =
     let known = root_left apart v in
     left_open known.0 i (left_reaches known.0 known.1 r) back
 
--- ---- left files are reached
+-- ---- finished files are reached
 
 left_reached : {set : List Member} {within left : List ℕ} {i n : ℕ} {after : List ℕ} → Reaches set 0 i
     → ((k : ℕ) → Contains left k → Reaches set 0 k) → Visits set within left i n (leaves after) → (k : ℕ)

@@ -1,4 +1,4 @@
--- How a walk stands, and what comes of it.
+-- The state of a traversal, and its outcome.
 use Rattle.std.proofs.Common.{◌≡◌, Bool, true, false, ℕ, zero, suc, ◌<◌, ◌≤◌, inl, inr, List, [], ◌∷◌, ◌++◌, length}
 use Rattle.std.proofs.Common.{set, replicate, refl, sym, ap, ◌∙◌, subst, arith, length-set}
 use Rattle.std.specs.Prelude.{slice_get, Some, Contains, map}
@@ -26,7 +26,7 @@ file_of f = f.file
 abbrev pub files_of : List Frame → List ℕ
 files_of frames = map file_of frames
 
--- ---- what comes of the files that are being visited
+-- ---- the outcome for the files that are being visited
 
 pub data Resumes (set : List Member) : List Frame → List ℕ → Outcome → Type 0 where
   done : {left : List ℕ} → Resumes set [] left (leaves left)
@@ -36,7 +36,7 @@ pub data Resumes (set : List Member) : List Frame → List ℕ → Outcome → T
       → Visits set (files_of rest) left f.file f.next (leaves after) → Resumes set rest after outcome
       → Resumes set frames left outcome
 
--- what comes of the innermost file, and then of those around it
+-- the outcome for the innermost file, and then for those around it
 pub data Parts (set : List Member) (rest : List Frame) (f : Frame) (left : List ℕ) : Outcome → Type 0 where
   part_ring : {k m : ℕ} → Visits set (files_of rest) left f.file f.next (ring k m) → Parts set rest f left (ring k m)
   part_goes : {after : List ℕ} {outcome : Outcome} → Visits set (files_of rest) left f.file f.next (leaves after)
@@ -70,7 +70,7 @@ leave_parts : {set : List Member} {left : List ℕ} {outcome : Outcome} (rest : 
     → HasNoImport set f.file f.next → Resumes set rest (f.file ∷ left) outcome → Parts set rest f left outcome
 leave_parts rest f none r = part_goes (ends none) r
 
--- its next import leads to a left file
+-- its next import leads to a finished file
 pass_parts : {set : List Member} {left : List ℕ} {j : ℕ} {outcome : Outcome} (rest : List Frame) (f : Frame)
     → Leads set f.file f.next j → Contains left j → Parts set rest (next_frame f) left outcome
     → Parts set rest f left outcome
@@ -98,9 +98,9 @@ enter_parts {set} {left} {j} rest f l new (part_goes {after = after} v r) =
     subst (λ (fs : List ℕ). Visits set fs left j 0 (leaves after)) (files_next rest f) v in
     entered rest f l new v2 (parts_at rest (next_frame f) refl r)
 
--- ---- what the marks show
+-- ---- what the marks mean
 
--- no element stands twice
+-- no element is repeated
 abbrev pub Once : List ℕ → Type 0
 Once xs = (p q x : ℕ) → slice_get xs p ≡ Some x → slice_get xs q ≡ Some x → p ≡ q
 
@@ -140,7 +140,7 @@ once_last xs x once c =
     let e : at.0 ≡ length xs = once at.0 (length xs) x (get_front xs x x at.0 at.1) (get_last xs x) in
     omega (arith, slice_get_within xs at.0 x at.1)
 
--- a new file is entered
+-- the visit of a new file starts
 pub shows_entered : {set' : List Member} {visiting left : List ℕ} {marks : List Mark} (j : ℕ)
     → Shows set' visiting left marks → slice_get marks j ≡ Some New
     → Shows set' (visiting ++ j ∷ []) left (set marks j Visiting)
@@ -173,7 +173,7 @@ shows_entered {set'} {visiting} {left} {marks} j h new =
       once = once_push visiting j fresh.unvisited h.once;
     }
 
--- the innermost file is left
+-- the innermost file is finished
 pub shows_left : {set' : List Member} {rest left : List ℕ} {marks : List Mark} (i : ℕ) → Shows set' (rest ++ i ∷ []) left marks → Shows set' rest (i ∷ left) (set marks i Left)
 shows_left {set'} {rest} {left} {marks} i h =
     let at : slice_get marks i ≡ Some Visiting = (h.visited i).1 (Contains-push rest i) in
@@ -210,7 +210,7 @@ shows_left {set'} {rest} {left} {marks} i h =
       once = once_pop rest i h.once;
     }
 
--- ---- a walk
+-- ---- a traversal
 
 pub record IsWalk (set' : List Member) (frames : List Frame) (marks : List Mark) : Type 0 where
   pub left : List ℕ
@@ -271,7 +271,7 @@ pub walk_closed : {set' : List Member} {rest : List Frame} {f : Frame} {marks : 
 walk_closed {rest = rest} {f = f} {j = j} h l mark =
     h.resumes (ring f.file f.next) (part_ring (closes l ((h.shows.visited j).0 mark)))
 
--- ---- the ends of a walk
+-- ---- the results of a traversal
 
 nothing_marked : (n k : ℕ) (m : Mark) → slice_get (replicate n New) k ≡ Some m → m ≡ New
 nothing_marked zero k m e = absurd cc

@@ -10,15 +10,15 @@ use Rattle.proto_imports.specs.declared.fault.ImportReason.TheVariants.{Missing,
 use Rattle.proto_imports.specs.declared.fault.ImportFault.{ImportFault}
 use Rattle.proto_imports.specs.declared.fault.ImportFault.TheVariants as fault
 
--- the n-th import of file i is at fault; also of files that the root doesn't reach
+-- the n-th import of file i is at fault, even if the root doesn't reach that file
 pub data IsFault (set : List Member) : ImportReason → ℕ → ℕ → Type 0 where
   -- no file of the set has its path
   missing : {i n : ℕ} (x : Import) → HasImport set i n x → ((j : ℕ) → HasPath set j x.path → ⊥)
       → IsFault set Missing i n
-  -- an earlier import of the same file has its path
+  -- an earlier import of the same file has the same path
   twice : {i k n : ℕ} (x y : Import) → k < n → HasImport set i k x → HasImport set i n y → x.path ≡ y.path
       → IsFault set Twice i n
-  -- visiting the root, it closes a ring
+  -- it closes a cycle in a visit of the root
   cycle : {i n : ℕ} → VisitsRoot set (ring i n) → IsFault set Cycle i n
 
 -- the order of the reasons
@@ -27,13 +27,13 @@ rank_of Missing = 1
 rank_of Twice = 2
 rank_of Cycle = 3
 
--- by reason, then by file, then by statement
+-- ordered by reason, then by file, then by statement
 pub data ComesFirst (q : ImportReason) (i n : ℕ) (r : ImportReason) (j m : ℕ) : Type 0 where
   by_reason : rank_of q < rank_of r → ComesFirst q i n r j m
   by_file : q ≡ r → i < j → ComesFirst q i n r j m
   by_statement : q ≡ r → i ≡ j → n ≤ m → ComesFirst q i n r j m
 
--- the first fault of a set is of file i, where its import's path stands
+-- the first fault of a set: its reason, the file i, and the span of the import's path
 pub record HasFault (set : List Member) (q : ImportReason) (i : ℕ) (span : Span) : Type 0 where
   pub n : ℕ
   pub import : Import
@@ -46,7 +46,7 @@ pub record HasFault (set : List Member) (q : ImportReason) (i : ℕ) (span : Spa
 abbrev pub IsSound : List Member → Type 0
 IsSound set = (q : ImportReason) (i n : ℕ) → IsFault set q i n → ⊥
 
--- what a fault says of a set; running out of memory says nothing
+-- what a fault means for a set; `Memory` means nothing
 abbrev pub IsFaultOf : List Member → ImportFault → Type 0
 IsFaultOf set (fault.At q i span) = HasFault set q i span
 IsFaultOf set fault.Memory = Unit {0}

@@ -1,5 +1,5 @@
--- The code's own: what is kept of the imports of a set: the places of files by their paths, and where the imports of
--- each file lead.
+-- The code's own: what is stored about the imports of a set: the indices of files by path, and the links of each
+-- file.
 use Rattle.std.specs.Prelude.{◌≡◌, ◌≢◌, ℕ, ◌<◌, List, Option, Some, slice_get, length, MatchOption}
 use Rattle.std.specs.Ordering.{nat_cmp}
 use Rattle.std.specs.Cmp.Lexicographic.{slice_cmp}
@@ -18,7 +18,7 @@ use Rattle.proto_imports.specs.declared.links.Graph.TheInside.{Inside}
 abbrev pub place_in : Paths → List ℕ → Option ℕ
 place_in paths path = get_by (λ key. slice_cmp nat_cmp path key.now) paths.by
 
--- the places of the files of a set by their paths
+-- the indices of the files of a set, by path
 pub record KnowsPaths (set : List Member) (paths : Paths) : Type 0 where
   pub each : (path : List ℕ) → MatchOption (place_in paths path) ((j : ℕ) → HasPath set j path → ⊥)
       (λ j. HasPath set j path)
@@ -31,7 +31,7 @@ AllLead set = (i n : ℕ) (x : Import) → HasImport set i n x → (j : ℕ) × 
 abbrev pub IsFreeAt : List Member → ImportReason → ℕ → Type 0
 IsFreeAt set q i = (n : ℕ) → IsFault set q i n → ⊥
 
--- no import of the set
+-- no import of the set is at fault for this reason
 abbrev pub IsFree : List Member → ImportReason → Type 0
 IsFree set q = (i : ℕ) → IsFreeAt set q i
 
@@ -44,21 +44,21 @@ pub record IsFirstAt (set : List Member) (q : ImportReason) (i : ℕ) (e : Impor
   pub at_fault : IsFault set q i n
   pub first : (m : ℕ) → m < n → IsFault set q i m → ⊥
 
--- the same, where there was memory
+-- the first such import, unless memory ran out
 abbrev pub IsFirstUnlessMemory : List Member → ImportReason → ℕ → ImportFault → Type 0
 IsFirstUnlessMemory set q i e = e ≢ fault.Memory → IsFirstAt set q i e
 
--- where the n-th import of file i leads
+-- the link of the n-th import of file i
 pub record IsLink (set : List Member) (i n : ℕ) (l : Link) : Type 0 where
   pub leads : Leads set i n l.file
   pub is_public : l.public ≡ leads.import.public
 
--- where the imports of file i lead
+-- the links of the imports of file i
 pub record AreLinks (set : List Member) (i : ℕ) (links : List Link) : Type 0 where
   pub each : (n : ℕ) (l : Link) → slice_get links n ≡ Some l → IsLink set i n l
   pub all : (n : ℕ) (x : Import) → HasImport set i n x → n < length links
 
--- where the imports of each file of a set lead
+-- the links of the imports of each file of a set
 pub record KeepsLinks (set : List Member) (all : List (List Link)) : Type 0 where
   pub count : length all ≡ length set
   pub each : (i : ℕ) (links : List Link) → slice_get all i ≡ Some links → AreLinks set i links

@@ -1,4 +1,5 @@
--- The files that the root of a set reaches, in the order in which they are resolved, and what each of them sees.
+-- The files that the root of a set reaches, in the order in which they are resolved, and the files that each of them
+-- sees.
 use Rattle.std.specs.Prelude.{◌≡◌, ◌≢◌, ◌↔◌, ℕ, ◌<◌, List, ◌∷◌, Some, slice_get, Contains, map}
 use Rattle.std.specs.Borrow.{Bor}
 use Rattle.std.specs.List.{AllZip}
@@ -10,11 +11,11 @@ use Rattle.proto_imports.specs.declared.set.Reach.{Reach}
 use Rattle.proto_imports.specs.declared.walk.Mark.{Mark}
 use Rattle.proto_imports.specs.declared.walk.Mark.TheVariants.{Left}
 
--- no two files have one path
+-- no two files have the same path
 abbrev pub HaveOwnPaths : List Member → Type 0
 HaveOwnPaths set = AreDistinct (map (λ m. m.path) set)
 
--- the path of file i is below that of file j
+-- the path of file i is less than that of file j
 pub record IsPathBelow (set : List Member) (i j : ℕ) : Type 0 where
   pub lower : List ℕ
   pub upper : List ℕ
@@ -30,7 +31,7 @@ pub record IsJoined (set : List Member) (order : List ℕ) : Type 0 where
   pub reached : (j : ℕ) → Contains order j ↔ Reaches set 0 j
   pub once : AreDistinct order
 
--- what file i sees, by ascending place
+-- the files that file i sees, by ascending index
 pub record AreSeen (set : List Member) (i : ℕ) (seen : List ℕ) : Type 0 where
   pub those : (j : ℕ) → Contains seen j ↔ Sees set i j
   pub ascend : Ascends ◌<◌ seen
@@ -39,7 +40,7 @@ pub record IsReach (set : List Member) (reach : Reach) : Type 0 where
   -- each import leads to a file, no two of one file to the same one
   pub led : (i n : ℕ) (x : Import) → HasImport set i n x → (j : ℕ) × Leads set i n j
   pub apart : (i n m j : ℕ) → Leads set i n j → Leads set i m j → n ≡ m
-  -- from no file that the root reaches do imports lead back to it
+  -- no file that the root reaches is in a cycle
   pub open_ended : (i : ℕ) → Reaches set 0 i → IsInRing set i → ⊥
   pub order : IsJoined set reach.order
   pub sees : AllZip (AreSeen set) reach.order reach.sees
@@ -47,7 +48,7 @@ pub record IsReach (set : List Member) (reach : Reach) : Type 0 where
 abbrev pub places_in : List (Bor (List ℕ) × ℕ) → List ℕ
 places_in pairs = map (λ p. p.1) pairs
 
--- the files that were left but the root, by ascending path
+-- the finished files except the root, by ascending path
 pub record AreOthers (set : List Member) (marks : List Mark) (pairs : List (Bor (List ℕ) × ℕ)) : Type 0 where
   pub distinct : AreDistinct (places_in pairs)
   pub those : (i : ℕ) → Contains (places_in pairs) i ↔ ((i ≢ 0) × (slice_get marks i ≡ Some Left))

@@ -1,4 +1,4 @@
--- The words of printed faults.
+-- The words for reasons in the text of faults.
 use Rattle.std.specs.Prelude.{ℕ, List, codes}
 use Rattle.proto_imports.specs.declared.fault.ImportReason.{ImportReason}
 use Rattle.proto_imports.specs.declared.fault.ImportReason.TheVariants.{Missing, Twice, Cycle}

@@ -1,4 +1,4 @@
--- The code's own: what a file sees so far.
+-- The code's own: the files that are seen so far.
 use Rattle.std.specs.Prelude.{◌≡◌, ◌⊎◌, ℕ, ◌+◌, ◌*◌, ◌<◌, ◌≤◌, List, [], ◌∷◌, Bool, true, false, Some, All, slice_get, length, Contains}
 use Rattle.proto_imports.specs.Leading.{Leads, LeadsPublicly, Sees}
 use Rattle.proto_imports.specs.declared.set.Member.{Member}
@@ -8,17 +8,17 @@ use Rattle.proto_imports.specs.declared.seen.Seen.{Seen}
 abbrev pub IsMarked : Seen → ℕ → Type 0
 IsMarked s i = slice_get s.marks.items i ≡ Some true
 
--- how many are not marked
+-- the number of unmarked files
 abbrev pub unmarked : List Bool → ℕ
 unmarked [] = 0
 unmarked (true ∷ bs) = unmarked bs
 unmarked (false ∷ bs) = unmarked bs + 1
 
--- how much is still to do
+-- a bound on the remaining work
 abbrev pub work_of : Seen → ℕ
 work_of s = 2 * unmarked s.marks.items + length s.next.items
 
--- more files are marked: those of which this holds. The new ones come next.
+-- the files that satisfy P are marked in addition, and the newly marked ones are queued
 pub record MarksMore (P : ℕ → Type 0) (old new : Seen) : Type 0 where
   pub count : length new.marks.items ≡ length old.marks.items
   pub keeps : (i : ℕ) → IsMarked old i → IsMarked new i
@@ -34,11 +34,11 @@ pub record MarksMore (P : ℕ → Type 0) (old new : Seen) : Type 0 where
 abbrev pub IsLinked : List Link → ℕ → Type 0
 IsLinked links j = (n : ℕ) × (l : Link) × (slice_get links n ≡ Some l) × (l.file ≡ j)
 
--- one of the public ones does
+-- one of the public imports leads to a file
 abbrev pub IsLinkedPublicly : List Link → ℕ → Type 0
 IsLinkedPublicly links j = (n : ℕ) × (l : Link) × (slice_get links n ≡ Some l) × (l.public ≡ true) × (l.file ≡ j)
 
--- what file i sees is marked, but for what follows by public imports of files that come next
+-- the files that file i sees are marked, except those only reached by public imports of queued files
 pub record SeesSoFar (set : List Member) (i : ℕ) (s : Seen) : Type 0 where
   pub count : length s.marks.items ≡ length set
   pub sound : (j : ℕ) → IsMarked s j → Sees set i j

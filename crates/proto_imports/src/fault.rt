@@ -1,4 +1,4 @@
-//! What can be at fault with the imports of a set.
+//! Faults of the imports of a set.
 
 ghost use Rattle.proto_imports.specs.Reason.{import_word};
 ghost use Rattle.std.specs.Prelude.{◌≡◌};
@@ -10,20 +10,20 @@ use std::alloc::{AllocError, AllocFailed};
 use std::fmt;
 use thiserror::Error;
 
-/// What can be at fault with an import. All imports that are missing come before all that stand twice, and a cycle
-/// counts only where there is neither.
+/// Why an import is at fault. Every missing import counts before every repeated one, and a cycle counts only if there
+/// is neither.
 #[derive(Clone, Copy, Debug)]
 pub enum ImportReason {
     /// No file of the set has its path.
     Missing,
-    /// An earlier import of the same file has its path.
+    /// An earlier import of the same file has the same path.
     Twice,
-    /// It leads back to a file from which it is reached.
+    /// It leads to a file from which its own file is reached.
     Cycle,
 }
 
 impl ImportReason {
-    /// The word of a printed fault.
+    /// The word for the reason in the text of the fault.
     pub fn word(self) -> &'static str
         ensures { result.now ≡ import_word self }
     {
@@ -46,14 +46,15 @@ impl std::error::Error for ImportReason {}
 /// Which import of which file is at fault.
 #[derive(Clone, Copy, Debug, Error)]
 pub enum ImportFault {
-    /// The first fault: its reason, the file's place in the set, from 0, and where the import's path stands in it.
+    /// The first fault: its reason, the index of the file in the set, from 0, and the span of the import's path in
+    /// that file.
     #[error("file {file}, line {}: {reason}", span.line)]
     At {
         reason: ImportReason,
         file: usize,
         span: Span,
     },
-    /// No memory was found.
+    /// Out of memory.
     #[error("out of memory")]
     Memory,
 }

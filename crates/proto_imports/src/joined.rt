@@ -10,14 +10,14 @@ use mrpc_table::Memory;
 use proto_file::Places;
 use std::alloc::Global;
 
-// Whether a file was left.
+// True if the visit of a file is finished.
 fn is_left(mark: Mark) -> bool
     ensures { IsTrue result ↔ (mark ≡ Mark.Left) }
 {
     matches!(mark, Mark::Left)
 }
 
-// The paths and places of the reached files but the root, by ascending path.
+// The paths and indices of the reached files except the root, by ascending path.
 fn by_path<'a>(
     alloc: Global,
     members: &'a [Member],
@@ -37,7 +37,7 @@ fn by_path<'a>(
     Ok(pairs)
 }
 
-// The root, and then the other reached files by ascending path.
+// The root, followed by the other reached files by ascending path.
 pub(crate) fn joined(alloc: Global, members: &[Member], marks: &[Mark]) -> Result<Places, Memory>
     requires some { 0 < length members.now }
     requires own { HaveOwnPaths members.now }

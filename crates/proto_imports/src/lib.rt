@@ -1,11 +1,12 @@
-//! The imports among the files of a set: what is at fault with them, which files the first one reaches, and what each
-//! file sees (Protocol Buffers, proto3 language guide, "Importing Definitions").
+//! The imports among the files of a set: which are at fault, which files the first one reaches, and which files are
+//! visible to each (Protocol Buffers, proto3 language guide, "Importing Definitions").
 //!
-//! A set is a list of files with their paths, of which the first is the root. `specs/Leading.antt` says which file an
-//! import leads to, which files a file reaches and which ones it sees; `specs/Visiting.antt` goes through them depth
-//! first, and `specs/Faults.antt` says which import is at fault. It stands on `mrpc_table` and `proto_file`, and knows
-//! nothing of names and types. The layer above uses one contract, that of [`reach`]: what the root reaches, in the
-//! order in which it is resolved, exactly where no import is at fault, and else the first fault.
+//! A set is a list of files with their paths; the first one is the root. `specs/Leading.antt` defines which file an
+//! import leads to, which files a file reaches, and which ones it sees. `specs/Visiting.antt` visits them depth
+//! first, and `specs/Faults.antt` defines which import is at fault. The crate uses `mrpc_table` and `proto_file`, and
+//! knows nothing of names and types. The layer above relies on the contract of [`reach`]: it returns the files that
+//! the root reaches, in the order in which they are resolved, exactly if no import is at fault, and else the first
+//! fault.
 #![tactic(auto)]
 
 mod fault;

@@ -1,4 +1,4 @@
-//! Where the imports of a set lead.
+//! The files that the imports of a set lead to.
 
 ghost use Rattle.std.specs.Prelude.{◌≡◌, ◌↔◌, ◌<◌, length, IsTrue, IfOk, IfErr, OnOk};
 ghost use Rattle.proto_file.specs.declared.file.Import.{Import};
@@ -15,18 +15,18 @@ use mrpc_table::Sequence;
 use std::alloc::Global;
 use std::marker::Model;
 
-// Where an import leads.
+// The file that an import leads to.
 #[derive(Clone, Copy)]
 pub(crate) struct Link {
-    // The file that has its path, by its place in the set.
+    // The index of the file that has its path.
     pub file: usize,
     pub public: bool,
 }
 
-// Where the imports of a file lead, in the order of their statements.
+// The links of a file's imports, in the order of their statements.
 pub(crate) type Links = Sequence<Link>;
 
-// The fault of a file's import.
+// The fault of an import.
 pub(crate) fn fault_at(
     members: &[Member],
     reason: ImportReason,
@@ -60,7 +60,7 @@ fn judge_missing<'a>(
     Ok(())
 }
 
-// Looks for an import whose path no file of the set has.
+// Looks for an import of the set whose path no file has.
 pub(crate) fn judge_all<'a>(members: &'a [Member], paths: &Paths<'a>) -> Result<(), ImportFault>
     requires { KnowsPaths members.now paths.now }
     ensures ok { OnOk result (IsFree members.now ImportReason.Missing) }
@@ -72,14 +72,14 @@ pub(crate) fn judge_all<'a>(members: &'a [Member], paths: &Paths<'a>) -> Result<
     Ok(())
 }
 
-// Whether one of some imports leads to a file.
+// True if one of some imports leads to a file.
 fn leads_to(links: &[Link], file: usize) -> bool
     ensures { IsTrue result ↔ IsLinked links.now file }
 {
     links.iter().any(|link| link.file == file)
 }
 
-// Where the imports of a file lead, unless one stands twice.
+// The links of a file's imports, or the fault of the first repeated one.
 fn links_of<'a>(
     alloc: Global,
     members: &'a [Member],
@@ -110,7 +110,7 @@ fn links_of<'a>(
     Ok(links)
 }
 
-// Where the imports of each file of a set lead. Clauses see the set.
+// The links of the imports of each file of a set. Clauses see the set.
 #[derive(Drop)]
 pub(crate) struct Graph<'a> {
     members: &'a [Member],
@@ -131,7 +131,7 @@ impl<'a> Model for Graph<'a> {
 }
 
 impl<'a> Graph<'a> {
-    // The imports of a set, unless one stands twice in its file.
+    // The links of a set, or the fault of the first import that is repeated in its file.
     pub(crate) fn new(
         alloc: Global,
         members: &'a [Member],
@@ -153,14 +153,14 @@ impl<'a> Graph<'a> {
         Ok(Graph { members, links })
     }
 
-    // How many files there are.
+    // The number of files.
     pub(crate) fn len(&self) -> usize
         ensures { result ≡ length self.now }
     {
         self.links.len()
     }
 
-    // Where the imports of a file lead.
+    // The links of a file's imports.
     pub(crate) fn links(&self, file: usize) -> &[Link]
         requires { file < length self.now }
         ensures { AreLinks self.now file result.now }

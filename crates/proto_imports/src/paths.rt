@@ -1,4 +1,4 @@
-//! The files of a set by their paths.
+//! The files of a set by path.
 
 ghost use Rattle.std.specs.Prelude.{◌≡◌, IfOk};
 ghost use Rattle.proto_imports.specs.Linking.{place_in, KnowsPaths};
@@ -8,14 +8,14 @@ use mrpc_table::Memory;
 use std::alloc::Global;
 use std::collections::BTreeMap;
 
-// The places of a set's files, by their paths.
+// The indices of a set's files, by path.
 #[derive(Drop)]
 pub(crate) struct Paths<'a> {
     by: BTreeMap<&'a [u8], usize>,
 }
 
 impl<'a> Paths<'a> {
-    // The paths of a set.
+    // The files of a set by path.
     pub(crate) fn new(alloc: Global, members: &'a [Member]) -> Result<Paths<'a>, Memory>
         ensures { IfOk result (KnowsPaths members.now) }
     {
@@ -26,7 +26,7 @@ impl<'a> Paths<'a> {
         Ok(Paths { by })
     }
 
-    // The place of the file that has a path.
+    // The index of the file that has a path.
     pub(crate) fn place(&self, path: &'a [u8]) -> Option<usize>
         ensures { result ≡ place_in self.now path.now }
     {

@@ -1,4 +1,4 @@
-//! What the root of a set reaches.
+//! The files that the root of a set reaches.
 
 ghost use Rattle.std.specs.Prelude.{◌<◌, ◌≤◌, length, IfOk, IfErr, OnOk};
 ghost use Rattle.proto_imports.specs.Faults.{IsSound, IsFaultOf};
@@ -14,16 +14,16 @@ use crate::walk::{Walked, visit_root};
 use mrpc_table::MAX_FILES;
 use std::alloc::Global;
 
-/// The files that the first one of a set reaches, in the order in which they are resolved, and what each of them sees;
-/// or the first fault of the set's imports. Without memory it answers `Memory`. It takes time by the number of imports,
-/// each with the length of its path.
+/// Returns the files that the first one of a set reaches, in the order in which they are resolved, and the files
+/// visible to each; or the first fault of the set's imports; or `Memory` if it runs out of memory. Takes time by the
+/// number of imports, each with the length of its path.
 pub fn reach(alloc: Global, members: &[Member]) -> Result<Reach, ImportFault>
     requires some { 0 < length members.now }
     requires few { length members.now ≤ MAX_FILES }
     requires distinct { HaveOwnPaths members.now }
-    // What is answered is what the first file reaches.
+    // The result is the import closure of the first file.
     ensures reach { IfOk result (IsReach members.now) }
-    // No import of the set is at fault then.
+    // On success no import of the set is at fault.
     ensures sound { OnOk result (IsSound members.now) }
     // A fault is the set's first one.
     ensures fault { IfErr result (IsFaultOf members.now) }

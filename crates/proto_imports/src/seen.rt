@@ -1,4 +1,4 @@
-//! What a file sees.
+//! The files that a file sees.
 
 ghost use Rattle.std.specs.Prelude.{◌≡◌, ◌<◌, ◌↔◌, ℕ, [], true, false, Some, All, Contains, slice_get, length, replicate, IfOk, OnOk};
 ghost use Rattle.std.specs.List.{AllZip};
@@ -11,12 +11,12 @@ use mrpc_table::{Memory, Sequence};
 use proto_file::Places;
 use std::alloc::Global;
 
-// Files that are seen so far.
+// The files that are seen so far.
 #[derive(Drop)]
 pub(crate) struct Seen {
-    // For each file of the set, whether it is seen.
+    // For each file of the set, true if it is seen.
     pub marks: Vec<bool>,
-    // Seen files whose public imports come next.
+    // Seen files whose public imports aren't followed yet.
     pub next: Vec<usize>,
 }
 
@@ -40,7 +40,7 @@ impl Seen {
         Ok(Seen { marks, next })
     }
 
-    // Sees a file.
+    // Marks a file as seen.
     fn see(&mut self, file: usize) -> Result<(), Memory>
         requires { file < length self.old.marks.items }
         ensures { OnOk result (MarksMore (λ i. i ≡ file) self.old self.new) }
@@ -52,7 +52,7 @@ impl Seen {
         Ok(())
     }
 
-    // Sees what a file's imports lead to.
+    // Marks the files that a file's imports lead to.
     fn see_imports(&mut self, links: &[Link]) -> Result<(), Memory>
         requires { All (λ l. l.file < length self.old.marks.items) links.now }
         ensures { OnOk result (MarksMore (IsLinked links.now) self.old self.new) }
@@ -63,7 +63,7 @@ impl Seen {
         Ok(())
     }
 
-    // Sees what a file's public imports lead to.
+    // Marks the files that a file's public imports lead to.
     fn see_public(&mut self, links: &[Link]) -> Result<(), Memory>
         requires { All (λ l. l.file < length self.old.marks.items) links.now }
         ensures { OnOk result (MarksMore (IsLinkedPublicly links.now) self.old self.new) }
@@ -77,7 +77,7 @@ impl Seen {
     }
 }
 
-// The marked files by ascending place.
+// The marked files, by ascending index.
 fn marked(alloc: Global, marks: &[bool]) -> Result<Places, Memory>
     ensures those { IfOk result (λ v. (i : ℕ) → Contains v i ↔ (slice_get marks.now i ≡ Some true)) }
     ensures ascend { IfOk result (λ v. Ascends ◌<◌ v) }
@@ -91,7 +91,7 @@ fn marked(alloc: Global, marks: &[bool]) -> Result<Places, Memory>
     Ok(places)
 }
 
-// What a file sees.
+// The files that a file sees.
 fn seen_from(alloc: Global, graph: &Graph, file: usize) -> Result<Places, Memory>
     requires here { file < length graph.now }
     requires own { HaveOwnPaths graph.now }
@@ -106,7 +106,7 @@ fn seen_from(alloc: Global, graph: &Graph, file: usize) -> Result<Places, Memory
     marked(alloc, &seen.marks)
 }
 
-// What each of some files sees.
+// The files that each of some files sees.
 pub(crate) fn all_seen(
     alloc: Global,
     graph: &Graph,

@@ -1,4 +1,4 @@
-//! Going through the files of a set depth first.
+//! A depth-first traversal of the files of a set.
 
 ghost use Rattle.std.specs.Prelude.{◌≡◌, ◌<◌, ◌+◌, ◌^◌, ◌++◌, ◌∷◌, [], length, replicate, slice_set, IfOk, OnOk};
 ghost use Rattle.proto_imports.specs.Walking.{first_frame, Follows, CameOf};
@@ -7,7 +7,7 @@ use crate::links::{Graph, Link};
 use mrpc_table::Memory;
 use std::alloc::Global;
 
-// Whether a file is being visited.
+// The progress of a file's visit.
 #[derive(Clone, Copy)]
 pub(crate) enum Mark {
     New,
@@ -15,23 +15,23 @@ pub(crate) enum Mark {
     Left,
 }
 
-// A file that is being visited, and the place of its import that comes next.
+// A file that is being visited, and the index of its next import.
 #[derive(Clone, Copy)]
 pub(crate) struct Frame {
     pub file: usize,
     pub next: usize,
 }
 
-// A walk through the files.
+// A depth-first traversal.
 #[derive(Drop)]
 pub(crate) struct Walk {
     // The files that are being visited, the innermost last.
     pub frames: Vec<Frame>,
-    // For each file of the set.
+    // The progress of each file of the set.
     pub marks: Vec<Mark>,
 }
 
-// As many new files.
+// This many files that aren't visited yet.
 fn all_new(alloc: Global, count: usize) -> Result<Vec<Mark>, Memory>
     ensures { IfOk result (λ v. v.items ≡ replicate count Mark.New) }
 {
@@ -43,7 +43,7 @@ fn all_new(alloc: Global, count: usize) -> Result<Vec<Mark>, Memory>
 }
 
 impl Walk {
-    // Begins to visit a file.
+    // Starts to visit a file.
     fn enter(&mut self, file: usize) -> Result<(), Memory>
         requires { file < length self.old.marks.items }
         ensures frames { OnOk result (self.new.frames.items ≡ self.old.frames.items ++ first_frame file ∷ []) }
@@ -54,7 +54,7 @@ impl Walk {
         Ok(())
     }
 
-    // At the root, which is the first of these files.
+    // A traversal that starts at the root, the first of this many files.
     fn new(alloc: Global, count: usize) -> Result<Walk, Memory>
         requires { 0 < count }
         ensures frames { IfOk result (λ w. w.frames.items ≡ first_frame 0 ∷ []) }
@@ -67,7 +67,7 @@ impl Walk {
         Ok(walk)
     }
 
-    // Follows an import of the innermost file, which was taken off. Whether it closes a ring.
+    // Follows an import of the innermost file, whose frame was popped. Returns true if the import closes a cycle.
     fn follow(&mut self, frame: Frame, link: Link) -> Result<bool, Memory>
         requires here { link.file < length self.old.marks.items }
         requires more { frame.next + 1 < 2 ^ 64 }
@@ -88,12 +88,12 @@ impl Walk {
     }
 }
 
-// What comes of a walk.
+// The result of a traversal.
 #[derive(Drop)]
 pub(crate) enum Walked {
-    // The files with this mark `Left` were left.
+    // The files marked `Left` are the finished ones.
     Left(Vec<Mark>),
-    // The next import of a file closes a ring.
+    // The next import of a file closes a cycle.
     Ring(Frame),
 }
 

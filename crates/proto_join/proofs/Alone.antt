@@ -1,4 +1,4 @@
--- Behind nothing everything stays as it is.
+-- Shifting by nothing changes nothing.
 use Rattle.std.proofs.Common.{◌≡◌, ℕ, ◌+◌, List, [], ◌∷◌, map, All, Option, Some, None, option_map, refl, ap, sym, ◌∙◌, arith, append-nil}
 use Rattle.std.proofs.lemmas.List.Elements.{All-head, All-tail}
 use Rattle.proto_file.specs.declared.file.Span.{Span}

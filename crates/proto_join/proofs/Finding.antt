@@ -1,4 +1,4 @@
--- Where a declaration of the joined files comes from: which file has it, and what it is there.
+-- The origin of a declaration of the joined files: its file, and its form there.
 use Rattle.std.proofs.Common.{◌≡◌, ℕ, zero, suc, ◌+◌, ◌<◌, ◌≤◌, ◌⊎◌, inl, inr, List, [], ◌∷◌, ◌++◌, length, get_or}
 use Rattle.std.proofs.Common.{map, take, All, Contains, Some, slice_get, refl, ap, sym, ◌∙◌, subst, arith}
 use Rattle.std.proofs.Common.{length-append}
@@ -11,7 +11,7 @@ use Rattle.proto_join.specs.declared.part.Before.{Before}
 use Rattle.proto_join.specs.Joining.{nothing, behind, gathered, sizes_of}
 use Rattle.proto_join.specs.Texts.{base_at}
 
--- ---- where the items of a file start, among those of all files
+-- ---- the index of a file's first item among those of all files
 
 abbrev pub start : (Part → ℕ) → List Part → ℕ → ℕ
 start f [] j = 0
@@ -33,12 +33,12 @@ start-le f (p ∷ ps) zero j h = omega arith
 start-le f (p ∷ ps) (suc i) zero h = absurd (omega arith)
 start-le f (p ∷ ps) (suc i) (suc j) h = omega (arith, start-le f ps i j (omega arith))
 
--- the items of an earlier file stand before those of a later one
+-- the items of an earlier file come before those of a later one
 pub start-apart : (f : Part → ℕ) (ps : List Part) (j k : ℕ) (p : Part) → slice_get ps j ≡ Some p → j < k
     → start f ps j + f p ≤ start f ps k
 start-apart f ps j k p e h = omega (arith, start-suc f ps j p e, start-le f ps (suc j) k (omega arith))
 
--- the items of one place are of one file, and of one place there
+-- items with the same index are of one file, and have one index there
 pub one_start : (f : Part → ℕ) (ps : List Part) (j k : ℕ) (p q : Part) (a b : ℕ) → slice_get ps j ≡ Some p → slice_get ps k ≡ Some q
     → a < f p → b < f q → start f ps j + a ≡ start f ps k + b → (j ≡ k) × (a ≡ b)
 one_start f ps j k p q a b at_j at_k in_p in_q same = elim (cases_order j k) [
@@ -65,7 +65,7 @@ start-one [] j p e = absurd (none-some p e)
 start-one (q ∷ ps) zero p e = refl
 start-one (q ∷ ps) (suc j) p e = omega (arith, start-one ps j p e)
 
--- ---- what stands before the file at a place
+-- ---- what precedes the file with an index
 
 abbrev pub before_at : Before → List Part → ℕ → Before
 before_at b [] j = b
@@ -179,6 +179,6 @@ length-gathered shift declares b (p ∷ ps) =
       length-gathered shift declares (behind b p) ps,
     )
 
--- one file has one place
+-- one index has one file
 pub one_part : (ps : List Part) (j k : ℕ) (p q : Part) → slice_get ps j ≡ Some p → slice_get ps k ≡ Some q → j ≡ k → p ≡ q
 one_part ps j k p q at_j at_k same = same_Some p q (sym at_j ∙ ap (λ n. slice_get ps n) same ∙ at_k)

@@ -1,4 +1,4 @@
--- What was joined is well formed.
+-- Joined files are valid.
 use Rattle.std.proofs.Common.{◌≡◌, ℕ, suc, ◌+◌, ◌<◌, ◌≤◌, List, [], ◌∷◌, length, get_or, map, All, Contains, Option}
 use Rattle.std.proofs.Common.{Some, None, option_map, slice_get, IfSome, refl, ap, sym, ◌∙◌, subst, arith}
 use Rattle.std.proofs.lemmas.Option.{slice_get_within}
@@ -28,7 +28,7 @@ use Rattle.proto_join.proofs.Finding.{length-gathered}
 use Rattle.proto_join.proofs.Standing.{head_item}
 use Rattle.proto_join.proofs.Ordering.{parent_back, below_of}
 
--- ---- a declaration that was moved is as well formed as it was
+-- ---- a shifted declaration is as valid as before
 
 type_name : (n : ℕ) (w : Word) → HasTypeName w → HasTypeName (shift_word n w)
 type_name n w (relative h) = relative h
@@ -108,7 +108,7 @@ formed_heads ps sound k h e =
     subst (λ (d : Head). IsFormedHead (length (joined ps).heads) k d) (sym is)
     (subst (λ i. IsFormedHead (length (joined ps).heads) i moved) place (subst (λ i. IsFormedHead i f.file moved) long formed))
 
--- ---- places of messages
+-- ---- indices of messages
 
 place_moved : (b : Before) (a : ℕ) (o : Option ℕ) → IsPlaceBelow a o → IsPlaceBelow (b.messages + a) (shift_parent b o)
 place_moved b a None h = h
@@ -180,7 +180,7 @@ service_there ps = all_of_got (λ (s : ServiceDecl). s.file < length (joined ps)
       length-heads nothing ps,
     ))
 
--- the message at a place that a message of a file has there is of that file
+-- the message with an index that a message of a file has there is of that file
 outer_file : (ps : List Part) (j : ℕ) (p : Part) (c i : ℕ) (outer : MessageDecl) → slice_get ps j ≡ Some p → c < messages_of p
     → i ≡ (before_at nothing ps j).messages + c → slice_get (joined ps).messages i ≡ Some outer → j ≡ outer.file
 outer_file ps j p c i outer there below place at =
@@ -221,7 +221,7 @@ nested_enums ps sound i e outer among of at =
       before-files nothing ps f.file f.part f.there,
     )
 
--- ---- all of it
+-- ---- all invariants
 
 pub joined-formed : (ps : List Part) → AreSound ps → IsFormed (joined ps)
 joined-formed ps sound = record {

@@ -1,4 +1,4 @@
--- One item more that is moved, and one file more that is joined.
+-- One more shifted item, and one more joined file.
 use Rattle.std.proofs.Common.{◌≡◌, ℕ, ◌+◌, ◌^◌, ◌<◌, ◌≤◌, List, [], ◌∷◌, ◌++◌, length, take, drop, set, get_or, map}
 use Rattle.std.proofs.Common.{sum, sum_by, All, IfSome, Option, Some, None, refl, ap, sym, ◌∙◌, subst, arith}
 use Rattle.std.proofs.Common.{append-nil, append_assoc, get_or-drop, map-id}
@@ -29,7 +29,7 @@ use Rattle.proto_file.specs.Within.{IsSpanWithin, IsWordWithin, IsNumberWithin, 
 use Rattle.proto_file.specs.Within.{IsFieldWithin, IsMessageWithin, IsValueWithin, IsEnumWithin, IsRpcWithin}
 use Rattle.proto_file.specs.Within.{IsServiceWithin}
 
--- ---- a list whose first items are moved
+-- ---- a list whose first items are shifted
 
 pub same_at : {X : Type 0} (xs ys : List X) (i : ℕ) (d : X) → drop i xs ≡ drop i ys → get_or xs i d ≡ get_or ys i d
 same_at xs ys i d e =
@@ -53,9 +53,9 @@ pub others_more : {X : Type 0} (items init : List X) (i : ℕ) (y : X) → drop 
 others_more items init i y others =
     drop-set-lt (i + 1) items i y (omega arith) ∙ sym (drop-drop 1 i items) ∙ ap (λ l. drop 1 l) others ∙ drop-drop 1 i init
 
--- ---- one file more
+-- ---- one more file
 
--- what stands behind files
+-- what precedes the file after these files
 abbrev pub past : Before → List Part → Before
 past b [] = b
 past b (p ∷ ps) = past (behind b p) ps
@@ -88,7 +88,7 @@ joined-push ps p =
     let services = gathered-push shift_service (λ q. q.file.services) nothing ps p in
     cc
 
--- ---- what stands in a text stands also in a longer one
+-- ---- what lies in a text also lies in a longer one
 
 module _ (size room : ℕ) (more : size ≤ room) where
   span_more : (s : Span) → IsSpanWithin size s → IsSpanWithin room s
@@ -162,7 +162,7 @@ module _ (size room : ℕ) (more : size ≤ room) where
     rpcs = All-weaker (IsRpcWithin size) (IsRpcWithin room) rpc_more s.rpcs h.rpcs;
   }
 
--- ---- a sound file can stand behind others
+-- ---- a valid file can follow others
 
 place_fits : (n messages : ℕ) (place : Option ℕ) → messages + n < 2 ^ 64 → IsPlaceBelow n place
     → IfSome place (λ i. messages + i < 2 ^ 64)
@@ -189,9 +189,9 @@ can_place b files k p bytes messages sound =
       services = λ i d l. service_more p.size room more (get_or p.file.services i d) (sound.within.services i d l);
     }
 
--- ---- the file at hand
+-- ---- the current file
 
--- the texts so far and the one at hand are no longer than all
+-- the texts so far and the current one are together no longer than all
 pub sizes_fit : (ps ys : List Part) (p : Part) → map (λ y. y) ys ≡ take (length ys) ps → length ys < length ps
     → p ≡ get_or ps (length ys) p → sum (sizes_of ys) + p.size ≤ sum (sizes_of ps)
 sizes_fit ps ys p front within at =

@@ -1,4 +1,4 @@
--- What was joined is in order, and each place is in the text of its file.
+-- Joined files are in order, and each offset lies in the text of its file.
 use Rattle.std.proofs.Common.{◌≡◌, ℕ, suc, ◌+◌, ◌<◌, ◌≤◌, inl, inr, List, sum, take, Option, Some, None, slice_get, IfSome, refl, ap, sym, ◌∙◌, subst, arith}
 use Rattle.std.proofs.lemmas.Bool.{cases_order}
 use Rattle.std.proofs.lemmas.List.{take-take}
@@ -62,9 +62,9 @@ in_file ps j k p y x there (of_value a i c l e) (in_value_of _ _ m g h) = enum_f
 in_file ps j k p y x there (of_service a i l e) (in_service_of _ m g h) = service_file ps j p a i m there l e g ∙ h
 in_file ps j k p y x there (of_rpc a i c l e) (in_rpc_of _ _ m g h) = service_file ps j p a i m there l e g ∙ h
 
--- ---- places in texts
+-- ---- offsets in texts
 
--- its own place is in its own text
+-- its own offset lies in its own text
 own_start : (ps : List Part) (s : Span) (x : Declaration) (piece : Piece) → AreSound ps → (l : Located ps s x piece)
     → l.span.start < size_of l.part
 own_start ps s x piece sound l =
@@ -75,7 +75,7 @@ starts_at : (ps : List Part) (s : Span) (x : Declaration) (piece : Piece) (l : L
     → s.start ≡ start size_of ps l.file + l.span.start
 starts_at ps s x piece l = ap (λ (t : Span). t.start) l.shifted
 
--- what is of an earlier file starts before what is of a later one
+-- a declaration of an earlier file starts before one of a later file
 earlier : (ps : List Part) (s t : Span) (x w : Declaration) (u v : Piece) → AreSound ps → (l : Located ps s x u) (m : Located ps t w v)
     → l.file < m.file → s.start < t.start
 earlier ps s t x w u v sound l m less =
@@ -87,13 +87,13 @@ earlier ps s t x w u v sound l m less =
       start-apart size_of ps l.file m.file l.part l.there less,
     )
 
--- and of one file in its order there
+-- two of one file start in their order there
 of_one : (ps : List Part) (s t : Span) (x w : Declaration) (u v : Piece) (l : Located ps s x u) (m : Located ps t w v)
     → l.file ≡ m.file → l.span.start < m.span.start → s.start < t.start
 of_one ps s t x w u v l m same less =
     omega (arith, starts_at ps s x u l, starts_at ps t w v m, ap (λ n. start size_of ps n) same)
 
--- it stands in the same file as the other
+-- both are of the same file
 beside : (ps : List Part) (s t : Span) (x w : Declaration) (u v : Piece) (l : Located ps s x u) (m : Located ps t w v)
     → l.file ≡ m.file → OwnStandsAt l.part.file m.span m.own v
 beside ps s t x w u v l m same =
@@ -106,7 +106,7 @@ moved_beside ps s t x w u v l m same one =
     (subst (λ (p : Part). Moved ps m.file p l.own w) (sym (one_part ps l.file m.file l.part m.part l.there m.there same))
     (subst (λ (y : Own). Moved ps m.file m.part y w) (sym one) m.moved))
 
--- ---- the order of what was joined
+-- ---- the order of the joined files
 
 apart : (ps : List Part) → AreSound ps → (x w : Declaration) (u v : Piece) (s t : Span) → StandsAt (joined ps) s x u
     → StandsAt (joined ps) t w v → s.start ≡ t.start → (x ≡ w) × (u ≡ v) × (s ≡ t)
@@ -152,7 +152,7 @@ files ps sound j k x w u v s t less in_j in_k at_s at_t =
     earlier ps s t x w u v sound l m
     (omega (arith, in_file ps l.file j l.part l.own x l.there l.moved in_j, in_file ps m.file k m.part m.own w m.there m.moved in_k))
 
--- the place of a parent was moved
+-- the index of a parent was shifted
 pub parent_back : (b : Before) (o : Option ℕ) (i : ℕ) → shift_parent b o ≡ Some i → (c : ℕ) × (o ≡ Some c) × (i ≡ b.messages + c)
 parent_back b None i e = absurd (none-some i e)
 parent_back b (Some c) i e = (c, refl, sym (same_Some (b.messages + c) i e))
@@ -195,7 +195,7 @@ joined-ordered ps sound = record {
   files = files ps sound;
 }
 
--- ---- the text of a place
+-- ---- the text of an offset
 
 next_base : (sizes : List ℕ) (i j : ℕ) → i ≤ j → base_at sizes i ≤ base_at sizes j
 next_base sizes i j h = omega (arith, sum_by-take-le (λ n. n) (take j sizes) i, ap sum (take-take i j sizes h))

@@ -1,6 +1,6 @@
--- Two small files that are joined, worked out by hand: the first has 40 bytes, two messages of which one stands in the
--- other, and an enum in the inner one; the second has a package, a message with a oneof and reserved numbers, an enum in
--- it, and a service. Then places in texts of 3, 0 and 4 bytes.
+-- Two small files that are joined, worked out by hand. The first has 40 bytes, two messages of which one is nested in
+-- the other, and an enum in the inner one. The second has a package, a message with a oneof and reserved numbers, an
+-- enum in it, and a service. Then offsets in texts of 3, 0 and 4 bytes.
 use Rattle.std.proofs.Common.{◌≡◌, ℕ, zero, suc, ◌+◌, List, [], ◌∷◌, codes, false, ◌<◌, Some, None, refl, ap, arith, sum, take}
 use Rattle.std.proofs.lemmas.List.{take_all}
 use Rattle.proto_file.specs.Joined.{Joined}
@@ -109,7 +109,7 @@ second = record {
 abbrev both : List Part
 both = record { file = first; sees = 0 ∷ []; size = 40 } ∷ record { file = second; sees = 1 ∷ 0 ∷ []; size = 70 } ∷ []
 
--- ---- what they are together
+-- ---- the joined files
 
 abbrev together : Joined
 together = record {
@@ -192,7 +192,7 @@ both_together = refl
 none_together : joined [] ≡ record { heads = []; messages = []; enums = []; services = [] }
 none_together = refl
 
--- ---- places
+-- ---- offsets
 
 abbrev sizes : List ℕ
 sizes = 3 ∷ 0 ∷ 4 ∷ []
@@ -200,7 +200,7 @@ sizes = 3 ∷ 0 ∷ 4 ∷ []
 last_of_first : IsInTextOf sizes 0 2
 last_of_first = record { from = omega arith; below = omega arith }
 
--- the place behind it is in the third text, since the second has none
+-- the next offset lies in the third text, since the second one is empty
 first_of_third : IsInTextOf sizes 2 3
 first_of_third = record { from = omega arith; below = omega arith }
 
@@ -213,7 +213,7 @@ last_of_third = record { from = omega arith; below = omega arith }
 not_behind : IsInTextOf sizes 2 7 → ⊥
 not_behind h = absurd (omega (arith, h.below))
 
--- behind all of them there is none
+-- an offset past all texts lies in none
 none_behind : (k : ℕ) → IsInTextOf sizes k 7 → ⊥
 none_behind zero h = absurd (omega (arith, h.below))
 none_behind (suc zero) h = absurd (omega (arith, h.below))

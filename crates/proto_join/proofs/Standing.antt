@@ -1,4 +1,4 @@
--- Where each name and number of the joined files stands in its own file.
+-- Where each name and number of the joined files is in its own file.
 use Rattle.std.proofs.Common.{◌≡◌, ℕ, ◌+◌, ◌<◌, ◌⊎◌, inl, inr, zero, suc, List, [], ◌∷◌, length, Option, Some, None}
 use Rattle.std.proofs.Common.{option_map, slice_get, IfSome, refl, ap, sym, ◌∙◌, subst, arith}
 use Rattle.std.proofs.lemmas.Option.{none-some, same_Some, slice_get_within}
@@ -43,7 +43,7 @@ enums_of p = length p.file.enums
 abbrev pub services_of : Part → ℕ
 services_of p = length p.file.services
 
--- ---- a declaration of the file at a place, among those of all files
+-- ---- a declaration of the file with an index, among those of all files
 
 pub data Moved (ps : List Part) (j : ℕ) (p : Part) : Own → Declaration → Type 0 where
   of_package : (i : ℕ) → i ≡ j → Moved ps j p own_package (package_decl i)
@@ -235,7 +235,7 @@ located ps s x piece (rpc i c m r e er es) =
       shifted = here ps f.file s b.0 b.2;
     }
 
--- ---- its own span is in its text
+-- ---- its own span lies in its text
 
 field_within : (size : ℕ) (f : FieldDecl) (s : Span) (piece : Piece) → IsFieldWithin size f → IsOfField f s piece → IsSpanWithin size s
 field_within size f s piece w (field_type v e h) = subst (IsSpanWithin size) (sym h) (subst (IsTypeWithin size) e w.kind)
@@ -285,7 +285,7 @@ stands_within ps j p size F y x piece t moved w (own_rpc_at i c m r e er h) =
 
 -- ---- two declarations of the joined files
 
--- one is of one file, and is one there
+-- a joined declaration comes from one file and one declaration there
 pub same_own : (ps : List Part) (j k : ℕ) (p q : Part) (y z : Own) (x : Declaration) → slice_get ps j ≡ Some p → slice_get ps k ≡ Some q
     → Moved ps j p y x → Moved ps k q z x → (j ≡ k) × (y ≡ z)
 same_own ps j k p q y z x at_j at_k (of_package i e) (of_package _ f) = (sym e ∙ f, refl)
@@ -304,7 +304,7 @@ same_own ps j k p q y z x at_j at_k (of_service a i l e) (of_service b _ m f) =
 same_own ps j k p q y z x at_j at_k (of_rpc a i c l e) (of_rpc b _ _ m f) =
     let s = one_start services_of ps j k p q a b at_j at_k l m (sym e ∙ f) in (s.0, ap (λ n. own_rpc n c) s.1)
 
--- one of a file is one among all
+-- a declaration of a file becomes one joined declaration
 pub same_moved : (ps : List Part) (j : ℕ) (p : Part) (y : Own) (x w : Declaration) → Moved ps j p y x → Moved ps j p y w → x ≡ w
 same_moved ps j p y x w (of_package i e) (of_package k f) = ap package_decl (e ∙ sym f)
 same_moved ps j p y x w (of_message a i l e) (of_message _ k m f) = ap message_decl (e ∙ sym f)
@@ -315,7 +315,7 @@ same_moved ps j p y x w (of_value a i c l e) (of_value _ k _ m f) = ap (λ n. va
 same_moved ps j p y x w (of_service a i l e) (of_service _ k m f) = ap service_decl (e ∙ sym f)
 same_moved ps j p y x w (of_rpc a i c l e) (of_rpc _ k _ m f) = ap (λ n. rpc_decl n c) (e ∙ sym f)
 
--- one that precedes another is of an earlier file, or precedes it in theirs
+-- if one precedes another, it is of an earlier file, or precedes it in their common file
 abbrev pub InOrder : (j k : ℕ) (y z : Own) → Type 0
 InOrder j k y z = (j < k) ⊎ ((j ≡ k) × OwnPrecedes y z)
 

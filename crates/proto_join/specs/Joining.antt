@@ -1,4 +1,4 @@
--- Several files joined to one, as if their texts stood one behind another.
+-- Several files joined to one, as if their texts were concatenated.
 use Rattle.std.specs.Prelude.{ℕ, ◌+◌, List, [], ◌∷◌, ◌++◌, length, map}
 use Rattle.proto_file.specs.Joined.{Joined}
 use Rattle.proto_file.specs.declared.joined.Head.{Head}
@@ -7,7 +7,7 @@ use Rattle.proto_join.specs.declared.part.Before.{Before}
 use Rattle.proto_join.specs.Texts.{IsInTextOf}
 use Rattle.proto_join.specs.Shifted.{shift_message, shift_enum, shift_service, shift_head}
 
--- what stands before the first file, and behind a file what stood before it and the file
+-- what precedes the first file, and what precedes the file after another
 abbrev pub nothing : Before
 nothing = record { files = 0; bytes = 0; messages = 0 }
 
@@ -18,12 +18,12 @@ behind b p = record {
   messages = b.messages + length p.file.messages;
 }
 
--- what the files declare of one kind, those of each file behind those of the files before it
+-- the declarations of one kind, those of each file after those of the earlier files
 abbrev pub gathered : {X Y : Type 0} → (Before → X → Y) → (Part → List X) → Before → List Part → List Y
 gathered shift declares b [] = []
 gathered shift declares b (p ∷ ps) = map (shift b) (declares p) ++ gathered shift declares (behind b p) ps
 
--- the head of a file: its package, and what it sees
+-- the head of a file: its package, and the files visible to it
 abbrev pub heads_of : Part → List Head
 heads_of p = record { «package» = p.file.package; sees = p.sees } ∷ []
 
@@ -35,11 +35,11 @@ joined ps = record {
   services = gathered shift_service (λ p. p.file.services) nothing ps;
 }
 
--- ---- places of the joined texts
+-- ---- offsets of the concatenated texts
 
 abbrev pub sizes_of : List Part → List ℕ
 sizes_of ps = map (λ p. p.size) ps
 
--- a place is in the text of the file at the place k
+-- an offset lies in the text of the file with index k
 abbrev pub IsInText : List Part → ℕ → ℕ → Type 0
 IsInText ps k place = IsInTextOf (sizes_of ps) k place

@@ -1,4 +1,4 @@
--- The code's own: what must fit a word of 64 bits for a file to stand behind others, and what the joined files are with it.
+-- The code's own: what must fit a word of 64 bits for a file to follow others, and the joined files with one more.
 use Rattle.std.specs.Prelude.{ℕ, ◌+◌, ◌-◌, ◌^◌, ◌<◌, ◌++◌, map, IfSome, All}
 use Rattle.proto_file.specs.Joined.{Joined}
 use Rattle.proto_file.specs.declared.file.MessageDecl.{MessageDecl}
@@ -10,7 +10,7 @@ use Rattle.proto_join.specs.Joining.{heads_of}
 use Rattle.proto_join.specs.Shifted.{shift_message, shift_enum, shift_service, shift_head}
 use Rattle.proto_file.specs.Within.{IsWordWithin, IsMessageWithin, IsEnumWithin, IsServiceWithin}
 
--- the bytes that a text may have behind so many
+-- the largest size of a text after this many bytes
 abbrev pub room_behind : ℕ → ℕ
 room_behind bytes = 2 ^ 64 - 1 - bytes
 
@@ -31,7 +31,7 @@ pub record CanPlace (b : Before) (p : Part) : Type 0 where
   pub enums : All (CanPlaceEnum b) p.file.enums
   pub services : All (CanPlaceService b) p.file.services
 
--- the joined files, and behind them one more
+-- the joined files, followed by one more
 abbrev pub with_file : Joined → Before → Part → Joined
 with_file J b p = record {
   heads = J.heads ++ map (shift_head b) (heads_of p);

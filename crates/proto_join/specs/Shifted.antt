@@ -1,5 +1,5 @@
--- What a file says, once it stands behind others: each place in its text is behind theirs, and each place among the
--- messages behind those of theirs. A line stays that of its own text.
+-- The declarations of a file that follows others: its offsets come after their texts, and the indices of its messages
+-- after theirs. Line numbers stay those of its own text.
 use Rattle.std.specs.Prelude.{ℕ, ◌+◌, map, option_map, Option}
 use Rattle.proto_file.specs.declared.file.Span.{Span}
 use Rattle.proto_file.specs.declared.file.Word.{Word}
@@ -16,7 +16,7 @@ use Rattle.proto_file.specs.declared.file.ServiceDecl.{ServiceDecl}
 use Rattle.proto_file.specs.declared.joined.Head.{Head}
 use Rattle.proto_join.specs.declared.part.Before.{Before}
 
--- ---- behind so many bytes
+-- ---- after this many bytes
 
 abbrev pub shift_span : ℕ → Span → Span
 shift_span bytes s = record s { start = bytes + s.start; end = bytes + s.end }
@@ -52,9 +52,9 @@ shift_rpc bytes r = record {
   output = shift_word bytes r.output;
 }
 
--- ---- behind other files
+-- ---- after other files
 
--- the place of a message that it stands in
+-- the index of the enclosing message
 abbrev pub shift_parent : Before → Option ℕ → Option ℕ
 shift_parent b parent = option_map (λ i. b.messages + i) parent
 

@@ -4,8 +4,8 @@ use Rattle.proto_file.specs.Order.{IsFormed, IsOrdered}
 use Rattle.proto_join.specs.declared.part.Part.{Part}
 use Rattle.proto_file.specs.Within.{IsWithin}
 
--- A file at a place among so many: it is well formed and in order, and stands within its text; it sees itself, and
--- files that are there.
+-- A file with an index among this many: it is valid and in order, and lies within its text. It sees itself, and only
+-- files that exist.
 pub record IsSound (files place : ℕ) (p : Part) : Type 0 where
   pub formed : IsFormed p.file
   pub ordered : IsOrdered p.file

@@ -1,4 +1,4 @@
-//! Declarations, behind other files.
+//! Declarations, placed after other files.
 
 ghost use Rattle.std.specs.Prelude.{◌≡◌, ℕ, ◌+◌, ◌<◌, ◌^◌, ◌++◌, All, map, IfSome, OnOk};
 ghost use Rattle.proto_join.specs.declared.part.Before.{Before};
@@ -11,19 +11,19 @@ use crate::shift::{Shift, shift_all};
 use mrpc_table::{Memory, Sequence};
 use proto_file::{EnumDecl, Head, MessageDecl, Places, ServiceDecl, Word};
 
-// A declaration that can be moved behind other files.
+// A declaration that can be placed after other files.
 pub(crate) trait Declared: Drop {
     ghost placed: { Before → Self → Self };
 
     ghost can_place: { Before → Self → Type 0 };
 
-    // It, behind other files.
+    // Places it after other files.
     fn placed(self, before: Before) -> Self
         requires { can_place before self }
         ensures { result ≡ placed before self };
 }
 
-// Appends declarations, each behind other files.
+// Appends declarations, each placed after other files.
 pub(crate) fn append_all<T: Declared>(
     all: &mut Sequence<T>,
     items: Sequence<T>,
@@ -38,7 +38,7 @@ pub(crate) fn append_all<T: Declared>(
     Ok(())
 }
 
-// The head of a file, behind other files.
+// The head of a file, placed after other files.
 pub(crate) fn placed_head(name: Option<Word>, sees: Places, before: Before) -> Head
     requires { IfSome name (IsWordWithin (room_behind before.bytes)) }
     ensures { result ≡ shift_head before (record { «package» = name; sees = sees }) }

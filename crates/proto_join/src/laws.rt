@@ -10,19 +10,19 @@ ghost use Rattle.proto_join.specs.Joining.{joined, IsInText};
 ghost use Rattle.proto_join.specs.Sound.{AreSound};
 ghost use Rattle.proto_join.specs.Texts.{IsInTextOf};
 
-/// Files that were read and are joined are well formed together, and in order.
+/// Files that were read are valid together once they are joined, and in order.
 pub fn joined_is_ordered()
     ensures formed { (ps : List Part) → AreSound ps → IsFormed (joined ps) }
     ensures ordered { (ps : List Part) → AreSound ps → IsOrdered (joined ps) }
 {}
 
-/// One file that is joined, and sees itself alone, is that file alone.
+/// Joining one file that sees only itself gives that file alone.
 pub fn joined_alone()
     ensures { (p : Part) → p.sees ≡ 0 ∷ [] → All (λ m. m.file ≡ 0) p.file.messages → All (λ e. e.file ≡ 0) p.file.enums
         → All (λ s. s.file ≡ 0) p.file.services → joined (p ∷ []) ≡ alone p.file }
 {}
 
-/// A place is in the text of one file at most, and what stands in a file starts in the text of that file.
+/// An offset lies in the text of at most one file. Each part of a declaration starts in the text of its file.
 pub fn places_apart()
     ensures one { (sizes : List ℕ) (j k place : ℕ) → IsInTextOf sizes j place → IsInTextOf sizes k place → j ≡ k }
     ensures own { (ps : List Part) (k : ℕ) (x : Declaration) (piece : Piece) (s : Span) → AreSound ps

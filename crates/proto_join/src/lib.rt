@@ -1,11 +1,11 @@
-//! Several proto files joined to one, as if their texts stood one behind another.
+//! Several proto files joined to one, as if their texts were concatenated.
 //!
-//! [`join`] takes files that were read, each with the files that it sees and with the size of its text, and makes of
-//! them what is resolved together (`proto_file`): the declarations of all files in one list each, every place in a text
-//! behind the texts of the earlier files. `specs/Joining.antt` says what they are together. The layer above uses that
-//! contract, and the laws that what was joined is well formed and in order ([`joined_is_ordered`]), that one file that
-//! is joined is that file alone ([`joined_alone`]), and that a place is in the text of one file ([`places_apart`]),
-//! which [`file_at`] finds. It stands on `mrpc_table` and `proto_file`.
+//! [`join`] takes files that were read, each with the files visible to it and the size of its text. It joins them
+//! into the form that is resolved (`proto_file`): the declarations of all files in one list each, with the offsets of
+//! each file after the texts of the earlier ones. `specs/Joining.antt` defines the result. The layer above relies on
+//! that contract and on three laws: joined files are valid and in order ([`joined_is_ordered`]), one joined file is
+//! that file alone ([`joined_alone`]), and an offset lies in the text of at most one file ([`places_apart`]), which
+//! [`file_at`] finds. The crate uses `mrpc_table` and `proto_file`.
 #![tactic(auto)]
 
 mod decls;

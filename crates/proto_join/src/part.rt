@@ -7,21 +7,21 @@ use proto_file::{File, Places};
 #[derive(Drop)]
 pub struct Part {
     pub file: File,
-    /// The files whose types and packages its references may name, itself among them, by their places among the files
-    /// that are joined.
+    /// The files whose types and packages its references may name, including itself, by their indices among the
+    /// joined files.
     pub sees: Places,
-    /// How many bytes its text has.
+    /// The length of its text in bytes.
     pub size: usize,
 }
 
-// What stands before a file, among those that are joined.
+// What precedes a file among the joined files.
 #[derive(Clone, Copy)]
 pub(crate) struct Before {
-    // How many files.
+    // The number of files.
     pub files: usize,
-    // How many bytes their texts have.
+    // The number of bytes of their texts.
     pub bytes: usize,
-    // How many messages they declare.
+    // The number of messages that they declare.
     pub messages: usize,
 }
 
@@ -29,7 +29,7 @@ impl Before {
     ghost use Rattle.std.specs.Prelude.{◌≡◌, ◌+◌, ◌<◌, ◌^◌, length, IfOk};
     ghost use Rattle.proto_join.specs.Joining.{behind};
 
-    // What stands behind the file; no memory holds more messages than a word of 64 bits counts.
+    // What precedes the next file. Memory can't hold more messages than a word of 64 bits counts.
     pub(crate) fn behind(self, part: &Part) -> Result<Before, Memory>
         requires files { self.files + 1 < 2 ^ 64 }
         requires bytes { self.bytes + part.now.size < 2 ^ 64 }

@@ -1,4 +1,4 @@
-//! The parts of declarations, behind other texts.
+//! The parts of declarations, shifted past other texts.
 
 ghost use Rattle.std.specs.Prelude.{◌≡◌, ℕ, ◌+◌, ◌-◌, ◌<◌, ◌^◌, All, map};
 ghost use Rattle.proto_join.specs.Shifted.{shift_span, shift_word, shift_number, shift_range, shift_type, shift_field, shift_value, shift_rpc};
@@ -7,19 +7,19 @@ ghost use Rattle.proto_file.specs.Within.{IsSpanWithin, IsWordWithin, IsNumberWi
 use mrpc_table::Sequence;
 use proto_file::{FieldDecl, FieldType, Number, Range, RpcDecl, Span, ValueDecl, Word};
 
-// What stands at a place in a text, and can be moved behind other texts.
+// Something with offsets in a text, which can be shifted past other texts.
 pub(crate) trait Shift {
     ghost shifted: { ℕ → Self → Self };
 
     ghost is_within: { ℕ → Self → Type 0 };
 
-    // Moves it behind so many bytes, in place.
+    // Adds this many bytes to its offsets, in place.
     fn shift(&mut self, bytes: usize)
         requires { is_within (2 ^ 64 - 1 - bytes) self.old }
         ensures { self.new ≡ shifted bytes self.old };
 }
 
-// Moves each item behind so many bytes, in place.
+// Adds this many bytes to the offsets of each item, in place.
 pub(crate) fn shift_all<T: Shift>(items: Sequence<T>, bytes: usize) -> Sequence<T>
     requires { All (T.is_within (2 ^ 64 - 1 - bytes)) items }
     ensures { result ≡ map (T.shifted bytes) items }
@@ -42,7 +42,7 @@ fn shifted_span(span: Span, bytes: usize) -> Span
     }
 }
 
-// A number behind so many bytes.
+// A number with this many bytes added to its offsets.
 pub(crate) fn shifted_number(number: Number, bytes: usize) -> Number
     requires { IsNumberWithin (2 ^ 64 - 1 - bytes) number }
     ensures { result ≡ shift_number bytes number }

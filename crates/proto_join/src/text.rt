@@ -1,10 +1,10 @@
-//! Places in texts that stand one behind another.
+//! Offsets in concatenated texts.
 
 ghost use Rattle.std.specs.Prelude.{◌≡◌, ℕ, ◌<◌, ◌≤◌, ◌↔◌, length, sum, IfSome, IsNone};
 ghost use Rattle.proto_join.specs.Texts.{IsInTextOf};
 
-/// The place of the file in whose text a place of the joined texts stands, by the sizes of the texts; none where it
-/// stands behind all of them. It takes time in proportion to the number of texts.
+/// Returns the index of the file that contains an offset of the concatenated texts, given the sizes of the texts;
+/// `None` if the offset is past the last file. Takes time proportional to the number of texts.
 pub fn file_at(sizes: &[usize], place: usize) -> Option<usize>
     ensures found { IfSome result (λ k. IsInTextOf sizes.now k place) }
     ensures there { IfSome result (λ k. k < length sizes.now) }

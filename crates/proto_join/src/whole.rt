@@ -12,7 +12,7 @@ use proto_file::{EnumDecls, File, Heads, Joined, MessageDecls, ServiceDecls};
 use std::alloc::Global;
 use std::marker::Model;
 
-/// What several files say. Clauses see the files as they are resolved together.
+/// The declarations of several files. Clauses see the files as they are resolved together.
 #[derive(Drop)]
 pub struct Union {
     heads: Heads,
@@ -46,7 +46,8 @@ impl Union {
         }
     }
 
-    // The file behind those that stand before it. Without memory it isn't said which of its declarations are there.
+    // Appends a file after those that precede it. If memory runs out, an unspecified part of its declarations is
+    // appended.
     fn append(&mut self, part: Part, before: Before) -> Result<(), Memory>
         requires { CanPlace before part }
         ensures { OnOk result (self.new ≡ with_file self.old before part) }
@@ -82,8 +83,8 @@ impl Union {
     }
 }
 
-/// Joins files to one, as if their texts stood one behind another. It moves what they declare, in time in proportion to
-/// it; their imports it drops.
+/// Joins files to one, as if their texts were concatenated. Moves their declarations, in time proportional to them,
+/// and drops their imports.
 pub fn join(alloc: Global, parts: Vec<Part>) -> Result<Union, Memory>
     requires small { sum (sizes_of parts.items) < 2 ^ 64 }
     requires sound { AreSound parts.items }

@@ -22,7 +22,7 @@ pub data FullName : List Lexeme → Word → Type 0 where
   more : (x y : Lexeme) (name : List ℕ) (zs : List Lexeme) (w : Word) → IsWord x name → IsMark y dot → FullName zs w
       → FullName (x ∷ y ∷ zs) (joined name x.span w)
 
--- a full name, also behind a dot
+-- a full name, optionally after a dot
 pub data TypeName : List Lexeme → Word → Type 0 where
   relative : {ys : List Lexeme} {w : Word} → FullName ys w → TypeName ys w
   absolute : (x : Lexeme) {ys : List Lexeme} {w : Word} → IsMark x dot → FullName ys w
@@ -35,7 +35,7 @@ begins_with words (x ∷ xs) = says_one_of x words
 
 -- ---- types
 
--- the words that no type of a field begins with
+-- the words that no type of a field starts with
 abbrev pub group_word : List (List ℕ)
 group_word = codes "group" ∷ []
 
@@ -43,25 +43,25 @@ group_word = codes "group" ∷ []
 abbrev pub member_words : List (List ℕ)
 member_words = codes "option" ∷ group_word
 
--- in a message, where no label stands before the type
+-- in a message, if no label precedes the type
 abbrev pub statement_words : List (List ℕ)
 statement_words =
     codes "message" ∷ codes "enum" ∷ codes "oneof" ∷ codes "reserved" ∷ codes "extend" ∷ codes "extensions"
     ∷ codes "optional" ∷ codes "repeated" ∷ member_words
 
--- `map` in front of `<`, a map's key, and a comma
+-- `map`, `<`, the type of a map's key, and a comma
 pub data MapKey : List Lexeme → Word → Type 0 where
   map_key : (x y z : Lexeme) {ys all : List Lexeme} {w : Word} → IsWord x (codes "map") → IsMark y less → TypeName ys w
       → begins_with group_word ys ≡ false → IsMark z comma → all ≡ x ∷ y ∷ ys ++ z ∷ [] → MapKey all w
 
--- a map whose value is a map, too, any number of times
+-- a map whose value is also a map, nested any number of times
 pub data NestedMaps : List Lexeme → Type 0 where
   innermost : (x : Lexeme) {ks ys all : List Lexeme} {k w : Word} → MapKey ks k → TypeName ys w
       → begins_with group_word ys ≡ false → IsMark x greater → all ≡ ks ++ ys ++ x ∷ [] → NestedMaps all
   around : (x : Lexeme) {ks ys all : List Lexeme} {k : Word} → MapKey ks k → NestedMaps ys → IsMark x greater
       → all ≡ ks ++ ys ++ x ∷ [] → NestedMaps all
 
--- the type of a field whose first word is none of these
+-- the type of a field, whose first word is none of these
 pub data FieldTypeOf (words : List (List ℕ)) : List Lexeme → FieldType → Type 0 where
   named : {ys : List Lexeme} {w : Word} → TypeName ys w → begins_with words ys ≡ false → FieldTypeOf words ys (Named w)
   a_map : (x : Lexeme) {ks ys all : List Lexeme} {k w : Word} → MapKey ks k → TypeName ys w
@@ -70,7 +70,7 @@ pub data FieldTypeOf (words : List (List ℕ)) : List Lexeme → FieldType → T
   map_of_maps : (x : Lexeme) {ks ys all : List Lexeme} {k : Word} → MapKey ks k → NestedMaps ys → IsMark x greater
       → all ≡ ks ++ ys ++ x ∷ [] → FieldTypeOf words all (NestedMap k)
 
--- the type of an rpc; behind `stream` nothing stands
+-- the type of an rpc; nothing follows `stream`
 pub data RpcType : List Lexeme → Word → Type 0 where
   stream_type : (x : Lexeme) → IsWord x (codes "stream") → RpcType (x ∷ []) (word_at (codes "stream") x.span)
   other_type : {ys : List Lexeme} {w : Word} → TypeName ys w → begins_with (codes "stream" ∷ group_word) ys ≡ false
@@ -78,7 +78,7 @@ pub data RpcType : List Lexeme → Word → Type 0 where
 
 -- ---- numbers
 
--- a whole number; in an enum also behind `-`
+-- an integer; in an enum, optionally after `-`
 pub data NumberOf (signed : Bool) : List Lexeme → Number → Type 0 where
   whole : (x : Lexeme) (value : Decimal) → x.means ≡ integer value
       → NumberOf signed (x ∷ []) (number_at false value x.span)
@@ -87,7 +87,7 @@ pub data NumberOf (signed : Bool) : List Lexeme → Number → Type 0 where
 
 -- ---- options
 
--- how far braces are open: a list of tokens that closes the last of n of them, and none before its end
+-- nested braces: a list of tokens whose end closes the last of n open braces, and no earlier token does
 pub data Closes : ℕ → List Lexeme → Type 0 where
   last_brace : (x : Lexeme) → IsMark x closing_brace → Closes 1 (x ∷ [])
   closing : (x : Lexeme) {n : ℕ} {ys : List Lexeme} → IsMark x closing_brace → Closes (suc n) ys
@@ -106,13 +106,13 @@ pub data AnyNumber (x : Lexeme) : Type 0 where
   an_integer : (value : Decimal) → x.means ≡ integer value → AnyNumber x
   a_number : x.means ≡ number → AnyNumber x
 
--- `true` and `false`, where they are the whole value
+-- `true` or `false`, if it is the whole value
 abbrev pub truth : List Lexeme → Option Bool
 truth (x ∷ []) =
     if says x.means (codes "true") then Some true else if says x.means (codes "false") then Some false else None
 truth _ = None
 
--- a full name, a number with a sign or none, strings, or a block in braces
+-- a full name, a number with an optional sign, strings, or a block in braces
 pub data Value : List Lexeme → Type 0 where
   a_name : {ys : List Lexeme} {w : Word} → FullName ys w → Value ys
   unsigned : (x : Lexeme) → AnyNumber x → Value (x ∷ [])
@@ -120,7 +120,7 @@ pub data Value : List Lexeme → Type 0 where
   texts : {ys : List Lexeme} → Strings ys → Value ys
   block : (x : Lexeme) {ys : List Lexeme} → IsMark x opening_brace → Closes 1 ys → Value (x ∷ ys)
 
--- a part of an option's name: a name, or a full name in parentheses, also behind a dot
+-- a part of an option's name: a name, or a full name in parentheses, optionally after a dot
 pub data OptionPart : List Lexeme → Type 0 where
   plain_part : (x : Lexeme) (name : List ℕ) → IsWord x name → OptionPart (x ∷ [])
   custom_part : (x z : Lexeme) {ys all : List Lexeme} {w : Word} → IsMark x opening_paren → TypeName ys w
@@ -137,18 +137,18 @@ abbrev pub is_packed : List Lexeme → Bool
 is_packed (x ∷ []) = says x.means (codes "packed")
 is_packed _ = false
 
--- an option, and what it says of `packed`
+-- an option, and the value that it gives to `packed`
 pub data OptionOf : List Lexeme → Option Bool → Type 0 where
   option : (x : Lexeme) {ys zs all : List Lexeme} {says_packed : Option Bool} → OptionName ys → IsMark x equals
       → Value zs → all ≡ ys ++ x ∷ zs → says_packed ≡ (if is_packed ys then truth zs else None)
       → OptionOf all says_packed
 
--- the last one that says something counts
+-- the last option that gives a value counts
 abbrev pub latest : Option Bool → Option Bool → Option Bool
 latest first (Some b) = Some b
 latest first None = first
 
--- options with commas between them
+-- options separated by commas
 pub data OptionList : List Lexeme → Option Bool → Type 0 where
   one_option : {ys : List Lexeme} {b : Option Bool} → OptionOf ys b → OptionList ys b
   options : (x : Lexeme) {ys zs all : List Lexeme} {b d : Option Bool} → OptionOf ys b → IsMark x comma

@@ -1,4 +1,4 @@
--- The tokens of a text with what they mean.
+-- The tokens of a text with their meanings.
 use Rattle.proto_file.specs.Dot.{dot}
 use Rattle.std.specs.Prelude.{◌≡◌, ℕ, ◌==◌, ◌||◌, Bool, true, false, List, ◌∷◌, ◌++◌, map}
 use Rattle.std.specs.List.{list_any}
@@ -13,8 +13,8 @@ use Rattle.proto_file.specs.declared.file.Span.{Span}
 use Rattle.proto_file.specs.declared.file.Word.{Word}
 use Rattle.proto_file.specs.declared.file.Number.{Number}
 
--- what a token means: a name, a whole number, another number, what a string stands for, a mark; the end of the text; or
--- that no token stands there
+-- what a token means: a name, an integer, another number, the value of a string, a punctuator, the end of the text,
+-- or that no token starts here
 pub data Meaning : Type 0 where
   identifier : List ℕ → Meaning
   integer : Decimal → Meaning
@@ -46,14 +46,14 @@ lexeme text t = record { means = meaning t.kind (literal_of text t); span = span
 abbrev pub lexemes : List ℕ → List Token → List Lexeme
 lexemes text ts = map (lexeme text) ts
 
--- what a lexeme is
+-- what a lexeme is: this word, this punctuator
 abbrev pub IsWord : Lexeme → List ℕ → Type 0
 IsWord x word = x.means ≡ identifier word
 
 abbrev pub IsMark : Lexeme → ℕ → Type 0
 IsMark x c = x.means ≡ mark c
 
--- whether a lexeme is this word, or one of these
+-- a lexeme is this word, or one of these
 abbrev pub says : Meaning → List ℕ → Bool
 says (identifier name) word = bytes_eq name word
 says _ word = false
@@ -61,19 +61,19 @@ says _ word = false
 abbrev pub says_one_of : Lexeme → List (List ℕ) → Bool
 says_one_of x words = list_any (λ word. says x.means word) words
 
--- no token stands there: `:` and `/` are none outside of braces
+-- not a token here: `:` and `/` are tokens only inside braces
 abbrev pub is_no_token : Meaning → Bool
 is_no_token none = true
 is_no_token (mark c) = c == 58 || c == 47
 is_no_token _ = false
 
--- a type's name or a part of one
+-- a type's name, or a part of one
 abbrev pub is_type_part : Meaning → Bool
 is_type_part (identifier name) = true
 is_type_part (mark c) = c == dot
 is_type_part _ = false
 
--- the marks, by name
+-- the punctuators, by name
 abbrev pub comma : ℕ
 comma = 44
 
@@ -113,14 +113,14 @@ less = 60
 abbrev pub greater : ℕ
 greater = 62
 
--- from where a span starts to where another ends
+-- the span from the start of one span to the end of another
 abbrev pub span_to : Span → Span → Span
 span_to a b = record { start = a.start; end = b.end; line = a.line }
 
 abbrev pub word_at : List ℕ → Span → Word
 word_at name span = record { name = name; span = span }
 
--- a name behind another and a dot, and a name behind a dot
+-- a name before a dot and another name, and a name after a dot
 abbrev pub joined : List ℕ → Span → Word → Word
 joined name span w = word_at (name ++ dot ∷ w.name) (span_to span w.span)
 

@@ -1,5 +1,6 @@
--- The code's own, here and in `proto_schema`: what a token does to a part of a statement, by how far that is read. Which
--- tokens are a part, and what it says, is in `Grammar`; `proto_schema` proves that what is read so is what is said there.
+-- The code's own, here and in `proto_schema`: how a token continues a part of a statement, by the state of that part.
+-- `Grammar` defines which tokens form a part and what it means; `proto_schema` proves that what is read is what is
+-- defined there.
 use Rattle.std.specs.Prelude.{◌≡◌, ℕ, ◌+◌, ◌-◌, ◌^◌, ◌<◌, ◌≤◌, length, ◌==◌, nat_le, Bool, true, false, ◌&&◌, ◌||◌}
 use Rattle.std.specs.Prelude.{if◌then◌else◌, List, [], ◌∷◌, ◌++◌, codes, Option, Some, None, Result, Ok, Err}
 use Rattle.std.specs.Str.{bytes_eq}
@@ -65,7 +66,7 @@ use Rattle.proto_parts.specs.declared.reserved.ReservedState.{ReservedState}
 
 -- ---- tokens
 
--- a token lies in a text, and a string has its two quotes
+-- a token lies in a text, and a string has both its quotes
 pub record Lies (text : List ℕ) (t : Token) : Type 0 where
   pub small : length text < 2 ^ 62
   pub ordered : t.start ≤ t.end
@@ -83,7 +84,7 @@ unexpected x = fault_at (if is_no_token x.means then reasons.Token else reasons.
 abbrev pub wrong : {X : Type 0} → Lexeme → Result X ProtoFault
 wrong x = Err (unexpected x)
 
--- what a function of the code returned is what reading gives, unless memory ran out
+-- the code returned what reading defines, or ran out of memory
 abbrev pub Fails : {X : Type 0} → ProtoFault → Result X ProtoFault → Type 0
 Fails fault.Memory read = Unit {0}
 Fails e read = read ≡ Err e
@@ -94,7 +95,7 @@ Gives (Err e) read = Fails e read
 
 -- ---- names
 
--- the answer for a name, or else the token is wrong
+-- the result for a name; any other token is at fault
 abbrev pub by_name : {X : Type 0} → Lexeme → (List ℕ → X) → Meaning → Result X ProtoFault
 by_name x f (identifier name) = Ok (f name)
 by_name x f m = wrong x
@@ -120,7 +121,7 @@ type_step names.Start x =
     if is_mark x.means dot then Ok (name_steps.More (names.Rooted x.span)) else full_step names.Start x
 type_step s x = full_step s x
 
--- a type's name that `group` doesn't begin
+-- a type's name that doesn't start with `group`
 abbrev pub typed_step : NameState → Lexeme → Result NameStep ProtoFault
 typed_step names.Start x =
     if says x.means (codes "group") then Err (fault_at reasons.Group x.span) else type_step names.Start x
@@ -156,7 +157,7 @@ value_start packed x (mark c) =
 value_start packed x the_end = wrong x
 value_start packed x none = wrong x
 
--- how many braces are open
+-- the number of open braces
 abbrev pub option_depth : OptionState → ℕ
 option_depth (option_states.Braces depth) = depth
 option_depth s = 0
@@ -207,9 +208,9 @@ option_step option_states.Text x =
 option_step (option_states.Braces depth) x = brace_step depth x x.means
 option_step option_states.End x = Ok (option_steps.Whole None)
 
--- ---- what stands behind a number
+-- ---- after a number
 
--- an option's name follows
+-- the name of an option comes next
 abbrev pub next_option : OptionState
 next_option = option_states.Name true
 
@@ -244,7 +245,7 @@ more_field s = Ok (field_steps.More s)
 abbrev pub more_map : MapState → Result MapStep ProtoFault
 more_map s = Ok (map_steps.More s)
 
--- the name is `map`, and `<` stands behind it
+-- the name is `map`, and `<` follows it
 abbrev pub begins_map : Word → Lexeme → Bool
 begins_map w x = is_mark x.means less && bytes_eq w.name (codes "map")
 
@@ -292,7 +293,7 @@ map_step (maps.Value key s) x = of_value key x (typed_step s x)
 map_step (maps.InnerValue outer depth s) x = of_inner_value outer depth x (typed_step s x)
 map_step (maps.Close outer depth) x = if is_mark x.means greater then Ok (closed outer depth) else wrong x
 
--- how many maps are open in the outermost
+-- the number of maps that are open in the outermost one
 abbrev pub map_depth : MapState → ℕ
 map_depth (maps.InnerKey outer depth s) = depth
 map_depth (maps.InnerValue outer depth s) = depth

@@ -1,4 +1,4 @@
--- The words of printed faults.
+-- The words for reasons in the text of faults.
 use Rattle.std.specs.Prelude.{ℕ, List, codes}
 use Rattle.proto_parts.specs.declared.fault.ProtoReason.{ProtoReason}
 use Rattle.proto_parts.specs.declared.fault.ProtoReason.TheVariants.{Token, Expected, Import, Stream, Group, Extend, Syntax2, Nesting}

@@ -1,4 +1,4 @@
-//! Why a text is no proto file.
+//! Why a text is not a proto file.
 
 ghost use Rattle.std.specs.Prelude.{◌≡◌};
 ghost use Rattle.proto_parts.specs.declared.fault.ProtoFault.TheVariants.{Memory as NoMemory};
@@ -8,31 +8,31 @@ use std::alloc::{AllocError, AllocFailed};
 use std::fmt;
 use thiserror::Error;
 
-/// What is wrong with a token.
+/// Why a token is at fault.
 #[derive(Clone, Copy, Debug)]
 pub enum ProtoReason {
-    /// No token stands there. `:` and `/` are tokens in the braces of an option's value alone.
+    /// It is not a token. `:` and `/` are tokens only inside the braces of an option's value.
     Token,
-    /// The token can't stand there.
+    /// It can't appear here; another token is expected.
     Expected,
-    /// Behind `import` stands neither a string nor `public`, nor the end of the text.
+    /// After `import` comes neither a string nor `public`, nor the end of the text.
     Import,
     /// `stream` before the type of an rpc.
     Stream,
-    /// `group` in a type's place.
+    /// `group` where a type is expected.
     Group,
-    /// `extend` or `extensions`, where a statement of a file or of a message begins.
+    /// `extend` or `extensions` where a statement of a file or of a message starts.
     Extend,
-    /// The first token isn't `syntax`, or the syntax that is named isn't proto3.
+    /// The first token isn't `syntax`, or the named syntax isn't proto3.
     Syntax2,
-    /// A 33rd level of messages in one another.
+    /// A 33rd level of nested messages.
     Nesting,
 }
 
 /// Why no file was read.
 #[derive(Clone, Copy, Debug, Error)]
 pub enum ProtoFault {
-    /// The first token at fault, with its place and its line.
+    /// The first token at fault: its reason, offsets and line.
     #[error("line {line}: {reason}")]
     At {
         reason: ProtoReason,
@@ -40,7 +40,7 @@ pub enum ProtoFault {
         end: usize,
         line: u64,
     },
-    /// No memory was found.
+    /// Out of memory.
     #[error("out of memory")]
     Memory,
 }
@@ -48,7 +48,7 @@ pub enum ProtoFault {
 impl ProtoReason {
     ghost use Rattle.proto_parts.specs.Reason.{proto_word};
 
-    /// The word that names the reason in a printed fault.
+    /// The word that names the reason in the text of the fault.
     pub fn word(self) -> &'static str
         ensures { result.now ≡ proto_word self }
     {

@@ -23,12 +23,12 @@ use proto_file::{FieldDecl, FieldLabel, FieldType, Number, Word};
 use proto_tokens::Token;
 use std::alloc::Global;
 
-/// How far a field is read.
+/// How much of a field is read.
 #[derive(Drop)]
 pub enum FieldState {
     /// Its type is being read.
     Type(FieldLabel, NameState),
-    /// Its type, which is a map, is being read.
+    /// Its type is a map, which is being read.
     Map(FieldLabel, MapState),
     /// Its type is read.
     Typed(FieldLabel, FieldType),
@@ -40,7 +40,7 @@ pub enum FieldState {
     Tail(FieldHead, Number, TailState),
 }
 
-/// What stands before a field's `=`.
+/// The parts of a field before its `=`.
 pub struct FieldHead {
     pub label: FieldLabel,
     pub kind: FieldType,
@@ -58,7 +58,7 @@ impl Drop for FieldHead {
 }
 
 impl FieldHead {
-    // The field, with what stands behind the `=`.
+    // The field, given the parts after the `=`.
     fn with(self, number: Number, packed: Option<bool>) -> FieldDecl
         ensures { result ≡ field_of self number packed }
     {
@@ -74,37 +74,37 @@ impl FieldHead {
     }
 }
 
-/// How far a map type is read.
+/// How much of a map type is read.
 #[derive(Drop)]
 pub enum MapState {
     /// The key of the outermost map is being read.
     Key(NameState),
     /// The value of the outermost map is being read.
     Value(Word, NameState),
-    /// A key of a map in this many others is being read, behind the key of the outermost one.
+    /// A key of a nested map is being read, at this depth, after the key of the outermost map.
     InnerKey(Word, usize, NameState),
-    /// A value of a map in this many others is being read.
+    /// A value of a nested map is being read, at this depth.
     InnerValue(Word, usize, NameState),
-    /// This many maps are still to be closed.
+    /// This many maps are still open.
     Close(Word, usize),
 }
 
-/// What a token does to a field.
+/// The result of reading one token of a field.
 #[derive(Drop)]
 pub enum FieldStep {
     More(FieldState),
-    /// It is the `;`.
+    /// The token is the final `;`.
     Done(FieldDecl),
 }
 
-/// What a token does to a map type.
+/// The result of reading one token of a map type.
 #[derive(Drop)]
 pub enum MapStep {
     More(MapState),
     Done(FieldType),
 }
 
-// A token of a type's name that isn't `group`, or behind it.
+// Reads a token of a type's name, or the one after it. `group` is rejected.
 pub(crate) fn typed_step(
     alloc: Global,
     text: &[u8],
@@ -122,14 +122,14 @@ pub(crate) fn typed_step(
     }
 }
 
-// Whether a map begins: the name is `map`, and `<` stands behind it.
+// True if a map type starts: the name is `map`, and the token is `<`.
 fn begins_map(word: &Word, token: &Token) -> bool
     ensures { (text : List ℕ) → result ≡ map_begins word.now (lexeme text token.now) }
 {
     is_mark(token, b'<') && word.name.as_slice() == b"map".as_slice()
 }
 
-// A token of a map's key, or the comma behind it.
+// Reads a token of a map's key, or the comma after it.
 fn key_step(
     alloc: Global,
     text: &[u8],
@@ -145,7 +145,7 @@ fn key_step(
     }
 }
 
-// One of the maps in another is closed.
+// Closes one of the nested maps.
 fn closed(outer: Word, depth: usize) -> MapStep
     ensures { result ≡ closed_map outer depth }
 {
@@ -259,7 +259,7 @@ fn map_step(
     }
 }
 
-// The name of a field, behind its type.
+// Reads the name of a field, after its type.
 fn named(
     alloc: Global,
     text: &[u8],
@@ -274,7 +274,7 @@ fn named(
     Ok(FieldStep::More(FieldState::Named(FieldHead { label, kind, name })))
 }
 
-// A token of the type, or behind it.
+// Reads a token of the type, or the one after it.
 fn of_type(
     alloc: Global,
     text: &[u8],
@@ -329,7 +329,7 @@ fn of_tail(
     }
 }
 
-// A field's number.
+// Reads the number of a field.
 fn of_number(head: FieldHead, token: &Token) -> Result<FieldStep, ProtoFault>
     ensures { (text : List ℕ) → Gives result (if_number (lexeme text token.now)
         (λ v. steps.More (states.Tail head (number_at false v (span_of_token token.now)) tails.Start))) }
@@ -338,7 +338,7 @@ fn of_number(head: FieldHead, token: &Token) -> Result<FieldStep, ProtoFault>
     Ok(FieldStep::More(FieldState::Tail(head, number, TailState::Start)))
 }
 
-/// A token of a field.
+/// Reads one token of a field.
 #[tactic(auto, unfolding(crate::specs::Reading::field_step))]
 pub fn field_step(
     alloc: Global,

@@ -1,4 +1,4 @@
-//! Tokens of a text by what they mean.
+//! The meaning of tokens.
 
 ghost use Rattle.std.specs.Prelude.{◌≡◌, ℕ, List, IfOk, true, false};
 ghost use Rattle.proto_tokens.specs.Tokens.{literal_of};
@@ -14,7 +14,7 @@ use proto_file::{Number, Span, Word};
 use proto_tokens::{Kind, Token};
 use std::alloc::Global;
 
-/// Where a token stands.
+/// The span of a token.
 pub fn span_of(token: &Token) -> Span
     ensures { result ≡ span_of_token token.now }
 {
@@ -25,7 +25,7 @@ pub fn span_of(token: &Token) -> Span
     }
 }
 
-// From where a span starts to where a token ends.
+// The span from the start of a span to the end of a token.
 pub(crate) fn span_to(span: Span, token: &Token) -> Span
     ensures { result ≡ joined_span span (span_of_token token.now) }
 {
@@ -48,7 +48,7 @@ pub fn fault_at(reason: ProtoReason, span: Span) -> ProtoFault
     }
 }
 
-/// The fault of a token that can't stand there: it is none, or another was expected.
+/// The fault of an unexpected token: it is not a token, or another one is expected.
 pub fn unexpected(token: &Token) -> ProtoFault
     ensures { (text : List ℕ) → result ≡ unexpected_at (lexeme text token.now) }
 {
@@ -67,14 +67,14 @@ pub fn bytes_of<'a>(text: &'a [u8], token: &Token) -> &'a [u8]
     &text[token.start..token.end]
 }
 
-/// Whether a token is this mark.
+/// True if a token is this punctuator.
 pub fn is_mark(token: &Token, mark: u8) -> bool
     ensures { (text : List ℕ) → result ≡ is_the_mark (lexeme text token.now).means mark }
 {
     token.kind == Kind::Mark(mark)
 }
 
-/// Whether a token is this word.
+/// True if a token is this word.
 pub fn is_word(text: &[u8], token: &Token, word: &[u8]) -> bool
     requires { Lies text.now token.now }
     ensures { result ≡ says (lexeme text.now token.now).means word.now }
@@ -82,7 +82,7 @@ pub fn is_word(text: &[u8], token: &Token, word: &[u8]) -> bool
     token.kind == Kind::Identifier && bytes_of(text, token) == word
 }
 
-/// The name that an identifier is.
+/// The name in an identifier token.
 pub fn word_of(alloc: Global, text: &[u8], token: &Token) -> Result<Word, Memory>
     requires { Lies text.now token.now }
     ensures { IfOk result (λ w. w ≡ word_at (literal_of text.now token.now) (span_of_token token.now)) }
@@ -93,7 +93,7 @@ pub fn word_of(alloc: Global, text: &[u8], token: &Token) -> Result<Word, Memory
     })
 }
 
-/// The name that a token is.
+/// The name in a token; a fault if the token isn't an identifier.
 pub fn identifier_of(alloc: Global, text: &[u8], token: &Token) -> Result<Word, ProtoFault>
     requires { Lies text.now token.now }
     ensures { let x = lexeme text.now token.now in Gives result (if_name x (λ n. word_at n x.span)) }
@@ -104,7 +104,7 @@ pub fn identifier_of(alloc: Global, text: &[u8], token: &Token) -> Result<Word, 
     Ok(word_of(alloc, text, token)?)
 }
 
-// The number without a sign that a token is.
+// The unsigned number in a token; a fault if the token isn't an integer.
 pub(crate) fn number_of(token: &Token) -> Result<Number, ProtoFault>
     ensures { (text : List ℕ)
         → Gives result (if_number (lexeme text token.now) (λ v. number_at false v (span_of_token token.now))) }
@@ -119,7 +119,7 @@ pub(crate) fn number_of(token: &Token) -> Result<Number, ProtoFault>
     }
 }
 
-// The number that a token is behind a `-`.
+// The negative number in a token after a `-`; a fault if the token isn't an integer.
 pub(crate) fn negative_of(minus: Span, token: &Token) -> Result<Number, ProtoFault>
     ensures { (text : List ℕ) → Gives result (if_number (lexeme text token.now)
         (λ v. number_at true v (joined_span minus (span_of_token token.now)))) }

@@ -1,12 +1,12 @@
-//! The parts of a proto file's statements (Protocol Buffers, proto3 language specification), in this project's profile:
-//! names, options, fields, values of an enum, methods of a service, reserved numbers and names.
+//! The parts of a proto file's statements (Protocol Buffers, proto3 language specification), in this project's
+//! profile: names, options, fields, values of an enum, methods of a service, reserved numbers and names.
 //!
-//! `specs/Lexemes.antt` says what a token means, and `specs/Grammar.antt` which tokens are which part of a statement. A
-//! part is read token by token: its state, such as [`FieldState`], says how far it is read, and its step, such as
-//! [`field_step`], what a token does to it. [`ProtoFault`] says what is wrong with a token. It stands on `proto_tokens`,
-//! which has the tokens, on `proto_file`, which has what the parts say, and on `mrpc_table`. The layer above uses one
-//! contract: each step gives what `specs/Reading.antt` says of the token, or else no memory was found. `proto_schema`
-//! puts the parts together to statements, and proves that what is read so is what the grammar says.
+//! `specs/Lexemes.antt` defines what a token means, and `specs/Grammar.antt` which tokens form which part of a
+//! statement. A part is read token by token. Its state, such as [`FieldState`], records how much of it is read; a
+//! function such as [`field_step`] reads one more token. [`ProtoFault`] is the fault of a token. The crate uses the
+//! tokens of `proto_tokens`, the declarations of `proto_file`, and `mrpc_table`. The layer above relies on one
+//! contract: each step returns what `specs/Reading.antt` defines for the token, or runs out of memory. `proto_schema`
+//! combines the parts into statements, and proves that what is read this way is what the grammar defines.
 #![tactic(auto)]
 
 mod fault;

@@ -1,4 +1,4 @@
-//! Full names and types' names, token by token.
+//! Full names and names of types, token by token.
 
 ghost use Rattle.std.specs.Prelude.{◌≡◌, ◌∷◌, ◌++◌, IfOk};
 ghost use Rattle.proto_file.specs.Dot.{dot as dot_mark};
@@ -13,29 +13,29 @@ use proto_file::{Span, Word};
 use proto_tokens::{Kind, Token};
 use std::alloc::Global;
 
-/// How far a name is read.
+/// How much of a name is read.
 #[derive(Drop)]
 pub enum NameState {
     /// Nothing is read.
     Start,
-    /// The dot at the front is read.
+    /// The leading dot is read.
     Rooted(Span),
-    /// A whole name is read, which a dot may go on with.
+    /// A complete name is read; a dot may continue it.
     Part(Word),
     /// A name and a dot are read.
     Dot(Word),
 }
 
-/// What a token does to a name.
+/// The result of reading one token of a name.
 #[derive(Drop)]
 pub enum NameStep {
-    /// It belongs to the name.
+    /// The token belongs to the name.
     More(NameState),
-    /// It stands behind the name.
+    /// The name ended before the token.
     Whole(Word),
 }
 
-// The first name.
+// Reads the first part of a name.
 fn first_part(alloc: Global, text: &[u8], token: &Token) -> Result<NameStep, ProtoFault>
     requires { Lies text.now token.now }
     ensures { let x = lexeme text.now token.now in Gives result (if_name x (λ n. part n x.span)) }
@@ -44,7 +44,7 @@ fn first_part(alloc: Global, text: &[u8], token: &Token) -> Result<NameStep, Pro
     Ok(NameStep::More(NameState::Part(word)))
 }
 
-// A name behind a dot at the front.
+// Reads the part after a leading dot.
 fn rooted_part(alloc: Global, text: &[u8], dot: Span, token: &Token) -> Result<NameStep, ProtoFault>
     requires { Lies text.now token.now }
     ensures { let x = lexeme text.now token.now in
@@ -59,7 +59,7 @@ fn rooted_part(alloc: Global, text: &[u8], dot: Span, token: &Token) -> Result<N
     Ok(NameStep::More(NameState::Part(Word { name, span })))
 }
 
-// A name behind another and a dot.
+// Reads a part after other parts and a dot.
 fn further_part(text: &[u8], word: Word, token: &Token) -> Result<NameStep, ProtoFault>
     requires { Lies text.now token.now }
     ensures { let x = lexeme text.now token.now in
@@ -75,7 +75,7 @@ fn further_part(text: &[u8], word: Word, token: &Token) -> Result<NameStep, Prot
     Ok(NameStep::More(NameState::Part(Word { name, span })))
 }
 
-/// A token of a full name, or behind it: no dot stands at its front.
+/// Reads a token of a full name, or the one after it. A leading dot is rejected.
 #[tactic(auto, unfolding(crate::specs::Reading::full_step))]
 pub fn full_step(
     alloc: Global,
@@ -95,7 +95,7 @@ pub fn full_step(
     }
 }
 
-// A token of a type's name, or behind it.
+// Reads a token of a type's name, or the one after it.
 #[tactic(auto, unfolding(crate::specs::Reading::full_step))]
 pub(crate) fn type_step(
     alloc: Global,

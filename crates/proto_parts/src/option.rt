@@ -1,4 +1,4 @@
-//! Options, token by token. Of their values only `true` and `false` of `packed` are kept.
+//! Options, token by token. Only the value `true` or `false` of `packed` is kept.
 
 ghost use Rattle.std.specs.Prelude.{◌≡◌, ◌<◌, ◌^◌, ℕ, List, codes, true, false};
 ghost use Rattle.proto_parts.specs.Lexemes.{lexeme};
@@ -11,41 +11,41 @@ use crate::fault::ProtoFault;
 use crate::lexeme::{is_mark, is_word, unexpected};
 use proto_tokens::{Kind, Token};
 
-/// How far an option is read.
+/// How much of an option is read.
 #[derive(Clone, Copy)]
 pub enum OptionState {
-    /// A part of the name follows; `first` where it is the first one.
+    /// A part of the name comes next; `first` if it is the first one.
     Name { first: bool },
     /// A parenthesis is read.
     Open,
-    /// A name follows, in parentheses.
+    /// A name in parentheses comes next.
     OpenName,
-    /// A name in parentheses is read.
+    /// A name inside parentheses is read.
     Inner,
-    /// A part of the name is read; `packed` where the name so far is `packed`.
+    /// A part of the name is read; `packed` if the name so far is `packed`.
     Part { packed: bool },
     /// `=` is read.
     Equals { packed: bool },
     /// A sign is read.
     Sign,
-    /// A name is read, with what it says of `packed`.
+    /// A name is read, with the value that it gives to `packed`.
     Value(Option<bool>),
     /// A name and a dot are read.
     ValueDot,
     /// A string is read.
     Text,
-    /// Braces are open, this many.
+    /// This many braces are open.
     Braces(usize),
-    /// The whole value is read, and nothing can go on with it.
+    /// The value is complete; no further token can belong to it.
     End,
 }
 
-/// What a token does to an option.
+/// The result of reading one token of an option.
 #[derive(Clone, Copy)]
 pub enum OptionStep {
-    /// It belongs to the option.
+    /// The token belongs to the option.
     More(OptionState),
-    /// It stands behind the option, which says this of `packed`.
+    /// The option ended before the token, with this value for `packed`.
     Whole(Option<bool>),
 }
 
@@ -71,7 +71,7 @@ fn is_number(token: &Token) -> bool
     matches!(token.kind, Kind::Integer(_) | Kind::Number)
 }
 
-// A part of an option's name.
+// Reads a part of an option's name.
 #[tactic(auto, unfolding(crate::specs::Reading::option_step))]
 fn name_step(text: &[u8], first: bool, token: &Token) -> Result<OptionStep, ProtoFault>
     requires { Lies text.now token.now }
@@ -84,7 +84,7 @@ fn name_step(text: &[u8], first: bool, token: &Token) -> Result<OptionStep, Prot
     if_name(token, OptionState::Part { packed })
 }
 
-// A token behind a name in parentheses.
+// Reads a token after a name in parentheses.
 #[tactic(auto, unfolding(crate::specs::Reading::option_step))]
 fn inner_step(token: &Token) -> Result<OptionStep, ProtoFault>
     ensures { (text : List ℕ) → Gives result (option_reading states.Inner (lexeme text token.now)) }
@@ -98,7 +98,7 @@ fn inner_step(token: &Token) -> Result<OptionStep, ProtoFault>
     }
 }
 
-// A token behind a part of the name.
+// Reads a token after a part of the name.
 #[tactic(auto, unfolding(crate::specs::Reading::option_step))]
 fn part_step(packed: bool, token: &Token) -> Result<OptionStep, ProtoFault>
     ensures { (text : List ℕ) → Gives result (option_reading (states.Part packed) (lexeme text token.now)) }
@@ -112,7 +112,7 @@ fn part_step(packed: bool, token: &Token) -> Result<OptionStep, ProtoFault>
     }
 }
 
-// What a name says of `packed`.
+// The value that a name gives to `packed`.
 fn truth(text: &[u8], token: &Token, packed: bool) -> Option<bool>
     requires { Lies text.now token.now }
     ensures { result ≡ truth_of packed (lexeme text.now token.now).means }
@@ -126,7 +126,7 @@ fn truth(text: &[u8], token: &Token, packed: bool) -> Option<bool>
     }
 }
 
-// The first token of an option's value.
+// Reads the first token of an option's value.
 #[tactic(auto, unfolding(crate::specs::Reading::option_step))]
 fn value_start(text: &[u8], packed: bool, token: &Token) -> Result<OptionStep, ProtoFault>
     requires { Lies text.now token.now }
@@ -142,7 +142,7 @@ fn value_start(text: &[u8], packed: bool, token: &Token) -> Result<OptionStep, P
     }
 }
 
-// A token in braces.
+// Reads a token inside braces.
 #[tactic(auto, unfolding(crate::specs::Reading::option_step))]
 fn brace_step(depth: usize, token: &Token) -> Result<OptionStep, ProtoFault>
     requires { depth < 2 ^ 63 }
@@ -157,7 +157,7 @@ fn brace_step(depth: usize, token: &Token) -> Result<OptionStep, ProtoFault>
     }
 }
 
-/// A token of an option, or behind it.
+/// Reads a token of an option, or the one after it.
 #[tactic(auto, unfolding(crate::specs::Reading::option_step))]
 pub fn option_step(text: &[u8], state: OptionState, token: &Token) -> Result<OptionStep, ProtoFault>
     requires lies { Lies text.now token.now }

@@ -15,14 +15,14 @@ use proto_file::{Number, Range, Ranges, Span, Word, Words};
 use proto_tokens::{Kind, Token, string_value};
 use std::alloc::Global;
 
-/// How far they are read. Where `signed` is set, `-` may stand before a number.
+/// How much of a `reserved` statement is read. If `signed` is set, a `-` may precede a number.
 #[derive(Drop)]
 pub struct ReservedState {
     pub signed: bool,
     pub part: ReservedPart,
 }
 
-/// Ranges or names, and which of them.
+/// Ranges or names, and how much of them is read.
 #[derive(Drop)]
 pub enum ReservedPart {
     /// `reserved` is read.
@@ -31,11 +31,11 @@ pub enum ReservedPart {
     Ranges(Ranges, RangeState),
     /// A string is read.
     Name(Words),
-    /// A comma is read behind a string.
+    /// A comma is read after a string.
     NextName(Words),
 }
 
-/// How far a range is read.
+/// How much of a range is read.
 #[derive(Clone, Copy)]
 pub enum RangeState {
     Start,
@@ -51,17 +51,17 @@ pub enum RangeState {
     Whole(Range),
 }
 
-/// What a token does to them.
+/// The result of reading one token of a `reserved` statement.
 #[derive(Drop)]
 pub enum ReservedStep {
     More(ReservedState),
-    /// It is the `;` behind ranges.
+    /// The token is the `;` after ranges.
     Ranges(Ranges),
-    /// It is the `;` behind names.
+    /// The token is the `;` after names.
     Names(Words),
 }
 
-// The name that a string stands for, behind others.
+// Reads a string as one more reserved name.
 fn name_step(
     alloc: Global,
     text: &[u8],
@@ -84,7 +84,7 @@ fn name_step(
     Ok(ReservedStep::More(ReservedState { signed, part }))
 }
 
-// The first number of a range.
+// Reads the first number of a range.
 #[tactic(auto, unfolding(crate::specs::Reading::range_step))]
 fn first_step(signed: bool, token: &Token) -> Result<RangeState, ProtoFault>
     ensures { (text : List ℕ) → Gives result (range_reading signed states.Start (lexeme text token.now)) }
@@ -102,7 +102,7 @@ fn minus_step(signed: bool, minus: Span, token: &Token) -> Result<RangeState, Pr
     Ok(RangeState::First(negative_of(minus, token)?))
 }
 
-// The last number of a range, or `max`.
+// Reads the last number of a range, or `max`.
 #[tactic(auto, unfolding(crate::specs::Reading::range_step))]
 fn last_step(
     text: &[u8],
@@ -137,7 +137,7 @@ fn last_minus_step(
     Ok(RangeState::Whole(Range { first, last }))
 }
 
-// A token of a range, that no comma and no `;` is.
+// Reads a token of a range that is neither a comma nor `;`.
 #[tactic(auto, unfolding(crate::specs::Reading::range_step))]
 fn range_step(
     text: &[u8],
@@ -158,7 +158,7 @@ fn range_step(
     }
 }
 
-// The range that a comma or `;` may end.
+// The range that is complete if a comma or `;` comes next.
 fn whole_range(state: RangeState) -> Option<Range>
     ensures { result ≡ reading_whole_range state }
 {
@@ -210,7 +210,7 @@ fn ranges_step(
     }
 }
 
-// What stands behind a name.
+// Reads the token after a name.
 fn behind_name(signed: bool, names: Words, token: &Token) -> Result<ReservedStep, ProtoFault>
     ensures { (text : List ℕ) → Gives result (reserved_part_step signed (parts.Name names) (lexeme text token.now)) }
 {
@@ -224,7 +224,7 @@ fn behind_name(signed: bool, names: Words, token: &Token) -> Result<ReservedStep
     Err(unexpected(token))
 }
 
-/// A token of reserved numbers or names.
+/// Reads one token of reserved numbers or names.
 #[tactic(auto, unfolding(crate::specs::Reading::reserved_step))]
 pub fn reserved_step(
     alloc: Global,

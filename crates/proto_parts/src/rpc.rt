@@ -17,34 +17,34 @@ use proto_file::{RpcDecl, Span, Word};
 use proto_tokens::{Kind, Token};
 use std::alloc::Global;
 
-/// How far a method is read.
+/// How much of a method is read.
 #[derive(Drop)]
 pub enum RpcState {
     /// `rpc` is read.
     Start,
     /// Its name is read.
     Named(Word),
-    /// The type of its requests is being read.
+    /// The request type is being read.
     Input(Word, NameState),
-    /// That type is read, with its parentheses.
+    /// The request type is read, with its parentheses.
     Returns(Word, Word),
     /// `returns` is read.
     Open(Word, Word),
-    /// The type of its replies is being read.
+    /// The reply type is being read.
     Output(Word, Word, NameState),
-    /// That type is read, with its parentheses.
+    /// The reply type is read, with its parentheses.
     End(RpcDecl),
 }
 
-/// What a token does to a method.
+/// The result of reading one token of a method.
 #[derive(Drop)]
 pub enum RpcStep {
     More(RpcState),
-    /// It is the `;`, or the `{` of a block of options.
+    /// The token is the `;`, or the `{` of a block of options.
     Done(RpcDecl, bool),
 }
 
-// Whether `stream` is read, and a name or a dot stands behind it.
+// True if `stream` is read and the token is a name or a dot.
 fn is_streaming(state: &NameState, token: &Token) -> bool
     ensures { (text : List ℕ) → result ≡ is_streaming_at state.now (lexeme text token.now) }
 {
@@ -57,7 +57,7 @@ fn is_streaming(state: &NameState, token: &Token) -> bool
     }
 }
 
-// Where the name that is read stands.
+// The span of the name that is read so far.
 fn part_span(state: &NameState, token: &Token) -> Span
     ensures { result ≡ reading_part_span state.now (span_of_token token.now) }
 {
@@ -67,7 +67,7 @@ fn part_span(state: &NameState, token: &Token) -> Span
     }
 }
 
-// A token of a type in parentheses, or the one that closes them.
+// Reads a token of a type in parentheses, or the closing parenthesis.
 fn type_in(
     alloc: Global,
     text: &[u8],
@@ -123,7 +123,7 @@ fn of_output(
     }
 }
 
-// The name of a method.
+// Reads the name of a method.
 fn named(alloc: Global, text: &[u8], token: &Token) -> Result<RpcStep, ProtoFault>
     requires { Lies text.now token.now }
     ensures { let x = lexeme text.now token.now in
@@ -133,7 +133,7 @@ fn named(alloc: Global, text: &[u8], token: &Token) -> Result<RpcStep, ProtoFaul
     Ok(RpcStep::More(RpcState::Named(name)))
 }
 
-// What ends a method.
+// Reads the token that ends a method.
 #[tactic(auto, unfolding(crate::specs::Reading::rpc_step))]
 fn end_step(rpc: RpcDecl, token: &Token) -> Result<RpcStep, ProtoFault>
     ensures { (text : List ℕ) → Gives result (rpc_reading (states.End rpc) (lexeme text token.now)) }
@@ -147,7 +147,7 @@ fn end_step(rpc: RpcDecl, token: &Token) -> Result<RpcStep, ProtoFault>
     }
 }
 
-/// A token of a method.
+/// Reads one token of a method.
 #[tactic(auto, unfolding(crate::specs::Reading::rpc_step))]
 pub fn rpc_step(
     alloc: Global,

@@ -1,4 +1,4 @@
-//! What stands behind the number of a field or of an enum's value: options in brackets, and `;`.
+//! The end of a field or of an enum's value, after its number: options in brackets, and `;`.
 
 ghost use Rattle.std.specs.Prelude.{◌≡◌, ◌<◌, ◌^◌, ℕ, List};
 ghost use Rattle.proto_parts.specs.Lexemes.{lexeme};
@@ -10,29 +10,29 @@ use crate::lexeme::{is_mark, unexpected};
 use crate::option::{OptionState, OptionStep, option_step};
 use proto_tokens::Token;
 
-/// How far it is read.
+/// How much of it is read.
 #[derive(Clone, Copy)]
 pub enum TailState {
     /// The number is read.
     Start,
-    /// An option in the brackets is being read; those before it say this of `packed`.
+    /// An option in the brackets is being read; the earlier ones give this value to `packed`.
     Options(Option<bool>, OptionState),
     /// The closing bracket is read.
     Closed(Option<bool>),
 }
 
-/// What a token does to it.
+/// The result of reading one of its tokens.
 #[derive(Clone, Copy)]
 pub enum TailStep {
     More(TailState),
-    /// It is the `;`, and the options say this of `packed`.
+    /// The token is the `;`, and the options give this value to `packed`.
     Done(Option<bool>),
 }
 
-// An option's name follows.
+// The name of an option comes next.
 const NEXT: OptionState = OptionState::Name { first: true };
 
-// A token behind an option in brackets.
+// Reads a token after an option in brackets.
 fn behind_option(packed: Option<bool>, token: &Token) -> Result<TailStep, ProtoFault>
     ensures { (text : List ℕ) → Gives result (reading_behind_option packed (lexeme text token.now)) }
 {
@@ -45,7 +45,7 @@ fn behind_option(packed: Option<bool>, token: &Token) -> Result<TailStep, ProtoF
     }
 }
 
-// A token behind the number.
+// Reads a token after the number.
 #[tactic(auto, unfolding(crate::specs::Reading::tail_step))]
 pub(crate) fn tail_step(
     text: &[u8],

@@ -12,7 +12,7 @@ use crate::tail::{TailState, TailStep, tail_step};
 use proto_file::{Number, Span, ValueDecl, Word};
 use proto_tokens::Token;
 
-/// How far a value is read.
+/// How much of a value is read.
 #[derive(Drop)]
 pub enum ValueState {
     /// Its name is read.
@@ -25,15 +25,15 @@ pub enum ValueState {
     Tail(Word, Number, TailState),
 }
 
-/// What a token does to a value.
+/// The result of reading one token of a value.
 #[derive(Drop)]
 pub enum ValueStep {
     More(ValueState),
-    /// It is the `;`.
+    /// The token is the `;`.
     Done(ValueDecl),
 }
 
-// A number behind `=`, or `-` before it.
+// Reads a number after `=`, or the `-` before one.
 #[tactic(auto, unfolding(crate::specs::Reading::value_step))]
 fn equals_step(name: Word, token: &Token) -> Result<ValueStep, ProtoFault>
     ensures { (text : List ℕ) → Gives result (value_reading (states.Equals name) (lexeme text token.now)) }
@@ -45,7 +45,7 @@ fn equals_step(name: Word, token: &Token) -> Result<ValueStep, ProtoFault>
     Ok(ValueStep::More(ValueState::Tail(name, number, TailState::Start)))
 }
 
-// A number behind `-`.
+// Reads a number after `-`.
 #[tactic(auto, unfolding(crate::specs::Reading::value_step))]
 fn minus_step(name: Word, minus: Span, token: &Token) -> Result<ValueStep, ProtoFault>
     ensures { (text : List ℕ) → Gives result (value_reading (states.Minus name minus) (lexeme text token.now)) }
@@ -71,7 +71,7 @@ fn of_tail(
     }
 }
 
-/// A token of an enum's value.
+/// Reads one token of an enum's value.
 #[tactic(auto, unfolding(crate::specs::Reading::value_step))]
 pub fn value_step(text: &[u8], state: ValueState, token: &Token) -> Result<ValueStep, ProtoFault>
     requires lies { Lies text.now token.now }

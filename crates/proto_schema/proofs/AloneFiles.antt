@@ -1,5 +1,5 @@
--- A file that was read, as one that is resolved alone: each of its declarations is of the file at place 0, and what
--- `Order` says of it, `Together` says of it too.
+-- A file that was read, as one that is resolved alone: each of its declarations is of the file with index 0, and the
+-- invariants of `Order` imply those of `Together`.
 use Rattle.std.proofs.Common.{◌≡◌, inl, inr, ℕ, zero, suc, ◌<◌, List, [], ◌∷◌, ◌++◌, refl, ap, subst, sym, ◌∙◌, arith}
 use Rattle.std.specs.Prelude.{Option, Some, slice_get, Contains}
 use Rattle.std.proofs.lemmas.Option.{slice_get-get_or}
@@ -21,7 +21,7 @@ use Rattle.proto_schema.proofs.Places.{nothing_at, all_by_place, contained, in_p
 use Rattle.proto_schema.proofs.Formed.{well_formed}
 use Rattle.proto_schema.proofs.Ordered.{in_order}
 
--- ---- each declaration is of the file at place 0
+-- ---- each declaration is of the file with index 0
 
 record IsAtZero (F : File) : Type 0 where
   pub messages : (i : ℕ) (m : MessageDecl) → slice_get F.messages i ≡ Some m → m.file ≡ 0
@@ -58,7 +58,7 @@ zero_service F s z k = record {
   ];
 }
 
--- a change that keeps the file of what it changes
+-- a change that keeps the file of the message
 zero_in_message : (F : File) (o : Option ℕ) (f : MessageDecl → MessageDecl) → ((m : MessageDecl) → (f m).file ≡ m.file) → IsAtZero F
     → IsAtZero (record F { messages = edit_open o f F.messages })
 zero_in_message F o f same k = record {
@@ -137,9 +137,9 @@ zero_file (Files.whole x s w m a) = zero_so_far s
 at_zero : (text : List ℕ) (F : File) → IsTextOf text F → IsAtZero F
 at_zero text F h = zero_file h.reads
 
--- ---- places and forms of names
+-- ---- indices and forms of names
 
--- the only one of a list of one
+-- the only element of a list with one element
 one_place : {X : Type 0} (x y : X) (k : ℕ) → slice_get (x ∷ []) k ≡ Some y → k ≡ 0
 one_place x y zero e = refl
 one_place x y (suc k) e = absurd (nothing_at k y e)
@@ -148,7 +148,7 @@ one_item : {X : Type 0} (x y : X) (k : ℕ) → slice_get (x ∷ []) k ≡ Some 
 one_item x y zero e = let t : ◌≡◌ (Some x) (Some y) = e in cc
 one_item x y (suc k) e = absurd (nothing_at k y e)
 
--- what an element of the list is, by its place
+-- an element of a list, by its index
 at_place : {X : Type 0} (xs : List X) (x : X) → Contains xs x → (i : ℕ) × (slice_get xs i ≡ Some x)
 at_place xs x (i, l, e) = (i, slice_get-get_or xs i x l ∙ ap Some e)
 
@@ -241,7 +241,7 @@ precedes (Together.oneof_in_message i j) = Order.oneof_in_message i j
 precedes (Together.in_enum i j) = Order.in_enum i j
 precedes (Together.in_service i j) = Order.in_service i j
 
--- what stands there is of the file at place 0
+-- each declaration is of the file with index 0
 of_zero : (F : File) {k : ℕ} {x : Declaration} {s : Span} {p : Order.Part} → IsAtZero F → Together.IsInFile (alone F) k x
     → StandsAt (alone F) s x p → k ≡ 0
 of_zero F z Together.its_package h = package_at_zero F h

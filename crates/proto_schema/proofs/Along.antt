@@ -1,4 +1,5 @@
--- The tokens of a text start one behind the other, and their names have a name's form. So do the parts of statements.
+-- The tokens of a text start one after another, and so do the parts of statements. Identifiers have the form of
+-- names.
 use Rattle.std.proofs.Common.{◌≡◌, ◌⊎◌, inl, inr, ℕ, suc, ◌-◌, ◌<◌, ◌≤◌, Bool, true, false, ◌&&◌, List, [], ◌∷◌, ◌++◌}
 use Rattle.std.proofs.Common.{length, take, drop, refl, ap, subst, sym, ◌∙◌, arith}
 use Rattle.std.specs.Prelude.{All, ◌==◌, nat_le}
@@ -23,7 +24,7 @@ use Rattle.proto_parts.specs.Lexemes.{identifier, integer, number, string, mark,
 pub record IsSpelt (x : Lexeme) : Type 0 where
   pub form : (name : List ℕ) → IsWord x name → is_name_form name ≡ true
 
--- these tokens start at b or behind it, one behind the other, and before e
+-- these tokens start one after another, at or after b and before e
 abbrev pub Along : ℕ → List Lexeme → ℕ → Type 0
 Along b [] e = b ≤ e
 Along b (x ∷ xs) e = (b ≤ x.span.start) × IsSpelt x × Along (suc x.span.start) xs e
@@ -65,7 +66,7 @@ spelt_token text t (Tokens.the_end e s f) =
 spelt_token text t (Tokens.no_word e s f) =
     record { form = λ name h. absurd (let q : none ≡ identifier name = ap (λ (k : Kind). meaning k (literal_of text t)) (sym e) ∙ h in cc) }
 
--- ---- a token has bytes
+-- ---- a token has at least one byte
 
 not_nothing : (c : ℕ) (cs : List ℕ) → [] ≡ c ∷ cs → ⊥
 not_nothing c cs e = let t : ◌≡◌ {A = List ℕ} [] (c ∷ cs) = e in cc
@@ -73,7 +74,7 @@ not_nothing c cs e = let t : ◌≡◌ {A = List ℕ} [] (c ∷ cs) = e in cc
 not_false : (b : Bool) → b ≡ false → b ≡ true → ⊥
 not_false b e h = let t : false ≡ true = sym e ∙ h in cc
 
--- nothing isn't bytes behind decimal digits
+-- an empty text has no decimal digits
 no_decimal : (whole rest : List ℕ) → is_decimal whole ≡ true → [] ≡ whole ++ rest → ⊥
 no_decimal [] rest h e = let t : false ≡ true = h in cc
 no_decimal (c ∷ cs) rest h e = not_nothing c (cs ++ rest) e

@@ -1,4 +1,4 @@
--- What the first token of a statement begins is a statement.
+-- A first token and what completes it are a statement.
 use Rattle.std.proofs.Common.{subst, ◌≡◌, ℕ, ◌==◌, Bool, true, false, List, [], ◌∷◌, ◌++◌, codes, refl, ap, sym, ◌∙◌}
 use Rattle.std.specs.Prelude.{Ok, Err, Result, Option, Some, None, is_some, if◌then◌else◌, not, ◌&&◌}
 use Rattle.std.specs.Str.{bytes_eq}
@@ -49,7 +49,7 @@ use Rattle.proto_schema.proofs.StatementRest.{Rest, NotBegin, PackageRest, packa
 use Rattle.proto_schema.proofs.StatementRest.{public_rest, imported_rest, OptionEnd, option_end, OpeningRest}
 use Rattle.proto_schema.proofs.StatementRest.{opening_rest, opened_rest, said_of}
 
--- ---- what a first token does is right
+-- ---- the step of a first token is right
 
 abbrev pub BeginBack : Draft → Lexeme → Result Step ProtoFault → Type 0
 BeginBack d x (Ok (steps.More t)) = (NotBegin t) × ((ys : List Lexeme) (v : Said) → Rest t ys v → Statement d (x ∷ ys) (added d v))
@@ -64,7 +64,7 @@ widen words ts kind (named t g) b = named t b
 widen words ts kind (a_map x k t g m e) b = a_map x k t g m e
 widen words ts kind (map_of_maps x k n m e) b = map_of_maps x k n m e
 
--- the first token of a field's type is the first of the field
+-- a field's type and the field have the same first token
 begins_same : (words : List (List ℕ)) (x : Lexeme) (ys ts es : List Lexeme)
     → ((l : List Lexeme) → begins_with words (x ∷ l) ≡ false) → x ∷ ys ≡ ts ++ es → begins_with words ts ≡ false
 begins_same words x ys [] es h e = refl
@@ -109,7 +109,7 @@ field_in_oneof d x i filled m h ys f (field_from {ts = ts} {es = es} {kind = kin
     (subst (λ (f : FieldDecl).
     Statement d (x ∷ ys) (with_block (add_field d (record f { oneof = Some i })) (a_oneof i true))) q s)
 
--- a field without a label, where its first token may begin one
+-- a field without a label, if its first token may start one
 field_begins_back : (d : Draft) (x : Lexeme)
     → ((ys : List Lexeme) (f : FieldDecl) → FieldRest (fields.Type labels.Plain names.Start) (x ∷ ys) f
     → Statement d (x ∷ ys) (added d (said.Field f))) → BeginBack d x (field_begins x)
@@ -121,7 +121,7 @@ field_begins_back d x h = by (field_step (fields.Type labels.Plain names.Start) 
     by (Ok (field_steps.Done f)) b = h [] f b
     by (Err e) b = tt
 
--- `group` begins no field
+-- `group` starts no field
 group_fails : (x : Lexeme) → says x.means (codes "group") ≡ true → field_begins x ≡ Err (fault_at reasons.Group x.span)
 unfolding field_step
 group_fails x h = rw h refl
@@ -333,7 +333,7 @@ word_back d x n (an_enum filled) ms e f h o = enum_back d x n filled h o e
 word_back d x n a_service ms e f h o = service_back d x n h e
 word_back d x n an_rpc ms e f h o = tt
 
--- ---- marks
+-- ---- punctuators
 
 dot_back : (d : Draft) (x : Lexeme) (b : Block) (ms : List ℕ) → d.block ≡ b → d.messages ≡ ms → IsMark x dot
     → has_fields (place_with b ms d.file.package) ≡ true → BeginBack d x (field_begins x)

@@ -1,4 +1,4 @@
--- Tokens go on to a whole text where the reading isn't at a fault, and not where it is.
+-- Tokens can be continued to a complete text exactly if reading them gives no fault.
 use Rattle.std.proofs.Common.{subst, ◌≡◌, ◌⊎◌, inl, inr, Bool, true, false, List, [], ◌∷◌, ◌++◌, codes, refl, ap, sym, ◌∙◌}
 use Rattle.std.specs.Prelude.{Ok, Err, Result, if◌then◌else◌}
 use Rattle.std.specs.Str.{bytes_eq}
@@ -23,7 +23,7 @@ use Rattle.proto_schema.proofs.RunRest.{Begun, begun, reading_reads}
 use Rattle.proto_schema.proofs.RunReads.{forms_read}
 use Rattle.proto_schema.proofs.Finishing.{state_ending, token, a_mark}
 
--- ---- what comes of further tokens
+-- ---- the results of further tokens
 
 abbrev pub Continues : Bool → Outcome → List Lexeme → Outcome → Type 0
 Continues limited (cut_off d s) ys o = o ≡ run limited d s ys
@@ -63,7 +63,7 @@ pub run_on : (limited : Bool) (xs ys : List Lexeme) → On limited xs ys
 run_on limited [] ys = nothing_on limited ys
 run_on limited (x ∷ xs) ys = token_on limited x xs ys (run_on limited xs ys)
 
--- ---- the same of the syntax statement
+-- ---- the results of the tokens of the syntax statement
 
 abbrev Fails : ProtoFault → Outcome → Outcome → Type 0
 Fails e o p = o ≡ failed e → p ≡ failed e
@@ -121,16 +121,16 @@ reading_fails limited e (w ∷ xs) ys h = by (says w.means (codes "syntax")) h
     by true h = word_fails limited e w xs ys h
     by false h = h
 
--- what is at a fault doesn't go on
+-- tokens with a fault can't be continued
 pub at_fault : (e : ProtoFault) (xs : List Lexeme) → reading false xs ≡ failed e → CanGoOn xs → ⊥
 at_fault e xs h (ys, file, f) =
     let a : reading false (xs ++ ys) ≡ read file = ap (reading false) (sym (append-nil (xs ++ ys))) ∙ forms_read [] f in
     let b : failed e ≡ read file = sym (reading_fails false e xs ys h) ∙ a in
     cc
 
--- ---- what is cut off goes on
+-- ---- tokens that end in the middle can be continued
 
--- one of two fronts of a list is a front of the other
+-- of two prefixes of a list, one is a prefix of the other
 fronts : (xs ys front rest : List Lexeme) → xs ++ ys ≡ front ++ rest
     → ((more : List Lexeme) × (front ≡ xs ++ more)) ⊎ ((more : List Lexeme) × (xs ≡ front ++ more))
 fronts [] ys front rest e = inl (front, refl)
@@ -146,7 +146,7 @@ fronts (x ∷ xs) ys (f ∷ front) rest e =
     by b (inl (more, q)) = inl (more, let g : f ∷ front ≡ x ∷ xs ++ more = (cc) in g)
     by b (inr (more, q)) = inr (more, let g : x ∷ xs ≡ f ∷ front ++ more = (cc) in g)
 
--- tokens that aren't a whole text yet, and end with others, go on
+-- an incomplete prefix of a complete text can be continued
 goes_on : (xs ys : List Lexeme) (file : File) → ((f : File) → reading false xs ≡ read f → ⊥)
     → reading false (xs ++ ys) ≡ read file → CanGoOn xs
 goes_on xs ys file n r = by (reading_reads (xs ++ ys) file r)
@@ -168,7 +168,7 @@ nothing_ends = run_over false nothing_said states.Begin (token the_end) [] refl
 abbrev the_path : Lexeme
 the_path = token (string (codes "proto3"))
 
--- what comes of the tokens, and of these with others
+-- the tokens are read to a file if these others follow
 abbrev Finishes : (List Lexeme → Outcome) → List Lexeme → Type 0
 Finishes o xs = (ys : List Lexeme) × (file : File) × (o (xs ++ ys) ≡ read file)
 
@@ -245,7 +245,7 @@ cut_reading (w ∷ xs) d s h = by (says w.means (codes "syntax")) refl h
     by true e h = let r : Finishes (λ l. behind_word false w l) xs = cut_word w xs d s h in (r.0, r.1, rw e r.2)
     by false e h = other (is_no_token w.means) h
 
--- what is cut off goes on
+-- tokens that end in the middle can be continued
 pub cut_goes_on : (xs : List Lexeme) (d : Draft) (s : State) → reading false xs ≡ cut_off d s → CanGoOn xs
 cut_goes_on xs d s h =
     let r : Finishes (λ l. reading false l) xs = cut_reading xs d s h in

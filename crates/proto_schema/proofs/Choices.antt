@@ -1,4 +1,4 @@
--- The choices that reading makes, and what is known behind each.
+-- The choices that reading makes, and the facts that each implies.
 use Rattle.std.proofs.Common.{subst, ◌≡◌, ℕ, ◌==◌, Bool, true, false, List, [], ◌∷◌, ◌++◌, refl, ap, sym, ◌∙◌}
 use Rattle.std.specs.Prelude.{Ok, Result, if◌then◌else◌, ◌&&◌, ◌||◌}
 use Rattle.std.specs.Str.{bytes_eq}
@@ -106,7 +106,7 @@ has_dot : (v n : List ℕ) → any_dot (v ++ 46 ∷ n) ≡ true
 has_dot [] n = refl
 has_dot (c ∷ v) n = or_right (c == 46) (any_dot (v ++ 46 ∷ n)) (has_dot v n)
 
--- a name with a dot is no word without one
+-- a name with a dot differs from a word without one
 pub dotted_differs : (v n w : List ℕ) → any_dot w ≡ false → bytes_eq (v ++ 46 ∷ n) w ≡ true → ⊥
 dotted_differs v n w h e =
     let a : any_dot w ≡ true = subst (λ (l : List ℕ). any_dot l ≡ true) (same_bytes (v ++ 46 ∷ n) w e) (has_dot v n) in

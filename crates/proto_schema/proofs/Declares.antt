@@ -1,4 +1,4 @@
--- A package, an import, a message, an enum or a service that is declared behind all others keeps the order, and so does a
+-- A package, an import, a message, an enum or a service that is declared after all others keeps the order. So does a
 -- change that declares nothing.
 use Rattle.std.proofs.Common.{◌≡◌, ◌⊎◌, inl, inr, ℕ, zero, suc, ◌-◌, ◌<◌, ◌≤◌, List, [], ◌∷◌, ◌++◌, length, refl, ap, subst, sym, ◌∙◌, arith}
 use Rattle.std.specs.Prelude.{Option, Some, None, slice_get}
@@ -206,7 +206,7 @@ kept_service F b c w l i k =
 
 -- ---- a change of a message, an enum or a service
 
--- nothing is declared that wasn't before
+-- no new declarations
 pub kept_back : (F G : File) (b c : ℕ) → b ≤ c
     → ((x : Declaration) (p : Part) (s : Span) → StandsAt G s x p → StandsAt F s x p) → EnumsBehind G → Kept F b → Kept G c
 kept_back F G b c l back enums k = record {
@@ -219,7 +219,7 @@ kept_back F G b c l back enums k = record {
   };
 }
 
--- a change of one of a list is none, or changes the one at a place
+-- a change of one element of a list changes nothing, or the element at an index
 pub record IsEdited {X : Type 0} (xs : List X) (at : ℕ → Type 0) : Type 0 where
   pub place : ℕ
   pub item : X
@@ -271,7 +271,7 @@ enums_behind_last F f name parent k i j m e q r t =
       | kept g l ↦ k i j m e q g t
     ]
 
--- what a message, an enum or a service keeps that is changed
+-- what is unchanged in a message, an enum or a service
 pub in_same_message : (o : Option ℕ) (f : MessageDecl → MessageDecl) (ms : List MessageDecl) → ((m : MessageDecl) → (f m).name ≡ m.name)
     → ((m : MessageDecl) → (f m).fields ≡ m.fields) → ((m : MessageDecl) → (f m).oneofs ≡ m.oneofs)
     → {s : Span} {x : Declaration} {p : Part} → InMessages (edit_open o f ms) s x p → InMessages ms s x p

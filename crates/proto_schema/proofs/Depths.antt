@@ -1,4 +1,4 @@
--- At most one more brace or map is open behind a token than before it.
+-- A token opens at most one more brace or map.
 use Rattle.std.proofs.Common.{ℕ, ◌+◌, ◌-◌, ◌≤◌, ◌==◌, nat_le, Bool, true, false, List, codes, arith}
 use Rattle.std.specs.Prelude.{Ok, Err, Result, Option, Some, None, if◌then◌else◌, not, ◌&&◌, ◌||◌}
 use Rattle.std.specs.Str.{bytes_eq}
@@ -98,7 +98,7 @@ numbered {X} P x f h k = by x.means
     by the_end = k
     by none = k
 
--- ---- what is open behind a token
+-- ---- the open braces and maps after a token
 
 abbrev OptionWithin : ℕ → Result OptionStep ProtoFault → Type 0
 OptionWithin n (Ok (option_steps.More s)) = option_depth s ≤ n
@@ -276,7 +276,7 @@ value_within (values.Equals name) x =
 value_within (values.Minus name s) x = numbered (ValueWithin 1) x (λ v. value_steps.More (values.Tail name (number_at true v (span_to s x.span)) tails.Start)) (λ v. omega arith) tt
 value_within (values.Tail name n s) x = of_value_tail_within (tail_depth s + 1) name n (tail_step s x) (tail_within s x)
 
--- ---- a statement begins: nothing is open
+-- ---- the start of a statement opens none
 
 of_field_within : (n : ℕ) (r : Result FieldStep ProtoFault) → FieldWithin n r → Within n (Running.of_field r)
 of_field_within n (Ok (field_steps.More s)) h = h

@@ -1,4 +1,4 @@
--- Lists that are changed at one place, and the stack of open messages, whose top is the list's end.
+-- Lists that are changed at one index, and the stack of open messages, whose top is the end of the list.
 use Rattle.std.proofs.Common.{◌≡◌, ℕ, zero, suc, ◌-◌, ◌<◌, ◌≤◌, List, [], ◌∷◌, ◌++◌, length, length-append, take, get_or, set, refl, ap, ◌∙◌, arith}
 use Rattle.std.specs.Prelude.{slice_get}
 use Rattle.proto_schema.specs.Files.{edit_at, innermost_of}
@@ -11,7 +11,7 @@ edit_set i f [] d h = absurd (omega arith)
 edit_set zero f (y ∷ xs) d h = refl
 edit_set (suc i) f (y ∷ xs) d h = ap (λ zs. y ∷ zs) (edit_set i f xs d (omega arith))
 
--- nothing is changed behind the end
+-- nothing is changed past the end
 pub edit_beyond : {X : Type 0} (i : ℕ) (f : X → X) (xs : List X) → length xs ≤ i → edit_at i f xs ≡ xs
 edit_beyond i f [] h = refl
 edit_beyond zero f (y ∷ xs) h = absurd (omega arith)

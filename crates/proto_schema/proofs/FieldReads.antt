@@ -234,7 +234,7 @@ pub map_begins : (label : FieldLabel) (s : Span) (x : Lexeme) → IsMark x less
 unfolding field_step
 map_begins label s x h = ap (of_type label x) (typed_whole (word_at (codes "map") s) x (rw h refl)) ∙ rw h refl
 
--- the type is whole, and the field's name follows
+-- the type is complete, and the field's name comes next
 abbrev pub TypeReady : FieldState → FieldLabel → FieldType → Type 0
 TypeReady t label kind = (x : Lexeme) (n : List ℕ) → IsWord x n → FieldGoes t x (fields.Named (head label kind (word_at n x.span)))
 

@@ -1,4 +1,4 @@
--- What completes a field, by how far it is read.
+-- The tokens that complete a field, by how much of it is read.
 use Rattle.std.proofs.Common.{subst, ◌≡◌, ℕ, Bool, true, false, List, [], ◌∷◌, ◌++◌, codes, refl, ap, sym, ◌∙◌}
 use Rattle.std.specs.Prelude.{Ok, Err, Result, Option, None}
 use Rattle.std.specs.Str.{bytes_eq}
@@ -54,7 +54,7 @@ KindRest (names.Rooted s) ys kind = KindFrom (names.Rooted s) ys kind
 KindRest (names.Part v) ys kind = KindFrom (names.Part v) ys kind
 KindRest (names.Dot v) ys kind = KindFrom (names.Dot v) ys kind
 
--- where nothing of the name is read, what completes it isn't asked for
+-- if nothing of the name is read, it has no completion yet
 abbrev pub KindBack : NameState → Lexeme → Result NameStep ProtoFault → Type 0
 KindBack s x (Ok (name_steps.More t)) = (ys : List Lexeme) (kind : FieldType) → KindRest t ys kind → KindRest s (x ∷ ys) kind
 KindBack s x (Ok (name_steps.Whole w)) = (v : Word) × (s ≡ names.Part v) × (v ≡ w)
@@ -129,7 +129,7 @@ FieldBack s x (Ok (steps.More t)) = (ys : List Lexeme) (f : FieldDecl) → Field
 FieldBack s x (Ok (steps.Done f)) = FieldRest s (x ∷ []) f
 FieldBack s x (Err e) = Unit {0}
 
--- the field's name, where its type is whole
+-- the field's name, if its type is complete
 named_behind : (label : FieldLabel) (kind : FieldType) (x : Lexeme) (n : List ℕ) → IsWord x n
     → (ys : List Lexeme) (f : FieldDecl) → NamedField (head label kind (word_at n x.span)) ys f
     → TypedField label kind (x ∷ ys) f

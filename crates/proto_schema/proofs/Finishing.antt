@@ -1,4 +1,4 @@
--- From every state some tokens end what is read, and from every draft some tokens end the text.
+-- From every state there are tokens that end the part, and from every draft there are tokens that end the text.
 use Rattle.std.proofs.Common.{subst, ◌≡◌, ◌⊎◌, inl, inr, ℕ, zero, suc, Bool, true, false, List, [], ◌∷◌, ◌++◌, codes, refl, ap, sym, ◌∙◌, arith}
 use Rattle.std.specs.Prelude.{Ok, Option, Some, None, ◌&&◌}
 use Rattle.proto_parts.specs.Lexemes.{Meaning, identifier, integer, string, mark, the_end, Lexeme, semicolon, equals}
@@ -81,7 +81,7 @@ use Rattle.proto_schema.proofs.RunReads.{in_field, field_ends, in_reserved, rese
 use Rattle.proto_schema.proofs.RunReads.{in_rpc, rpc_ends, closing, field_first, oneof_leads, by_word, value_word}
 use Rattle.proto_schema.proofs.RunReads.{whole_is_over}
 
--- ---- some tokens
+-- ---- example tokens
 
 abbrev nowhere : Span
 nowhere = record { start = 0; end = 0; line = 1 }
@@ -169,7 +169,7 @@ option_finish option_states.Text = ([], option_states.Text, None, stay refl refl
 option_finish (option_states.Braces d) = braces_finish d
 option_finish option_states.End = end_finish
 
--- ---- what stands behind a number
+-- ---- after a number
 
 abbrev pub TailEnds : TailState → Lexeme → Option Bool → Type 0
 TailEnds s x b = tail_step s x ≡ Ok (tail_steps.Done b)
@@ -520,7 +520,7 @@ step_finish p (states.Rpc s) n = by (rpc_finish s)
 
 -- ---- drafts
 
--- with some tokens, the text is over
+-- there are tokens that end the text
 abbrev pub Ending : Draft → Type 0
 Ending d = (ys : List Lexeme) × (file : File) × (run false d states.Begin ys ≡ read file)
 
@@ -602,7 +602,7 @@ draft_ending d = by d.block refl
     by a_service e = service_ending d e
     by an_rpc e = rpc_ending d e
 
--- from every state of every draft some tokens end the text
+-- from every state of every draft there are tokens that end the text
 pub state_ending : (d : Draft) (s : State) → (ys : List Lexeme) × (file : File) × (run false d s ys ≡ read file)
 state_ending d s = by (begin_or s)
   where

@@ -1,4 +1,4 @@
--- The first token at fault: a text that is no file has one, and a file has none.
+-- The first token at fault: a text that is not a file has one, and a file has none.
 use Rattle.std.proofs.Common.{subst, ◌≡◌, ◌≢◌, ◌⊎◌, inl, inr, ℕ, zero, suc, ◌+◌, ◌-◌, ◌<◌, ◌≤◌, length, take, drop}
 use Rattle.std.proofs.Common.{Bool, true, false, List, [], ◌∷◌, ◌++◌, codes, refl, ap, sym, ◌∙◌, arith}
 use Rattle.std.specs.Prelude.{Ok, Err, Result, Option, Some, None, if◌then◌else◌, slice_get}
@@ -43,7 +43,7 @@ use Rattle.proto_schema.specs.declared.statement.Said.{Said}
 use Rattle.proto_schema.specs.declared.statement.Step.{Step}
 use Rattle.proto_schema.specs.declared.statement.Step.TheVariants as steps
 
--- ---- tokens stand one behind another
+-- ---- tokens come one after another
 
 no_digits : (xs ys : List ℕ) → [] ≡ xs ++ ys → (xs ≡ [] → ⊥) → ⊥
 no_digits [] ys e n = n refl
@@ -70,7 +70,7 @@ some_literal k literal rest (Tokens.number e n b) q = by n
 some_literal k literal rest (Tokens.string quote body e u a b) q = let t : ◌≡◌ {A = List ℕ} [] (quote ∷ body ++ quote ∷ []) = sym q ∙ a in cc
 some_literal k literal rest (Tokens.mark c e a m g) q = let t : ◌≡◌ {A = List ℕ} [] (c ∷ []) = sym q ∙ a in cc
 
--- a token that isn't the last has a byte
+-- a token that isn't the last has at least one byte
 some_bytes : (text : List ℕ) (t : Token) → IsHere text t → is_last t.kind ≡ false → t.start < t.end
 some_bytes text t (Tokens.word h s) l = by (eq-or-lt_of_le h)
   where
@@ -95,7 +95,7 @@ later_token text ts others t i x e h = ap (λ (us : List Token). slice_get (lexe
 no_token_left : (i : ℕ) (x : Lexeme) → slice_get {X = Lexeme} [] i ≡ Some x → ⊥
 no_token_left i x h = let t : ◌≡◌ {A = Option Lexeme} None (Some x) = h in cc
 
--- each token starts behind the place
+-- each token starts at or after the offset
 starts_behind : (text : List ℕ) (place : ℕ) (ts : List Token) (i : ℕ) (x : Lexeme) → AreTokens text place ts
     → slice_get (lexemes text ts) i ≡ Some x → place ≤ x.span.start
 starts_behind text place ts zero x (Tokens.last t e n l) h =
@@ -113,7 +113,7 @@ starts_behind text place ts (suc i) x (Tokens.another t others e n l o) h =
     let d : t.start < t.end = some_bytes text t n.here l in
     omega arith
 
--- spans tell tokens apart
+-- tokens with the same start are one
 same_place : (text : List ℕ) (place : ℕ) (ts : List Token) (i j : ℕ) (x y : Lexeme) → AreTokens text place ts
     → slice_get (lexemes text ts) i ≡ Some x → slice_get (lexemes text ts) j ≡ Some y → x.span.start ≡ y.span.start
     → i ≡ j
@@ -134,9 +134,9 @@ same_place text place ts (suc i) (suc j) x y (Tokens.last t q n l) h g e = absur
 same_place text place ts (suc i) (suc j) x y (Tokens.another t others q n l o) h g e =
     ap suc (same_place text t.end others i j x y o (later_token text ts others t i x q h) (later_token text ts others t j y q g) e)
 
--- ---- one report
+-- ---- reports are unique
 
--- the reading reports a reason at a token
+-- reading reports a reason at a token
 pub data Report (ts : List Lexeme) (k : ℕ) (x : Lexeme) (q : ProtoReason) : Type 0 where
   report : slice_get ts k ≡ Some x → reading true ts ≡ failed (fault_at q x.span) → Report ts k x q
 
@@ -164,9 +164,9 @@ same_report text ts {i = i} {j = j} {x = x} {y = y} {q = q} {r = r} a (report h 
     t : x ≡ y
     t = let b : ◌≡◌ {A = Option Lexeme} (Some x) (Some y) = sym h ∙ (ap (slice_get (lexemes text ts)) p ∙ g) in cc
 
--- ---- what a break is reported as
+-- ---- the report of a break
 
--- a report at a place or before it
+-- a report at an index or before it
 pub data Early (ts : List Lexeme) (k : ℕ) : Type 0 where
   early : (i : ℕ) (x : Lexeme) (q : ProtoReason) → i ≤ k → Report ts i x q → Early ts k
 
@@ -180,7 +180,7 @@ no_more : (xs ys : List Lexeme) → xs ++ ys ≡ [] → xs ≡ []
 no_more [] ys e = refl
 no_more (x ∷ xs) ys e = absurd (let t : ◌≡◌ {A = List Lexeme} (x ∷ xs ++ ys) [] = e in cc)
 
--- a front of a text's tokens that is read is the whole text
+-- a prefix of a text's tokens that reads as a file is the whole text
 front_goes_on : (text : List ℕ) (ts : List Token) (front rest : List Lexeme) (file : File) → AreTokens text 0 ts
     → front ++ rest ≡ lexemes text ts → reading true front ≡ read file → CanGoOn front
 front_goes_on text ts front rest file a e r = by (reading_reads front file (reading_lifts front file r))
@@ -196,7 +196,7 @@ front_goes_on text ts front rest file a e r = by (reading_reads front file (read
     by : Begun front file → CanGoOn front
     by (begun {front = us} more h q) = whole us more file h q
 
--- where tokens break off, the reading reports something there or before
+-- if tokens break off, reading reports something there or before
 breaks_early : (text : List ℕ) (ts : List Token) (k : ℕ) (x : Lexeme) → AreTokens text 0 ts
     → BreaksAt (lexemes text ts) k x → Early (lexemes text ts) k
 breaks_early text ts k x a b = by (drop_behind (k + 1) all) (reading true front) refl
@@ -225,7 +225,7 @@ breaks_early text ts k x a b = by (drop_behind (k + 1) all) (reading true front)
 
 -- ---- each fault is reported
 
--- no name says that no token stands where one does
+-- only `Token` is the reason at something that is not a token
 named_token : {ts : List Lexeme} {k : ℕ} {q : ProtoReason} (x : Lexeme) → IsNamed ts k q → slice_get ts k ≡ Some x
     → is_no_token x.means ≡ true → q ≡ reasons.Token
 named_token x (Faults.no_token y b n) h t = refl
@@ -262,7 +262,7 @@ named_token x (Faults.nesting y d g m s i l) h t =
     let q : ◌≡◌ {A = Option Lexeme} (Some y) (Some x) = sym g ∙ h in let r : y ≡ x = (cc) in
     absurd (let u : true ≡ false = sym t ∙ (ap (λ (z : Lexeme). is_no_token z.means) (sym r) ∙ ap is_no_token m) in cc)
 
--- `Expected` has no name
+-- `Expected` is not one of the specific reasons
 never_expected : {ts : List Lexeme} {k : ℕ} {q : ProtoReason} → IsNamed ts k q → q ≡ reasons.Expected → ⊥
 never_expected (Faults.no_token x b n) e = (cc)
 never_expected (Faults.import j i y d k s f g w p n c) e = (cc)
@@ -273,7 +273,7 @@ never_expected (Faults.no_syntax y k g n s) e = (cc)
 never_expected (Faults.other_syntax y z u us v k a hy hz hu n) e = (cc)
 never_expected (Faults.nesting y d g m s i l) e = (cc)
 
--- each reason is `Token`, or isn't
+-- each reason is `Token` or not
 token_or : (q : ProtoReason) → (q ≡ reasons.Token) ⊎ (q ≢ reasons.Token)
 token_or reasons.Token = inl refl
 token_or reasons.Expected = inr (λ e. cc)
@@ -284,7 +284,7 @@ token_or reasons.Extend = inr (λ e. cc)
 token_or reasons.Syntax2 = inr (λ e. cc)
 token_or reasons.Nesting = inr (λ e. cc)
 
--- what is told where tokens break off, as far as the reason is known there
+-- what is reported where tokens break off, as far as the reason is known there
 break_reports : (text : List ℕ) (ts : List Token) (k : ℕ) (q : ProtoReason) (x : Lexeme) → AreTokens text 0 ts
     → BreaksAt (lexemes text ts) k x
     → ((r : ProtoReason) → Means (lexemes text ts) k x r → r ≡ q) → Reports (lexemes text ts) k q
@@ -312,7 +312,7 @@ break_reports text ts k q x a b known = by (breaks_early text ts k x a b)
             at : Told (lexemes text ts) (fault_at r y.span) → Reports (lexemes text ts) k q
             at (told j z s g p m) = means j z s e g p m
 
--- the reason that no token stands there
+-- the report that this is not a token
 no_token_reports : (text : List ℕ) (ts : List Token) (k : ℕ) (x : Lexeme) → AreTokens text 0 ts
     → BreaksAt (lexemes text ts) k x → is_no_token x.means ≡ true → Reports (lexemes text ts) k reasons.Token
 no_token_reports text ts k x a b n = break_reports text ts k reasons.Token x a b known
@@ -363,7 +363,7 @@ report_fault text ts k x q a r (breaks_off b n) = Faults.expected x b (λ p j l 
     by p j l m (here y h f) = let c : Same j k y x p reasons.Expected = same_report text ts a (report h f) r in never_expected m c.reason
     by p j l m (earlier i y s g h f) = let c : Same i k y x s reasons.Expected = same_report text ts a (report h f) r in let e : i ≡ k = c.place in omega arith
 
--- no other fault stands before a report
+-- there is no fault before a report
 none_earlier : (text : List ℕ) (ts : List Token) (k : ℕ) (x : Lexeme) (q : ProtoReason) → AreTokens text 0 ts
     → Report (lexemes text ts) k x q → (j : ℕ) (p : ProtoReason) → j < k → IsFault (lexemes text ts) j p → ⊥
 none_earlier text ts k x q a r j p l f = by (fault_reports text ts j p a f)
@@ -372,7 +372,7 @@ none_earlier text ts k x q a r j p l f = by (fault_reports text ts j p a f)
     by (here y h g) = let c : Same j k y x p q = same_report text ts a (report h g) r in let e : j ≡ k = c.place in omega arith
     by (earlier i y s m h g) = let c : Same i k y x s q = same_report text ts a (report h g) r in let e : i ≡ k = c.place in omega arith
 
--- what the reading is at fault for is the first fault
+-- the reported fault is the first one
 pub failed_first : (text : List ℕ) (ts : List Token) (e : ProtoFault) → AreTokens text 0 ts
     → reading true (lexemes text ts) ≡ failed e
     → (q : ProtoReason) × (s : Span) × HasFault text q s × (fault_at q s ≡ e)
@@ -395,7 +395,7 @@ failed_first text ts e a h = by (reading_told (lexemes text ts) e h)
           p,
         )
 
--- the first fault is what the reading is at fault for
+-- the first fault is reported
 pub first_failed : (text : List ℕ) (q : ProtoReason) (s : Span) (f : HasFault text q s)
     → Report (lexemes text f.tokens) f.place f.token q
 first_failed text q s f = by (fault_reports text f.tokens f.place q f.of_text f.first.here)
@@ -415,7 +415,7 @@ first_failed text q s f = by (fault_reports text f.tokens f.place q f.of_text f.
         report f.is (g ∙ ap (λ (w : Lexeme). failed (fault_at q w.span)) v)
     by (earlier i y r l h g) = absurd (before i y r l (report h g) (reading_told (lexemes text f.tokens) (fault_at r y.span) g))
 
--- ---- the tokens of a text don't run out
+-- ---- reading a text never runs out of tokens
 
 never_failed : {e : ProtoFault} {c : Draft} {t : State} → failed e ≡ cut_off c t → ⊥
 never_failed h = (cc)
@@ -449,7 +449,7 @@ run_ends text place ts (Tokens.another u others e n l o) d c s t h =
     one_cut d c s t (lexeme text u) (lexemes text others) (λ r q f g i. run_ends text u.end others o f c g t i)
     (ap (λ (us : List Token). run true d s (lexemes text us)) (sym e) ∙ h)
 
--- a last token says nothing that goes on
+-- a last token is not this punctuator
 last_mark : (text : List ℕ) (t : Token) (m : ℕ) → is_last t.kind ≡ true → is_mark (lexeme text t).means m ≡ false
 last_mark text t m l = false_from_ne_true (is_mark (lexeme text t).means m) (λ h. let q : true ≡ false = sym l ∙ mark_not_last text t m h in cc)
 
@@ -514,7 +514,7 @@ word_ends text place ts w (Tokens.another u others e n l o) c t h = by (is_mark 
     by true g = equals_ends text u.end others w o c t g
     by false g = never_failed g
 
--- where the first token isn't `syntax`
+-- the first token isn't `syntax`
 other_first : (w : Lexeme) (c : Draft) (t : State) (b : Bool)
     → (if b then failed (unexpected w) else failed (fault_at reasons.Syntax2 w.span)) ≡ cut_off c t → ⊥
 other_first w c t true h = never_failed h

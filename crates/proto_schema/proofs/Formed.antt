@@ -1,5 +1,5 @@
--- What the statements so far say is well formed: places are those of the lists, a closed oneof has a field and a closed
--- enum a value, and names have the forms of names.
+-- The declarations of the statements so far are valid: indices are within their lists, a closed oneof has a field and
+-- a closed enum a value, and names have the forms of names.
 use Rattle.std.proofs.Common.{◌≡◌, ◌⊎◌, inl, inr, ℕ, zero, suc, ◌+◌, ◌<◌, ◌≤◌, Bool, true, false, List, [], ◌∷◌, ◌++◌}
 use Rattle.std.proofs.Common.{length, length-append, refl, ap, subst, sym, ◌∙◌, arith}
 use Rattle.std.specs.Prelude.{Option, Some, None, slice_get, IfSome, Contains}
@@ -34,7 +34,7 @@ use Rattle.proto_file.specs.declared.file.File.{File}
 pub data IsFilled (m : MessageDecl) (o : ℕ) : Type 0 where
   has_field : (j : ℕ) (f : FieldDecl) → slice_get m.fields j ≡ Some f → f.oneof ≡ Some o → IsFilled m o
 
--- a message whose oneofs have a field each, but for the open ones
+-- a message whose oneofs have a field each, except the open one
 pub record MessageSoFar (unclosed : ℕ → Type 0) (k : ℕ) (m : MessageDecl) : Type 0 where
   pub name : HasName m.name
   pub fields : (j : ℕ) (f : FieldDecl) → slice_get m.fields j ≡ Some f → IsFormedField (length m.oneofs) f
@@ -42,7 +42,7 @@ pub record MessageSoFar (unclosed : ℕ → Type 0) (k : ℕ) (m : MessageDecl) 
   pub filled : (o : ℕ) → o < length m.oneofs → IsFilled m o ⊎ unclosed o
   pub parent : IsPlaceBelow k m.parent
 
--- an enum that has a value, unless it is open, in a file of this many messages
+-- an enum that has a value, unless it is open, in a file with this many messages
 pub record EnumSoFar (unclosed : Type 0) (messages : ℕ) (e : EnumDecl) : Type 0 where
   pub name : HasName e.name
   pub values : (j : ℕ) (v : ValueDecl) → slice_get e.values j ≡ Some v → HasName v.name
@@ -53,7 +53,7 @@ pub record ServiceSoFar (s : ServiceDecl) : Type 0 where
   pub name : HasName s.name
   pub rpcs : (j : ℕ) (r : RpcDecl) → slice_get s.rpcs j ≡ Some r → IsFormedRpc r
 
--- the oneof o of the message k is open and has no field, and so is the enum k, the last one
+-- the oneof o of the message k is open and has no field; likewise the enum k, the last one
 pub record IsOpenOneof (b : Block) (unclosed : List ℕ) (k o : ℕ) : Type 0 where
   pub block : b ≡ a_oneof o false
   pub innermost : innermost_of unclosed ≡ Some k
@@ -74,7 +74,7 @@ pub record SoFar (d : Draft) : Type 0 where
   pub oneof : (i : ℕ) (filled : Bool) (k : ℕ) (m : MessageDecl) → d.block ≡ a_oneof i filled
       → innermost_of d.messages ≡ Some k → slice_get d.file.messages k ≡ Some m → i < length m.oneofs
 
--- blocks in which no oneof, and no enum, waits for its first part
+-- blocks that are neither an empty oneof nor an empty enum
 abbrev IsOneofShut : Block → Type 0
 IsOneofShut (a_oneof i false) = ⊥
 IsOneofShut _ = Unit {0}
@@ -93,7 +93,7 @@ no_open_enum s h = subst IsEnumShut h.block s
 no_oneof : {b : Block} (i : ℕ) (filled : Bool) → b ≡ no_block → b ≡ a_oneof i filled → ⊥
 no_oneof i filled e h = let t : no_block ≡ a_oneof i filled = sym e ∙ h in cc
 
--- ---- what keeps them
+-- ---- what preserves them
 
 message_open : {P Q : ℕ → Type 0} (k : ℕ) (m : MessageDecl) → ((o : ℕ) → P o → Q o) → MessageSoFar P k m → MessageSoFar Q k m
 message_open k m h g = record {
@@ -169,7 +169,7 @@ message_oneof {P} {Q} k m w n h q g =
     by o (inl l) b = elim (g.filled o l) [ inl f ↦ inl (still o f) | inr p ↦ inr (h o p) ]
     by o (inr l) b = inr (let e : length m.oneofs ≡ o = omega arith in subst Q e q)
 
--- ---- a statement keeps them
+-- ---- a statement preserves them
 
 first_is : (unclosed : List ℕ) (k : ℕ) → innermost_of unclosed ≡ Some k → slice_get unclosed 0 ≡ Some k
 first_is [] k e = absurd (let t : ◌≡◌ None (Some k) = e in cc)
@@ -182,7 +182,7 @@ innermost_below d s = by (innermost_of d.messages) refl
     by None e = tt
     by (Some k) e = s.unclosed 0 k (first_is d.messages k e)
 
--- with no oneof open, or no enum
+-- no empty oneof or enum is open
 messages_shut : (d : Draft) (b : Block) (is : List ℕ) → SoFar d → IsOneofShut d.block → (k : ℕ) (m : MessageDecl)
     → slice_get d.file.messages k ≡ Some m → MessageSoFar (λ o. IsOpenOneof b is k o) k m
 messages_shut d b is s h k m e = message_open k m (λ o p. absurd (no_open_oneof h p)) (s.messages k m e)
@@ -284,7 +284,7 @@ formed_service d w b n s =
     new : ServiceSoFar opened
     new = record { name = n; rpcs = λ j r e. absurd (nothing_at j r e) }
 
--- ---- what is added to the innermost message
+-- ---- additions to the innermost message
 
 messages_kept : (d : Draft) (f : MessageDecl → MessageDecl) → length (edit_open (innermost_of d.messages) f d.file.messages) ≡ length d.file.messages
 messages_kept d f = length_edited_open (innermost_of d.messages) f d.file.messages
@@ -353,7 +353,7 @@ formed_oneof d w b n s =
         subst (λ (m : MessageDecl). i < length m.oneofs) (sym e) (omega (arith, length-append x.oneofs (w ∷ [])))
     by i filled k m q h (kept g l) = absurd (l h)
 
--- reserved numbers and names change nothing that is asked
+-- reserved numbers and names don't affect the invariants
 formed_reserved : (d : Draft) (f : MessageDecl → MessageDecl) → d.block ≡ no_block
     → ((P : ℕ → Type 0) (k : ℕ) (m : MessageDecl) → MessageSoFar P k m → MessageSoFar P k (f m)) → SoFar d → SoFar (in_message d f)
 formed_reserved d f b same s =
@@ -396,7 +396,7 @@ formed_names : (d : Draft) (ws : List Word) → d.block ≡ no_block → SoFar d
 formed_names d ws b s =
     formed_reserved d (λ m. record m { names = m.names ++ ws }) b (λ P k m g. message_same m (record m { names = m.names ++ ws }) refl refl refl refl g) s
 
--- ---- what is added to the last enum and the last service
+-- ---- additions to the last enum and the last service
 
 formed_enum_edit : (d : Draft) (f : EnumDecl → EnumDecl) (b : Block) (filled : Bool) → d.block ≡ an_enum filled → IsOneofShut b
     → ((i : ℕ) (filled : Bool) → b ≡ a_oneof i filled → ⊥)

@@ -1,5 +1,5 @@
--- What a text says stands in it: each of its tokens but the last starts before the text's end and ends there at the
--- latest, and each name and number of the file starts where one of them starts, and ends where one ends.
+-- The declarations lie within the text. Each token but the last starts before the text's end and ends there at the
+-- latest; each name and number of the file starts where a token starts, and ends where one ends.
 use Rattle.std.proofs.Common.{◌≡◌, ℕ, zero, suc, ◌<◌, ◌≤◌, Bool, true, false, List, [], ◌∷◌, ◌++◌, length, ap, subst, sym, ◌∙◌, arith}
 use Rattle.std.specs.Prelude.{Option, Some, None, All}
 use Rattle.std.proofs.lemmas.List.Elements.{All-nil, All-cons, All-head, All-tail, All-append, All-push}
@@ -32,7 +32,7 @@ use Rattle.proto_schema.specs.Files.{Draft, Statement, Says, Forms, ClosesTo, Fi
 use Rattle.proto_schema.specs.Faults.{IsTextOf}
 use Rattle.proto_schema.proofs.Along.{token_goes}
 
--- ---- a list of which one element is changed
+-- ---- a list with one element changed
 
 all_edited : {X : Type 0} (P : X → Type 0) (n : ℕ) (f : X → X) (xs : List X) → ((x : X) → P x → P (f x)) → All P xs
     → All P (edit_at n f xs)
@@ -98,7 +98,7 @@ module _ (size : ℕ) where
   number_inside (Grammar.whole x value h) (a, k) = a
   number_inside (Grammar.negative x y value s h g) (a, (b, k)) = to_within x.span y.span a b
 
-  -- a name, a token, and a number with others behind it
+  -- a name, a token, and a number with others after it
   numbered_inside : (x y : Lexeme) {signed : Bool} {ns : List Lexeme} {n : Number} (os zs : List Lexeme) → NumberOf signed ns n
       → Inside (x ∷ y ∷ ns ++ os ++ zs) → IsSpanWithin size x.span × IsNumberWithin size n
   numbered_inside x y {ns = ns} os zs f (a, (b, r)) =
@@ -145,7 +145,7 @@ module _ (size : ℕ) where
   names_inside (Grammar.names x y name {ws = ws} h g f) (a, (b, k)) =
       All-cons (IsWordWithin size) (word_at name x.span) ws a (names_inside f k)
 
-  -- ---- what is declared
+  -- ---- declarations
 
   within_package : (F : File) (w : Word) → IsWordWithin size w → IsWithin size F → IsWithin size (record F { «package» = Some w })
   within_package F w h k = record { package_name = h; messages = k.messages; enums = k.enums; services = k.services }
@@ -204,7 +204,7 @@ module _ (size : ℕ) where
       opened : ServiceDecl
       opened = record { name = w; file = 0; rpcs = [] }
 
-  -- a change that keeps what it changes in the text
+  -- a change that keeps a message within the text
   within_in_message : (F : File) (o : Option ℕ) (f : MessageDecl → MessageDecl)
       → ((m : MessageDecl) → IsMessageWithin size m → IsMessageWithin size (f m)) → IsWithin size F
       → IsWithin size (record F { messages = edit_open o f F.messages })
@@ -312,7 +312,7 @@ module _ (size : ℕ) where
   within_close d (Files.service_ends b) k = k
   within_close d (Files.rpc_ends b) k = k
 
-  -- what stands second, and what stands between the first token and the last
+  -- the second token, and the tokens between the first and the last
   second_inside : (all : List Lexeme) (x y : Lexeme) (ys : List Lexeme) → all ≡ x ∷ y ∷ ys → Inside all
       → IsSpanWithin size y.span
   second_inside all x y ys a h = let (p, (q, r)) = inside_same all (x ∷ y ∷ ys) a h in q
@@ -389,7 +389,7 @@ module _ (size : ℕ) where
   within_so_far {xs = all} (Files.another {xs = xs} {ys = ys} {c = c} x y a) h =
       let (p, q) = inside_split xs ys (inside_same all (xs ++ ys) a h) in within_statement c y q (within_so_far x p)
 
-  -- the tokens but the last
+  -- all tokens but the last
   abbrev AreInside : List Lexeme → Type 0
   AreInside all = (xs : List Lexeme) (x : Lexeme) → all ≡ xs ++ x ∷ [] → Inside xs
 

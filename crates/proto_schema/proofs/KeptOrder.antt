@@ -1,4 +1,4 @@
--- What is declared so far stands in the order of the text, and one more declaration behind it keeps the order.
+-- The declarations so far are in the order of the text, and one more declaration after them keeps the order.
 use Rattle.std.proofs.Common.{◌≡◌, ◌⊎◌, inl, inr, ℕ, zero, suc, ◌<◌, ◌≤◌, List, length, refl, ap, subst, sym, ◌∙◌, arith}
 use Rattle.std.specs.Prelude.{Some, slice_get}
 use Rattle.std.proofs.lemmas.Bool.{cases_order}
@@ -43,9 +43,9 @@ part_is its_output = refl
 pub one_rank : (p q : Part) → rank_of p ≡ rank_of q → p ≡ q
 one_rank p q e = sym (part_is p) ∙ (ap part_of e ∙ part_is q)
 
--- ---- what is declared so far
+-- ---- the declarations so far
 
--- all of it starts before b
+-- all of them start before b
 pub record Kept (F : File) (b : ℕ) : Type 0 where
   pub below : (x : Declaration) (p : Part) (s : Span) → StandsAt F s x p → s.start < b
   pub ordered : IsOrdered F
@@ -53,7 +53,7 @@ pub record Kept (F : File) (b : ℕ) : Type 0 where
 pub kept_to : (F : File) (b c : ℕ) → b ≤ c → Kept F b → Kept F c
 kept_to F b c l k = record { below = λ x p s h. (let q : s.start < b = k.below x p s h in omega arith); ordered = k.ordered }
 
--- G has, besides what F has, the parts R of the declaration X, all from b on and before c
+-- G has, besides the parts of F, the parts R of the declaration X, all of them from b on and before c
 pub record Adds (F G : File) (b c : ℕ) (X : Declaration) (R : Span → Part → Type 0) : Type 0 where
   pub old : (x : Declaration) (p : Part) (s : Span) → StandsAt G s x p → StandsAt F s x p ⊎ ((x ≡ X) × R s p)
   pub last : (y : Declaration) (p : Part) (s : Span) → Precedes X y → StandsAt F s y p → ⊥
@@ -161,7 +161,7 @@ pub of_services : (F : File) {s : Span} {x : Declaration} {p : Part} → InServi
 of_services F (service_in i x q h) = Order.service i x q h
 of_services F (rpc_in i j x r q g h) = Order.rpc i j x r q g h
 
--- where one of the lists is another
+-- one of the lists is replaced
 pub in_messages : (F : File) (ms : List MessageDecl) {s : Span} {x : Declaration} {p : Part}
     → StandsAt (record F { messages = ms }) s x p → StandsAt F s x p ⊎ InMessages ms s x p
 in_messages F ms (Order.package_name w e h) = inl (Order.package_name w e h)
@@ -219,7 +219,7 @@ precedes_itself x o = precedes_other o refl
 
 -- ---- one name
 
--- a declaration of a name alone
+-- a declaration whose only part is a name
 abbrev pub IsName : Span → Span → Part → Type 0
 IsName name s p = (p ≡ its_name) × (s ≡ name)
 
@@ -252,7 +252,7 @@ module _ (name : Span) where
     parts = name_parts;
   }
 
--- ---- which declarations a file has
+-- ---- the declarations of a file
 
 pub import_place : {F : File} {s : Span} {p : Part} {n : ℕ} → StandsAt F s (import_decl n) p → n < length F.imports
 import_place {F = F} (Order.import i x e h) = slice_get_within F.imports i x e
@@ -266,7 +266,7 @@ enum_place {F = F} (Order.enum i e q h) = slice_get_within F.enums i e q
 pub service_place : {F : File} {s : Span} {p : Part} {n : ℕ} → StandsAt F s (service_decl n) p → n < length F.services
 service_place {F = F} (Order.service i x q h) = slice_get_within F.services i x q
 
--- the n-th of a list that the i-th of another has
+-- the i-th element of the first list has an n-th item
 pub record HasPlace {X Y : Type 0} (xs : List X) (ys : X → List Y) (i n : ℕ) : Type 0 where
   pub item : X
   pub is : slice_get xs i ≡ Some item
@@ -276,7 +276,7 @@ pub has_place : {X Y : Type 0} (xs : List X) (ys : X → List Y) (i n : ℕ) (x 
     → slice_get (ys x) n ≡ Some y → HasPlace xs ys i n
 has_place xs ys i n x y e g = record { item = x; is = e; below = slice_get_within (ys x) n y g }
 
--- the list ends before it
+-- it has none if the list is shorter
 pub no_place : {X Y : Type 0} (xs : List X) (ys : X → List Y) (i n : ℕ) (x : X) → slice_get xs i ≡ Some x → length (ys x) ≤ n
     → HasPlace xs ys i n → ⊥
 no_place xs ys i n x e l h =
@@ -301,7 +301,7 @@ pub rpc_place : {F : File} {s : Span} {p : Part} {i n : ℕ} → StandsAt F s (r
     → HasPlace F.services (λ x. x.rpcs) i n
 rpc_place {F = F} (Order.rpc i j x r q g h) = has_place F.services (λ x. x.rpcs) i j x r q g
 
--- what a declaration precedes stands in a file only where the place of it is one of the file
+-- if a declaration precedes one that a file has, its indices are within the lists of the file
 pub import_precedes : {F : File} {s : Span} {p : Part} {n : ℕ} {y : Declaration} → Precedes (import_decl n) y → StandsAt F s y p
     → n < length F.imports
 import_precedes {F = F} (Order.imports i j l) h = let q : j < length F.imports = import_place h in omega arith

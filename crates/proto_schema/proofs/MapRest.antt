@@ -1,4 +1,4 @@
--- What completes a map's type, and a field's type, by how far it is read.
+-- The tokens that complete a map's type and a field's type, by how much of it is read.
 use Rattle.std.proofs.Common.{subst, ◌≡◌, ℕ, suc, ◌+◌, ◌-◌, ◌<◌, ◌≤◌, nat_le, Bool, true, false, List, [], ◌∷◌, ◌++◌}
 use Rattle.std.proofs.Common.{codes, refl, ap, sym, ◌∙◌, arith, add-one}
 use Rattle.std.specs.Prelude.{Ok, Err, Result, Option, Some, None, if◌then◌else◌}
@@ -29,7 +29,7 @@ use Rattle.proto_parts.specs.declared.field.MapState.TheVariants as maps
 use Rattle.proto_parts.specs.declared.field.MapStep.{MapStep}
 use Rattle.proto_parts.specs.declared.field.MapStep.TheVariants as steps
 
--- ---- a name that is a word of three letters is one token
+-- ---- a name of three letters is one token
 
 abbrev pub IsPart : NameState → List ℕ → Type 0
 IsPart (names.Part v) word = bytes_eq v.name word ≡ true
@@ -39,9 +39,9 @@ IsPart s word = ⊥
 pub not_map : (v n : List ℕ) → bytes_eq (v ++ dot ∷ n) (codes "map") ≡ true → ⊥
 not_map v n h = dotted_differs v n (codes "map") refl h
 
--- ---- the value of a map: a name, or maps in one another, and `>`
+-- ---- the value of a map: a name, or nested maps, and `>`
 
--- what stands behind `map <` in another map
+-- the tokens after `map <` in another map
 abbrev pub Body : List Lexeme → Type 0
 Body bs = (m l : Lexeme) → IsWord m (codes "map") → IsMark l less → NestedMaps (m ∷ l ∷ bs)
 
@@ -58,7 +58,7 @@ ValueBack s x (Ok (name_steps.More t)) = (ys : List Lexeme) (r : Option Word) �
 ValueBack s x (Ok (name_steps.Whole w)) = (TypedRest s [] w) × (s ≡ names.Part w)
 ValueBack s x (Err e) = Unit {0}
 
--- what stands behind a token of a name that isn't its first is no map
+-- after a token of a name other than its first there is no map
 later_value : (s t : NameState) (x : Lexeme)
     → ((ys : List Lexeme) (w : Word) → TypedRest t ys w → TypedRest s (x ∷ ys) w) → (t ≡ names.Start → ⊥)
     → (IsPart t (codes "map") → ⊥)
@@ -104,7 +104,7 @@ typed_value (names.Dot v) x =
     (from_dot v x n h) (part_not_start (word_at (v.name ++ dot ∷ n) (span_to v.span x.span))) (not_map v.name n))
     tt
 
--- ---- a map from its key on
+-- ---- a map, from its key on
 
 -- a key, a comma and a value
 pub data KeyAt (s : NameState) (all : List Lexeme) (k : Word) (r : Option Word) : Type 0 where
@@ -159,7 +159,7 @@ body_of bs (k, r, key_at z ks {vs = vs} t c v e) m l hm hl = by r v
         ∙ (sym (append_assoc ks (z ∷ []) (ys ++ x ∷ [])) ∙ sym (append_assoc (ks ++ z ∷ []) ys (x ∷ []))))))
     by r (map_from x y cs p h b g a) = absurd p
 
--- the same, as the type of a field
+-- the same tokens, as the type of a field
 pub kind_from : (m l : Lexeme) (bs : List Lexeme) (kind : FieldType) → IsWord m (codes "map") → IsMark l less
     → MapRest (maps.Key names.Start) bs kind → FieldTypeOf group_word (m ∷ l ∷ bs) kind
 kind_from m l bs kind hm hl (k, r, key_at z ks {vs = vs} t c v e, f) = by r v f
@@ -218,7 +218,7 @@ of_inner_key_back k0 d s x (Err e) b = tt
 
 -- ---- values
 
--- the name is `map`, and `<` stands here
+-- the name is `map`, and the token is `<`
 map_begins : (s : NameState) (w : Word) (x : Lexeme) → s ≡ names.Part w → begins_map w x ≡ true
     → (IsPart s (codes "map")) × IsMark x less
 map_begins s w x e h =

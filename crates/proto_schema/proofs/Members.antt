@@ -1,4 +1,4 @@
--- A field, a oneof, a value or an rpc that is declared behind all others keeps the order.
+-- A field, a oneof, a value or an rpc that is declared after all others keeps the order.
 use Rattle.std.proofs.Common.{◌≡◌, ◌⊎◌, inl, inr, ℕ, suc, ◌<◌, ◌≤◌, List, [], ◌∷◌, ◌++◌, length, refl, ap, subst, sym, ◌∙◌, arith}
 use Rattle.std.specs.Prelude.{Option, Some, slice_get}
 use Rattle.proto_file.specs.Order.{Declaration, field_decl, oneof_decl, value_decl, rpc_decl, Part, its_name, rank_of}
@@ -47,7 +47,7 @@ module _ (b g c : ℕ) (f : FieldDecl) (l : b ≤ g) (m : g ≤ c) (k : FieldWit
   of_outer : (key : Word) → f.kind ≡ NestedMap key → IsWithin b g key.span.start
   of_outer key e = subst (λ (t : FieldType). TypesWithin b g t) e k.types
 
-  -- a type stands before the name
+  -- the types come before the name
   type_before : (w : Word) (s : Span) → IsWithin b g w.span.start → s ≡ w.span → (b ≤ s.start) × (s.start < g)
   type_before w s i e = let q : s.start ≡ w.span.start = start_of s w.span e in (omega arith, omega arith)
 
@@ -84,7 +84,7 @@ module _ (b g c : ℕ) (f : FieldDecl) (l : b ≤ g) (m : g ≤ c) (k : FieldWit
   no_map : (w x y : Word) → f.kind ≡ Named w → f.kind ≡ Map x y → ⊥
   no_map w x y e d = let q : Named w ≡ Map x y = sym e ∙ d in cc
 
-  -- the name and the number stand behind the types
+  -- the name and the number come after the types
   before_name : (s t : Span) → (b ≤ s.start) × (s.start < g) → t ≡ f.name.span → s.start < t.start
   before_name s t (x, y) h = let q : t.start ≡ f.name.span.start = start_of t f.name.span h in let n = k.name in omega arith
 

@@ -44,7 +44,7 @@ pub walks_on : {S : Type 0} (step : S → Lexeme → S → Type 0) {s t u : S} {
 walks_on step (stay e f) w = rw (e, f) w
 walks_on step {ys = ys} (go x zs e h v) w = go x (zs ++ ys) (ap (λ (r : List Lexeme). r ++ ys) e) h (walks_on step v w)
 
--- steps of a part are steps of the whole
+-- steps of a part are steps of the whole statement
 pub walks_in : {S T : Type 0} (step : S → Lexeme → S → Type 0) (wide : T → Lexeme → T → Type 0) (f : S → T)
     → ((s t : S) (x : Lexeme) → step s x t → wide (f s) x (f t))
     → {s t : S} {xs : List Lexeme} → Walks step s xs t → Walks wide (f s) xs (f t)
@@ -69,7 +69,7 @@ part_goes : (x : Lexeme) (name : List ℕ) (w : Word) → IsWord x name
 unfolding full_step
 part_goes x name w h = is_name x (λ n. part (w.name ++ dot ∷ n) (span_to w.span x.span)) name h
 
--- a name behind what is read, with a dot between
+-- a name after the tokens that are read, with a dot between
 abbrev behind_dot : Word → Word → Word
 behind_dot v w = word_at (v.name ++ dot ∷ w.name) (span_to v.span w.span)
 

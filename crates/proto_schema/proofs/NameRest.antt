@@ -1,4 +1,4 @@
--- What completes a name, by how far it is read: what is read is a name.
+-- The tokens that complete a name, by how much of it is read: together they are a name.
 use Rattle.std.proofs.Common.{subst, ◌≡◌, ℕ, false, List, [], ◌∷◌, ◌++◌, codes, refl, ap, sym}
 use Rattle.std.specs.Prelude.{Ok, Err, Result}
 use Rattle.std.proofs.lemmas.List.{append_assoc}
@@ -17,7 +17,7 @@ use Rattle.proto_parts.specs.declared.name.NameState.TheVariants as names
 use Rattle.proto_parts.specs.declared.name.NameStep.{NameStep}
 use Rattle.proto_parts.specs.declared.name.NameStep.TheVariants as steps
 
--- a name behind another and a dot
+-- a name after another and a dot
 abbrev pub behind_dot : Word → Word → Word
 behind_dot v w = word_at (v.name ++ dot ∷ w.name) (span_to v.span w.span)
 
@@ -33,7 +33,7 @@ FullRest (names.Rooted s) ys w = (u : Word) × FullName ys u × (rooted s u ≡ 
 FullRest (names.Part v) ys w = PartRest v ys w
 FullRest (names.Dot v) ys w = (u : Word) × FullName ys u × (behind_dot v u ≡ w)
 
--- what a token does is right: what completes the name behind it completes it with the token
+-- the step of a token is right: what completes the name after it completes it with the token
 abbrev pub NameBack : (NameState → List Lexeme → Word → Type 0) → NameState → Lexeme → Result NameStep ProtoFault
     → Type 0
 NameBack R s x (Ok (steps.More t)) = (ys : List Lexeme) (w : Word) → R t ys w → R s (x ∷ ys) w
@@ -91,7 +91,7 @@ type_back (names.Part v) x =
     either_is (NameBack TypeRest (names.Part v) x) (is_mark x.means dot) (Ok (steps.More (names.Dot v))) (Ok (steps.Whole v)) (λ e. from_part v x (mark_is x.means dot e)) (λ e. ends)
 type_back (names.Dot v) x = named_is (NameBack TypeRest (names.Dot v) x) x (λ n. part (v.name ++ dot ∷ n) (span_to v.span x.span)) (λ n h. from_dot v x n h) tt
 
--- ---- a type's name that `group` doesn't begin
+-- ---- a type's name that doesn't start with `group`
 
 abbrev pub TypedRest : NameState → List Lexeme → Word → Type 0
 TypedRest names.Start ys w = (TypeName ys w) × (begins_with group_word ys ≡ false)
@@ -109,7 +109,7 @@ typed_is_type (names.Rooted s) ys w h = h
 typed_is_type (names.Part v) ys w h = h
 typed_is_type (names.Dot v) ys w h = h
 
--- behind a first token that isn't `group`
+-- after a first token that isn't `group`
 start_typed : (x : Lexeme) (r : Result NameStep ProtoFault) → says x.means (codes "group") ≡ false
     → NameBack TypeRest names.Start x r → NameBack TypedRest names.Start x r
 start_typed x (Ok (steps.More t)) h b = λ ys w k. (b ys w (typed_is_type t ys w k), no_group x ys h)

@@ -1,4 +1,4 @@
--- Where a reason has a name, the reading is at a fault there for this reason, or earlier.
+-- If a specific reason applies at a token, reading gives a fault there for this reason, or an earlier fault.
 use Rattle.std.proofs.Common.{subst, ◌≡◌, ◌≢◌, ◌⊎◌, inl, inr, ℕ, zero, suc, ◌+◌, ◌<◌, ◌≤◌, length, length-append}
 use Rattle.std.proofs.Common.{take, Bool, true, false, List, [], ◌∷◌, ◌++◌, codes, refl, ap, sym, ◌∙◌, add-one, arith}
 use Rattle.std.specs.Prelude.{Err, Result, Option, Some, None, is_some, ◌||◌, slice_get}
@@ -44,15 +44,15 @@ use Rattle.proto_schema.specs.declared.statement.State.{State}
 use Rattle.proto_schema.specs.declared.statement.State.TheVariants as states
 use Rattle.proto_schema.specs.declared.statement.Step.{Step}
 
--- ---- what the reading says
+-- ---- what reading reports
 
--- the reading is at a fault at this token for this reason, or at an earlier one
+-- reading gives a fault at this token for this reason, or at an earlier token
 pub data Reports (ts : List Lexeme) (k : ℕ) (q : ProtoReason) : Type 0 where
   here : (x : Lexeme) → slice_get ts k ≡ Some x → reading true ts ≡ failed (fault_at q x.span) → Reports ts k q
   earlier : (i : ℕ) (x : Lexeme) (r : ProtoReason) → i < k → slice_get ts i ≡ Some x
       → reading true ts ≡ failed (fault_at r x.span) → Reports ts k q
 
--- behind statements, where what comes of the tokens behind them is a fault at this token
+-- after statements, the remaining tokens give a fault at this token
 behind_says : {us : List Lexeme} {d : Draft} (ts tail : List Lexeme) (k : ℕ) (q : ProtoReason) (x : Lexeme) → Says us d
     → ts ≡ us ++ tail → length us ≤ k → slice_get ts k ≡ Some x
     → run true d states.Begin tail ≡ failed (fault_at q x.span) → Reports ts k q
@@ -62,9 +62,9 @@ behind_says {us = us} {d = d} ts tail k q x s a l g f = by (says_well_or tail s)
     by (says_well r m) = here x g (ap (reading true) a ∙ (r ∙ f))
     by (says_deep (deep i z n h w e)) = earlier i z reasons.Nesting (omega arith) (subst (λ (l : List Lexeme). slice_get l i ≡ Some z) (sym a) w) (ap (reading true) a ∙ e)
 
--- ---- places in a list
+-- ---- indices in a list
 
--- the list from a place on
+-- the list from an index on
 pub split_at : (ts : List Lexeme) (k : ℕ) (x : Lexeme) → slice_get ts k ≡ Some x
     → (rest : List Lexeme) × (ts ≡ take k ts ++ x ∷ rest)
 split_at [] zero x h = absurd (let t : ◌≡◌ {A = Option Lexeme} None (Some x) = h in cc)
@@ -148,7 +148,7 @@ import_fails p x n h = by x.means n h
 path_goes_on : (d : Draft) (x : Lexeme) → is_over d (states.Import false) x ≡ false
 path_goes_on d x = and_right (is_end x.means) false refl
 
--- ---- where the type of an rpc begins
+-- ---- the start of an rpc's type
 
 pub data RpcAt (ys : List Lexeme) : Type 0 where
   at_input : (name : Word) → Walks (StepGoes places.Service) states.Begin ys (states.Rpc (rpcs.Input name names.Start))
@@ -265,9 +265,9 @@ rpc_stream {d = d} {ys = ys} x y zs b h t = by (rpc_at b)
         ∙ fails_at d u y zs (fault_at reasons.Stream x.span) (over_not d u y (part_no_end y.means t))
         (service_fails d u y (fault_at reasons.Stream x.span) p (output_stream name input x.span y t)))
 
--- ---- where a part of a map begins
+-- ---- the start of a part of a map
 
--- a name begins here
+-- a name starts here
 pub data MapAt : MapState → Type 0 where
   at_key : MapAt (maps.Key names.Start)
   at_value : (k : Word) → MapAt (maps.Value k names.Start)
@@ -326,7 +326,7 @@ part_from (Faults.inner {ys = bs} (map_key x y z {ys = ys} {w = w} hx hy t g hz 
     let r : PartFrom (maps.Value w names.Start) bs = value_part w b in
     map_from x y ((ys ++ z ∷ []) ++ bs) hx hy (e ∙ ap (λ (l : List Lexeme). l ++ bs) a) (r.0, walks_on MapGoes (key_walks z (typed_reads t g) hz) r.1, r.2)
 
--- ---- where a field's type begins
+-- ---- the start of a field's type
 
 field_group : (p : Place) (label : FieldLabel) (x : Lexeme) → IsWord x (codes "group")
     → statement_step p (states.Field (fields.Type label names.Start)) x ≡ Err (fault_at reasons.Group x.span)
@@ -356,7 +356,7 @@ map_first p m h q =
     in_type labels.Plain names.Start (names.Part (word_at (codes "map") m.span)) m (first_goes m (codes "map") h (rw h refl)) in
     q ∙ ap of_field t
 
--- behind `map`, up to where a part of the map begins
+-- after `map`, up to the start of a part of the map
 behind_map : (p : Place) (label : FieldLabel) (m l : Lexeme) {rest : List Lexeme} {t : MapState} → IsMark l less
     → Walks MapGoes (maps.Key names.Start) rest t
     → Walks (StepGoes p) (states.Field (fields.Type label (names.Part (word_at (codes "map") m.span)))) (l ∷ rest) (states.Field (fields.Map label t))
@@ -364,7 +364,7 @@ behind_map p label m l {rest = rest} h w =
     walks_in FieldGoes (StepGoes p) (λ s. states.Field s) (in_field p)
     (go l rest refl (map_begins label m.span l h) (walks_in MapGoes FieldGoes (λ s. fields.Map label s) (in_map label) w))
 
--- from where `map` is read on
+-- once `map` is read
 map_fails : (d : Draft) (s : State) (label : FieldLabel) {ms : List Lexeme} (x : Lexeme) (zs : List Lexeme) → MapFrom ms
     → ((m : Lexeme) → IsWord m (codes "map")
     → StepGoes (place_of d) s m (states.Field (fields.Type label (names.Part (word_at (codes "map") m.span)))))
@@ -376,7 +376,7 @@ map_fails d s label x zs (map_from m l rest hm hl e (t, w, a)) first h =
     (word_goes_on d (states.Field (fields.Map label t)) x (codes "group") h)
     (map_field_group (place_of d) label x a h))
 
--- behind a label
+-- after a label
 labelled_first : (p : Place) (label : FieldLabel) (m : Lexeme) → IsWord m (codes "map")
     → StepGoes p (states.Field (fields.Type label names.Start)) m (states.Field (fields.Type label (names.Part (word_at (codes "map") m.span))))
 labelled_first p label m h =
@@ -399,7 +399,7 @@ oneof_map d i filled b m h =
     at_step d (places.Oneof filled) states.Begin (states.Field (fields.Type labels.Plain (names.Part (word_at (codes "map") m.span)))) m (in_block d (a_oneof i filled) b)
     (map_first (places.Oneof filled) m h (oneof_leads filled m (by_word (codes "map") h (map_no_member m h))))
 
--- what is read of a label
+-- a label is read
 abbrev LabelGoes : Draft → Lexeme → FieldLabel → Type 0
 LabelGoes d y label = StepGoes (place_of d) states.Begin y (states.Field (fields.Type label names.Start))
 
@@ -456,12 +456,12 @@ type_group {d = d} x zs (Faults.of_member i filled b e) h =
     ap (λ (q : List Lexeme). run true d states.Begin (q ++ x ∷ zs)) e ∙ first_group d (places.Oneof filled) x zs (in_block d (a_oneof i filled) b) (oneof_group filled x h) h
 type_group {d = d} x zs (Faults.of_member_map i filled b m) h = map_fails d states.Begin labels.Plain x zs (part_from m) (oneof_map d i filled b) h
 
--- ---- the names
+-- ---- the specific reasons
 
 first_is : (ts : List Lexeme) (x : Lexeme) → slice_get ts 0 ≡ Some x → (rest : List Lexeme) × (ts ≡ x ∷ rest)
 first_is ts x h = split_at ts 0 x h
 
--- a reason with a name but that no token stands there
+-- a specific reason other than `Token`
 pub named_reports : {ts : List Lexeme} {k : ℕ} {q : ProtoReason} → IsNamed ts k q → q ≢ reasons.Token → Reports ts k q
 named_reports (Faults.no_token x b n) o = absurd (o refl)
 named_reports {ts = ts} {k = k} (Faults.import j x y d e s i g w f n p) o = by (split_two ts j x y g (subst (λ (m : ℕ). slice_get ts m ≡ Some y) (e ∙ add-one j) f))

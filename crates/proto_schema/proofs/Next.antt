@@ -1,4 +1,4 @@
--- The next token of a text, and what comes of the tokens behind it.
+-- The next token of a text, and the results of the tokens after it.
 use Rattle.std.proofs.Common.{subst, ◌≡◌, ℕ, suc, ◌+◌, ◌^◌, ◌≤◌, ◌<◌, Bool, true, false, List, [], ◌∷◌, ◌++◌, length}
 use Rattle.std.proofs.Common.{drop, length-append, refl, ap, sym, ◌∙◌, arith}
 use Rattle.std.specs.Prelude.{Ok, Result, ◌&&◌}
@@ -48,7 +48,7 @@ quoted text t (no_word k e s) h = absurd (let c : kinds.Bad ≡ kinds.Text = sym
 pub lies_next : (text : List ℕ) (place : ℕ) (t : Token) → length text < 2 ^ 62 → IsNext text place t → Lies text t
 lies_next text place t small h = record { small = small; ordered = ordered text t h.here; within = h.within; quotes = quoted text t h.here }
 
--- one token is next, and so the list begins with it
+-- the next token is unique, and so the list starts with it
 pub begins_next : (text : List ℕ) (place : ℕ) (t : Token) (ts : List Token)
     → ((u v : Token) → IsNext text place u → IsNext text place v → u ≡ v) → IsNext text place t
     → AreTokens text place ts → AreTokensFrom text t ts
@@ -84,7 +84,7 @@ pub added_shallow : (d e : Draft) (x : Lexeme) (xs : List Lexeme) (s : Said)
     → behind_step d x xs (Ok (steps.Done s)) ≡ run true e states.Begin xs
 added_shallow d e x xs s n h = rw (not_deep d s n) (rw h refl)
 
--- what fails behind the next token fails in the list
+-- a fault after the next token is a fault of the list
 pub fails_list : (text : List ℕ) (d : Draft) (s : State) (t : Token) (ts : List Token) (e : ProtoFault)
     → AreTokensFrom text t ts → is_over d s (lexeme text t) ≡ false
     → ((xs : List Lexeme)
@@ -98,7 +98,7 @@ pub over_list : (text : List ℕ) (d : Draft) (s : State) (t : Token) (ts : List
 over_list text d s t ts (alone h b) o = rw h (run_over true d s (lexeme text t) [] o)
 over_list text d s t ts (with_others others h b more) o = rw h (run_over true d s (lexeme text t) (lexemes text others) o)
 
--- at most one more is open behind a token
+-- at most one more brace or map is open after a token
 pub grows : (p : Place) (s t : State) (x : Lexeme) → statement_step p s x ≡ Ok (steps.More t) → depth t ≤ depth s + 1
 grows p s t x e = subst (λ (r : Result Step ProtoFault). Within (depth s + 1) r) e (statement_within p s x)
 
@@ -112,13 +112,14 @@ both_false : (a b : Bool) → b ≡ false → (a && b) ≡ false
 both_false false b h = refl
 both_false true b h = h
 
--- a text doesn't end in a statement
+-- a text doesn't end inside a statement
 pub goes_in : (d : Draft) (s : State) (x : Lexeme) → (s ≡ states.Begin → ⊥) → is_over d s x ≡ false
 goes_in d s x n = both_false (is_end x.means) (is_begin s && is_file (place_of d)) (rw (not_begin s n) refl)
 
--- ---- the tokens from a place on, behind statements and a part of one
+-- ---- the tokens from an offset on, after statements and a part of one
 
--- what comes of the tokens from the first place on comes of those from the other place on, behind what is read
+-- the result of the tokens from the first offset on is that of the tokens from the second offset on, after what is
+-- read
 abbrev pub Goes : List ℕ → ℕ → ℕ → Draft → State → Type 0
 Goes text from place d s = (ts : List Token) → AreTokens text from ts
     → (us : List Token) × AreTokens text place us
@@ -156,7 +157,7 @@ pub goes_over : (text : List ℕ) (from place : ℕ) (t : Token) (d : Draft) (s 
     → (ts : List Token) → AreTokens text from ts → run true nothing_said states.Begin (lexemes text ts) ≡ read d.file
 goes_over text from place t d s b over g ts h = let (us, a, r) = g ts h in r ∙ over_list text d s t us (b us a) over
 
--- ---- a word or a mark isn't the last token
+-- ---- a word or a punctuator isn't the last token
 
 pub mark_not_last : (text : List ℕ) (t : Token) (c : ℕ) → is_mark (lexeme text t).means c ≡ true
     → is_last t.kind ≡ false

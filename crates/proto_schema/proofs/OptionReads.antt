@@ -1,4 +1,4 @@
--- An option is read: each of its tokens goes on with what was read, and the token behind it ends it.
+-- An option is read: each of its tokens continues it, and the token after it ends it.
 use Rattle.std.proofs.Common.{subst, ◌≡◌, ◌≢◌, ◌⊎◌, inl, inr, ℕ, suc, ◌-◌, ◌==◌, nat_le, Bool, true, false, List, []}
 use Rattle.std.proofs.Common.{◌∷◌, ◌++◌, codes, refl, ap, sym, ◌∙◌, arith, add-one}
 use Rattle.std.specs.Prelude.{Ok, Option, None, ◌&&◌}
@@ -29,7 +29,7 @@ use Rattle.proto_parts.specs.declared.tail.TailStep.TheVariants as tail_steps
 abbrev pub OptionGoes : OptionState → Lexeme → OptionState → Type 0
 OptionGoes s x t = option_step s x ≡ Ok (steps.More t)
 
--- another mark than this
+-- another punctuator than this
 pub mark_not : (m : Meaning) (c d : ℕ) → m ≡ mark c → c ≢ d → is_mark m d ≡ false
 mark_not m c d h n = rw h (ne_eqb c d n)
 
@@ -112,7 +112,7 @@ name_reads first (parts x {ys = ys} {zs = zs} p d n e) =
 
 -- ---- the value
 
--- a mark that is no dot stands behind the option
+-- a punctuator other than a dot follows the option
 abbrev pub Ready : OptionState → Option Bool → Type 0
 Ready t b = (x : Lexeme) (c : ℕ) → IsMark x c → c ≢ dot → option_step t x ≡ Ok (steps.Whole b)
 
@@ -218,7 +218,7 @@ closes_reads (closing x {n = n} {ys = ys} h c) = go x ys refl (closing_goes n x 
 closes_reads (opening x {n = n} {ys = ys} h c) = go x ys refl (opening_goes n x h) (closes_reads c)
 closes_reads (other x {n = n} {ys = ys} i j k l c) = go x ys refl (other_goes n x i j k l) (closes_reads c)
 
--- what is read of an option, and what it says
+-- an option is read, with the value that it gives to `packed`
 abbrev pub OptionReads : OptionState → List Lexeme → Option Bool → Type 0
 OptionReads s ys b = (t : OptionState) × Walks OptionGoes s ys t × Ready t b
 
@@ -282,7 +282,7 @@ option_reads (option x {ys = ys} {zs = zs} {all = all} {says_packed = b} n q v e
       subst (λ (b : Option Bool). Ready r.0 b) (sym s) r.2,
     )
 
--- ---- what stands behind a number
+-- ---- after a number
 
 abbrev pub TailGoes : TailState → Lexeme → TailState → Type 0
 TailGoes s x t = tail_step s x ≡ Ok (tail_steps.More t)
@@ -306,7 +306,7 @@ options_open : (x : Lexeme) → IsMark x opening_bracket → TailGoes tails.Star
 unfolding tail_step
 options_open x h = rw h refl
 
--- options are read up to the bracket behind them
+-- options are read up to the bracket after them
 list_reads : (p : Option Bool) {all : List Lexeme} {b : Option Bool} (z : Lexeme) → OptionList all b
     → IsMark z closing_bracket
     → Walks TailGoes (tails.Options p next_option) (all ++ z ∷ []) (tails.Closed (latest p b))

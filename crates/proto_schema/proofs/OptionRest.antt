@@ -1,4 +1,4 @@
--- What completes an option, by how far it is read: what is read is an option.
+-- The tokens that complete an option, by how much of it is read: together they are an option.
 use Rattle.std.proofs.Common.{subst, ◌≡◌, ◌≢◌, ◌⊎◌, inl, inr, ℕ, suc, ◌+◌, ◌-◌, ◌<◌, ◌≤◌, ◌==◌, nat_le, Bool, true}
 use Rattle.std.proofs.Common.{false, List, [], ◌∷◌, ◌++◌, codes, refl, ap, sym, ◌∙◌, arith, add-one}
 use Rattle.std.specs.Prelude.{Ok, Err, Result, Option, None, if◌then◌else◌, ◌&&◌, ◌||◌}
@@ -22,11 +22,11 @@ use Rattle.proto_parts.specs.declared.option.OptionState.TheVariants as states
 use Rattle.proto_parts.specs.declared.option.OptionStep.{OptionStep}
 use Rattle.proto_parts.specs.declared.option.OptionStep.TheVariants as steps
 
--- what an option says of `packed`
+-- the value that an option gives to `packed`
 abbrev pub said_if : Bool → List Lexeme → Option Bool
 said_if packed zs = if packed then truth zs else None
 
--- behind a part of the name
+-- after a part of the name
 pub data AfterPart (packed : Bool) : List Lexeme → Option Bool → Type 0 where
   equals_behind : (x : Lexeme) {zs : List Lexeme} {b : Option Bool} → IsMark x equals → Value zs
       → said_if packed zs ≡ b → AfterPart packed (x ∷ zs) b
@@ -82,7 +82,7 @@ OptionBack s x (Ok (steps.More t)) = (ys : List Lexeme) (b : Option Bool) → Op
 OptionBack s x (Ok (steps.Whole b)) = OptionRest s [] b
 OptionBack s x (Err e) = Unit {0}
 
--- ---- nothing is said of `packed`
+-- ---- no value is given to `packed`
 
 no_truth : (first c : Bool) (zs : List Lexeme) → c ≡ false → said_if (first && c) zs ≡ None
 no_truth true c zs e = rw e refl

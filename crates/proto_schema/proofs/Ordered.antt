@@ -1,5 +1,5 @@
--- What the statements so far say stands in the order of the text: a statement adds one declaration at most, behind all
--- that was declared before.
+-- The declarations of the statements so far are in the order of the text: a statement adds at most one declaration,
+-- after all earlier ones.
 use Rattle.std.proofs.Common.{◌≡◌, ℕ, suc, ◌≤◌, Bool, true, false, List, [], ◌∷◌, ◌++◌, length, refl, ◌∙◌, arith}
 use Rattle.std.specs.Prelude.{Option, Some, None}
 use Rattle.proto_file.specs.Order.{Declaration, Part, StandsAt, IsOrdered}
@@ -40,7 +40,7 @@ kept_field_statement b e d {ts = ts} {es = es} {kind = kind} {name = name} {numb
     kept_field d.file b g e (innermost_of d.messages) (field name number kind label oneof packed) l m
     (record { types = types; name = ends.name.within; number = ends.number; ordered = ends.ordered }) k
 
--- a name behind a first token
+-- a name after a first token
 pub second_within : (b e : ℕ) (x y : Lexeme) (ys : List Lexeme) → Along b (x ∷ y ∷ ys) e → IsWithin b e y.span.start
 second_within b e x y ys (l, p, r) =
     let q : IsWithin (suc x.span.start) e y.span.start = first_within (suc x.span.start) y ys e r in

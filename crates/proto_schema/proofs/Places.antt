@@ -1,4 +1,4 @@
--- An element of a list by its place, where an element was added behind the others or one was changed.
+-- Elements of a list by index, after an element was appended or changed.
 use Rattle.std.proofs.Common.{◌≡◌, ◌⊎◌, inl, inr, ℕ, zero, suc, ◌-◌, ◌<◌, List, [], ◌∷◌, ◌++◌, length, get_or, refl, ap, sym, ◌∙◌, arith}
 use Rattle.std.specs.Prelude.{Option, Some, None, slice_get, All, Contains}
 use Rattle.std.proofs.lemmas.Option.{slice_get_within, slice_get-get_or, get_or_from_slice_get}
@@ -18,7 +18,7 @@ all_by_place P xs h = λ k d l. h k (get_or xs k d) (slice_get-get_or xs k d l)
 pub contained : {X : Type 0} (xs : List X) (i : ℕ) (x : X) → slice_get xs i ≡ Some x → Contains xs x
 contained xs i x e = (i, slice_get_within xs i x e, get_or_from_slice_get xs i x x e)
 
--- ---- an element behind the others
+-- ---- an appended element
 
 pub in_pushed : {X : Type 0} (xs : List X) (x : X) (i : ℕ) (y : X) → slice_get (xs ++ x ∷ []) i ≡ Some y
     → (slice_get xs i ≡ Some y) ⊎ ((i ≡ length xs) × (y ≡ x))
@@ -37,7 +37,7 @@ pub pushed : {X : Type 0} (xs : List X) (x : X) → slice_get (xs ++ x ∷ []) (
 pushed [] x = refl
 pushed (z ∷ zs) x = pushed zs x
 
--- ---- an element that was changed
+-- ---- a changed element
 
 pub data Changed {X : Type 0} (at : ℕ → Type 0) (f : X → X) (xs : List X) (i : ℕ) (y : X) : Type 0 where
   changed : (x : X) → slice_get xs i ≡ Some x → at i → y ≡ f x → Changed at f xs i y

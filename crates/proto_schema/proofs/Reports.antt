@@ -1,4 +1,4 @@
--- What a fault of the reading says of the tokens, in the words of the grammar.
+-- What a fault of reading means for the tokens, in terms of the grammar.
 use Rattle.std.proofs.Common.{subst, ◌≡◌, ◌⊎◌, inl, inr, ℕ, ◌+◌, ◌<◌, ◌≤◌, length, length-append, take, Bool, true}
 use Rattle.std.proofs.Common.{false, List, [], ◌∷◌, ◌++◌, codes, refl, ap, sym, ◌∙◌, arith}
 use Rattle.std.specs.Prelude.{Ok, Err, Result, Some, if◌then◌else◌, slice_get}
@@ -37,9 +37,9 @@ use Rattle.proto_schema.specs.declared.statement.Said.TheVariants as said
 use Rattle.proto_schema.specs.declared.statement.Step.{Step}
 use Rattle.proto_schema.specs.declared.statement.Step.TheVariants as steps
 
--- ---- what a token's fault says
+-- ---- what a token's fault means
 
--- a reason at a token: it has a name, or the tokens break off there
+-- a reason at a token: it is a specific one, or the tokens break off there
 pub data Means (ts : List Lexeme) (k : ℕ) (x : Lexeme) : ProtoReason → Type 0 where
   has_name : {q : ProtoReason} → IsNamed ts k q → Means ts k x q
   breaks_off : BreaksAt ts k x → is_no_token x.means ≡ false → Means ts k x reasons.Expected
@@ -58,7 +58,7 @@ pub take_front : (us zs : List Lexeme) → take (length us) (us ++ zs) ≡ us
 take_front [] zs = refl
 take_front (u ∷ us) zs = ap (λ (l : List Lexeme). u ∷ l) (take_front us zs)
 
--- the tokens break off where the reading is at a fault
+-- the tokens break off where reading gives a fault
 breaks : (us xs : List Lexeme) (x : Lexeme) (d : Draft) (s : State) (e : ProtoFault) → reading false us ≡ cut_off d s
     → reading false (us ++ x ∷ []) ≡ failed e → BreaksAt (us ++ x ∷ xs) (length us) x
 breaks us xs x d s e c f = record {
@@ -67,7 +67,7 @@ breaks us xs x d s e c f = record {
   behind = λ g. at_fault e (us ++ x ∷ []) f (subst (λ (l : List Lexeme). CanGoOn l) (take_behind us xs x) g);
 }
 
--- where a token is unlike what can stand there
+-- a token that can't appear here
 unlike_told : (us xs : List Lexeme) (x : Lexeme) (d : Draft) (s : State) → reading false us ≡ cut_off d s
     → reading false (us ++ x ∷ []) ≡ failed (unexpected x) → Told (us ++ x ∷ xs) (unexpected x)
 unlike_told us xs x d s c f = by (is_no_token x.means) refl
@@ -84,13 +84,13 @@ unlike_told us xs x d s c f = by (is_no_token x.means) refl
 abbrev Completes : Draft → List Lexeme → State → Type 0
 Completes d ys s = (zs : List Lexeme) (v : Said) → Rest s zs v → Statement d (ys ++ zs) (added d v)
 
--- whole statements and a part of one are read
+-- complete statements and a part of one are read
 data Progress (us : List Lexeme) (d : Draft) (s : State) : Type 0 where
   progress : (front ys : List Lexeme) → us ≡ front ++ ys → Says front d → SoFar d s ys → Completes d ys s
       → length d.messages ≤ MAX_OPEN → ((zs : List Lexeme) → reading false (us ++ zs) ≡ run false d s zs)
       → Progress us d s
 
--- what a token does completes the statement
+-- a token continues the statement, and what completes the remainder completes it
 abbrev CompletesOn : Draft → List Lexeme → Lexeme → Result Step ProtoFault → Type 0
 CompletesOn d ys x (Ok (steps.More t)) = (zs : List Lexeme) (v : Said) → Rest t zs v → Statement d (ys ++ x ∷ zs) (added d v)
 CompletesOn d ys x (Ok (steps.Done v)) = Statement d (ys ++ x ∷ []) (added d v)
@@ -107,7 +107,7 @@ later_completes d ys s x (Ok (steps.More t)) c b = λ zs v k. c (x ∷ zs) v (b.
 later_completes d ys s x (Ok (steps.Done v)) c b = c (x ∷ []) v b
 later_completes d ys s x (Err e) c b = tt
 
--- what a token does in a state: what is read behind it, and what its fault says
+-- the effect of a token in a state: what is read after it, and what its fault means
 abbrev Onward : Draft → List Lexeme → Lexeme → Result Step ProtoFault → Type 0
 Onward d ys x r = (StepOn d ys x r) × CompletesOn d ys x r
 
@@ -123,7 +123,7 @@ onward d s ys x k c = by (begin_or s)
         (begin_on d x, begin_completes d x (statement_step (place_of d) states.Begin x) (begin_back d x)))
     by (inr n) = (later_on d (place_of d) s ys x n k, later_completes d ys s x (statement_step (place_of d) s x) c (statement_back (place_of d) s x n))
 
--- at most 32 messages are open behind a statement that isn't too deep
+-- at most 32 messages are open after a statement that isn't too deep
 added_within : (d : Draft) (v : Said) → is_too_deep true d v ≡ false → length d.messages ≤ MAX_OPEN
     → length (added d v).messages ≤ MAX_OPEN
 added_within d said.Nothing k l = l
@@ -141,13 +141,13 @@ added_within d (said.Rpc r true) k l = l
 added_within d (said.Rpc r false) k l = l
 added_within d said.Close k l = let a : length (added d said.Close).messages ≤ length d.messages = added_less d said.Close tt in omega arith
 
--- what comes of the tokens behind, for any reading so far
+-- the result of the remaining tokens, for any tokens read before
 abbrev Tells : List Lexeme → ProtoFault → Type 0
 Tells xs e = (us : List Lexeme) (d : Draft) (s : State) → Progress us d s → run true d s xs ≡ failed e → Told (us ++ xs) e
 
 -- ---- a fault at a token
 
--- two places behind others
+-- the length after one more token
 length_behind : (xs : List Lexeme) (x : Lexeme) → length (xs ++ x ∷ []) ≡ length xs + 1
 length_behind xs x = length-append xs (x ∷ [])
 
@@ -186,7 +186,7 @@ run_nothing : (limited : Bool) (d : Draft) (s : State) → run limited d s [] �
 unfolding run
 run_nothing limited d s = refl
 
--- what was read is cut off
+-- the tokens read so far end in the middle
 cut_here : (us : List Lexeme) (d : Draft) (s : State) → ((zs : List Lexeme) → reading false (us ++ zs) ≡ run false d s zs)
     → reading false us ≡ cut_off d s
 cut_here us d s g = ap (reading false) (sym (append-nil us)) ∙ (g [] ∙ run_nothing false d s)
@@ -263,7 +263,7 @@ run_told (x ∷ xs) e us d s p h = token_told x xs e (run_told xs e) us d s p h
 
 -- ---- the syntax statement, and the whole text
 
--- where the first tokens are unlike the syntax statement
+-- the first tokens differ from the syntax statement
 first_unlike : (us xs : List Lexeme) (x : Lexeme) (e : ProtoFault) → reading false us ≡ cut_off nothing_said states.Begin
     → reading false (us ++ x ∷ []) ≡ failed (unexpected x) → failed (unexpected x) ≡ failed e → Told (us ++ x ∷ xs) e
 first_unlike us xs x e c f h =

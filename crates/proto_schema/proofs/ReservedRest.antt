@@ -1,4 +1,4 @@
--- What completes reserved numbers or names, by how far they are read.
+-- The tokens that complete reserved numbers or names, by how much of them is read.
 use Rattle.std.proofs.Common.{subst, ◌≡◌, ◌⊎◌, inl, inr, ℕ, Bool, true, false, List, [], ◌∷◌, ◌++◌, codes, refl, ap, sym, ◌∙◌}
 use Rattle.std.specs.Prelude.{Ok, Err, Result, Option, Some, None, if◌then◌else◌, ◌&&◌}
 use Rattle.std.proofs.lemmas.List.{append_assoc, append-nil}
@@ -25,12 +25,12 @@ use Rattle.proto_parts.specs.declared.reserved.ReservedStep.TheVariants as steps
 
 -- ---- a range
 
--- behind `to`
+-- after `to`
 pub data ToRest (signed : Bool) (n : Number) (all : List Lexeme) (r : Range) : Type 0 where
   to_number : {m : Number} → NumberOf signed all m → a_range n (Some m) ≡ r → ToRest signed n all r
   to_max : (y : Lexeme) → IsWord y (codes "max") → all ≡ y ∷ [] → a_range n None ≡ r → ToRest signed n all r
 
--- behind the first number
+-- after the first number
 pub data FirstRest (signed : Bool) (n : Number) (all : List Lexeme) (r : Range) : Type 0 where
   first_ends : all ≡ [] → a_range n (Some n) ≡ r → FirstRest signed n all r
   first_goes_on : (x : Lexeme) {rest : List Lexeme} → IsWord x (codes "to") → ToRest signed n rest r → all ≡ x ∷ rest
@@ -124,7 +124,7 @@ range_back signed (ranges.Whole q) x = tt
 abbrev pub Kept : Type 0
 Kept = List Range ⊎ List Word
 
--- behind a range, with those so far
+-- after a range and earlier ones
 pub data BehindRange (signed : Bool) (rs : List Range) (all : List Lexeme) (out : Kept) : Type 0 where
   ranges_end : (z : Lexeme) → IsMark z semicolon → all ≡ z ∷ [] → inl rs ≡ out → BehindRange signed rs all out
   range_comma : (x z : Lexeme) {ys : List Lexeme} {more : List Range} → IsMark x comma → RangesOf signed ys more

@@ -29,11 +29,11 @@ use Rattle.proto_parts.specs.declared.rpc.RpcStep.TheVariants as steps
 abbrev pub RpcTypeGoes : NameState → Lexeme → NameState → Type 0
 RpcTypeGoes s x t = rpc_type_step s x ≡ Ok (name_steps.More t)
 
--- where no `stream` was read
+-- no `stream` is read
 pub quiet : (s t : NameState) (x : Lexeme) → is_streaming s x ≡ false → TypedGoes s x t → RpcTypeGoes s x t
 quiet s t x q h = rw q (ap (behind_type x) h)
 
--- no word with a dot is `stream`
+-- a name with a dot isn't `stream`
 pub not_stream : (v n : List ℕ) → bytes_eq (v ++ dot ∷ n) (codes "stream") ≡ false
 not_stream v n = false_from_ne_true (bytes_eq (v ++ dot ∷ n) (codes "stream")) (λ h. dotted_differs v n (codes "stream") refl h)
 
@@ -143,7 +143,7 @@ pub brace_ends : (r : RpcDecl) (x : Lexeme) → IsMark x opening_brace → RpcEn
 unfolding rpc_step
 brace_ends r x h = rw h refl
 
--- `rpc`, and then the tokens up to the last one
+-- `rpc`, followed by the tokens up to the last one
 pub data RpcReads (all : List Lexeme) (r : RpcDecl) : Type 0 where
   rpc_reads : (x : Lexeme) {ys : List Lexeme} → IsWord x (codes "rpc") → Walks RpcGoes rpcs.Start ys (rpcs.End r)
       → all ≡ x ∷ ys → RpcReads all r

@@ -1,4 +1,4 @@
--- What completes a method, by how far it is read.
+-- The tokens that complete a method, by how much of it is read.
 use Rattle.std.proofs.Common.{subst, ◌≡◌, ℕ, Bool, true, false, List, [], ◌∷◌, ◌++◌, codes, refl, ap, sym, ◌∙◌}
 use Rattle.std.specs.Prelude.{Ok, Err, Result, if◌then◌else◌, ◌&&◌}
 use Rattle.std.specs.Str.{bytes_eq}
@@ -29,7 +29,7 @@ use Rattle.proto_parts.specs.declared.rpc.RpcStep.TheVariants as steps
 
 -- ---- the type
 
--- behind `stream` nothing stands
+-- nothing follows `stream`
 abbrev pub StreamRule : NameState → List Lexeme → Type 0
 StreamRule names.Start ys = Unit {0}
 StreamRule (names.Rooted s) ys = Unit {0}
@@ -191,7 +191,7 @@ rpc_back (rpcs.End r) x =
     (λ h. end_rest x (mark_is x.means semicolon h) refl refl)
     (λ h. either_is (RpcBack (rpcs.End r) x) (is_mark x.means opening_brace) (Ok (steps.Done r true)) (wrong x) (λ k. end_rest x (mark_is x.means opening_brace k) refl refl) (λ k. tt))
 
--- ---- `rpc` and what completes it are a method and its last token
+-- ---- `rpc` and the tokens that complete it are a method and its last token
 
 pub data RpcWhole (all : List Lexeme) (q : RpcDecl) (block : Bool) : Type 0 where
   rpc_whole : (z : Lexeme) {ys : List Lexeme} → RpcHead ys q → EndMark block z → all ≡ ys ++ z ∷ []

@@ -68,7 +68,7 @@ use Rattle.proto_parts.specs.declared.reserved.ReservedPart.TheVariants as parts
 use Rattle.proto_schema.specs.declared.statement.Place.{Place}
 use Rattle.proto_schema.specs.declared.statement.Place.TheVariants as places
 
--- ---- a statement's tokens
+-- ---- the tokens of a statement
 
 abbrev pub StepGoes : Place → State → Lexeme → State → Type 0
 StepGoes p s x t = statement_step p s x ≡ Ok (steps.More t)
@@ -104,12 +104,12 @@ pub data ShallowOr (v : Said) (all : List Lexeme) : Type 0 where
 shallow_or : (v : Said) (all : List Lexeme) → Shallow v → ShallowOr v all
 shallow_or v all k = is_shallow k
 
--- the tokens are a statement of the machine, which says what leads to this draft
+-- the tokens are read as a statement that leads to this draft
 pub data StatementReads (d : Draft) (all : List Lexeme) (e : Draft) : Type 0 where
   statement_reads : (v : Said) → ShallowOr v all → StepTakes (place_of d) states.Begin all v → added d v ≡ e
       → StatementReads d all e
 
--- ---- where a statement stands
+-- ---- where a statement is
 
 pub in_file : (d : Draft) → InFile d → place_of d ≡ places.File (is_some d.file.package)
 in_file d h = ap (λ (b : Block). place_with b d.messages d.file.package) h.0 ∙ ap (λ (ms : List ℕ). place_with no_block ms d.file.package) h.1
@@ -131,7 +131,7 @@ body_place d h = ap is_body (in_block d no_block h) ∙ by d.messages
     by [] = refl
     by (i ∷ is) = refl
 
--- ---- statements that begin with a word of their own
+-- ---- statements that start with a keyword
 
 package_word : (x : Lexeme) → IsWord x (codes "package")
     → StepGoes (places.File false) states.Begin x (states.Package names.Start)
@@ -296,7 +296,7 @@ rpc_ends p s r block x h = ap of_rpc h
 
 -- ---- a field without a label
 
--- a token that begins a field: no word of these, or a dot
+-- a token that starts a field: a name other than these words, or a dot
 pub data Leads (words : List (List ℕ)) (x : Lexeme) : Type 0 where
   by_word : (n : List ℕ) → IsWord x n → says_one_of x words ≡ false → Leads words x
   by_dot : IsMark x dot → Leads words x
@@ -327,7 +327,7 @@ map_no_member x h = rw h refl
 pub map_no_statement : (x : Lexeme) → IsWord x (codes "map") → says_one_of x statement_words ≡ false
 map_no_statement x h = rw h refl
 
--- a type that begins with no word of several begins with none of the last ones
+-- a type that starts with none of several words starts with none of the last ones
 narrow : (words : List (List ℕ)) → ((x : Lexeme) → says_one_of x words ≡ false → says_one_of x group_word ≡ false)
     → (ts : List Lexeme) (kind : FieldType) → FieldTypeOf words ts kind → FieldTypeOf group_word ts kind
 narrow words h ts kind (named t b) = named t (by ts b)
@@ -347,7 +347,7 @@ left_false a b h = (or_parts a b h).0
 member_group : (x : Lexeme) → says_one_of x member_words ≡ false → says_one_of x group_word ≡ false
 member_group x h = rest_false (says x.means (codes "option")) (says_one_of x group_word) h
 
--- what a name isn't where it is none of the words of a statement
+-- properties of a name that is no keyword of a statement
 record NoStatement (n : List ℕ) : Type 0 where
   no_message : bytes_eq n (codes "message") ≡ false
   no_enum : bytes_eq n (codes "enum") ≡ false
@@ -418,7 +418,7 @@ oneof_leads filled x (by_word n h s) =
     ap (begins (places.Oneof filled) x) h ∙ oneof_field filled x n (let g : any_of n member_words ≡ false = rw h at s in left_false (bytes_eq n (codes "option")) _ g)
 oneof_leads filled x (by_dot h) = ap (begins (places.Oneof filled) x) h ∙ refl
 
--- a first token that begins a field
+-- a first token that starts a field
 pub field_first : (p : Place) (x : Lexeme) (l : List Lexeme) (f : FieldDecl)
     → statement_step p states.Begin x ≡ field_begins x → FieldTakes (fields.Type labels.Plain names.Start) (x ∷ l) f
     → StepTakes p states.Begin (x ∷ l) (said.Field f)
@@ -426,9 +426,9 @@ field_first p x l f h (last y k) = last y (h ∙ ap of_field k)
 field_first p x l f h (next y {t = t} k w) =
     next y (h ∙ ap of_field k) (takes_in FieldGoes FieldEnds (StepGoes p) (StepEnds p) (λ s. states.Field s) (λ f. said.Field f) (in_field p) (field_ends p) w)
 
--- ---- what a statement says
+-- ---- what a statement declares
 
--- in a place that is known
+-- in a known place
 at_place : (d : Draft) (p : Place) {ys : List Lexeme} (v : Said) {e : Draft} → Shallow v → place_of d ≡ p
     → StepTakes p states.Begin ys v → added d v ≡ e → StatementReads d ys e
 at_place d p {ys = ys} v k h t q = statement_reads v (shallow_or v ys k) (subst (λ (p : Place). StepTakes p states.Begin ys v) (sym h) t) q
@@ -626,7 +626,7 @@ statement_is_read {d = d} (Files.close x h a c) = rw a (close_reads x h c)
 
 -- ---- the tokens of statements
 
--- the text isn't over at a token that belongs to a statement
+-- the text doesn't end at a token of a statement
 begin_not_over : (d : Draft) (x : Lexeme) (t : Step) → statement_step (place_of d) states.Begin x ≡ Ok t
     → is_over d states.Begin x ≡ false
 unfolding statement_step
@@ -688,7 +688,7 @@ says_read xs (Files.another {xs = front} {ys = ys} {all = all} {c = c} {d = d} s
 pub whole_is_over : (d : Draft) (x : Lexeme) → IsWhole d → x.means ≡ the_end → is_over d states.Begin x ≡ true
 whole_is_over d x w h = rw (h, in_file d w) refl
 
--- a whole text is read, whatever stands behind its end
+-- a complete text is read, whatever follows its end
 pub forms_read : {front : List Lexeme} {file : File} (rest : List Lexeme) → Forms front file
     → reading false (front ++ rest) ≡ read file
 forms_read rest (Files.whole x {xs = front} {all = all} {d = d} s w h e) =

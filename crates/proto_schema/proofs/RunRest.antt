@@ -1,4 +1,4 @@
--- A text that is read to its end is its statements, and says what they say.
+-- A text that is read to its end consists of its statements, and declares what they declare.
 use Rattle.std.proofs.Common.{subst, ◌≡◌, ◌⊎◌, inl, inr, ℕ, Bool, true, false, List, [], ◌∷◌, ◌++◌, codes, refl, ap, sym, ◌∙◌}
 use Rattle.std.specs.Prelude.{Ok, Err, Result, if◌then◌else◌, ◌&&◌}
 use Rattle.std.specs.Str.{bytes_eq}
@@ -29,13 +29,13 @@ use Rattle.proto_schema.specs.declared.statement.Step.TheVariants as steps
 
 -- ---- statements up to the end of the text
 
--- from a draft on, the first statement in front; what stands behind the end isn't asked for
+-- from a draft on: statements, and the end; what follows the end is ignored
 pub data Rests : Draft → List Lexeme → File → Type 0 where
   over : (d : Draft) (x : Lexeme) (rest : List Lexeme) → IsWhole d → x.means ≡ the_end → Rests d (x ∷ rest) d.file
   another : (d e : Draft) (ys zs all : List Lexeme) (file : File) → Statement d ys e → Rests e zs file → all ≡ ys ++ zs
       → Rests d all file
 
--- from within a statement on
+-- from inside a statement on
 pub data Within (s : State) (d : Draft) (all : List Lexeme) (file : File) : Type 0 where
   in_statement : (v : Said) (ys : List Lexeme) {zs : List Lexeme} → Rest s ys v → Rests (added d v) zs file
       → all ≡ ys ++ zs → Within s d all file
@@ -111,7 +111,7 @@ not_deep d (said.Value w) = refl
 not_deep d (said.Rpc r b) = refl
 not_deep d said.Close = refl
 
--- what comes of the tokens behind is what the text reads as
+-- if the remaining tokens read as a file, they complete the text
 abbrev Goes : List Lexeme → File → Type 0
 Goes xs file = (d : Draft) (s : State) → run false d s xs ≡ read file → Reached s d xs file
 
@@ -215,9 +215,9 @@ pub run_reads : (xs : List Lexeme) (file : File) → Goes xs file
 run_reads [] file d s h = absurd (nothing_read d s file h)
 run_reads (x ∷ xs) file d s h = step_goes d s x xs file (run_reads xs file) h
 
--- ---- statements behind others
+-- ---- statements after others
 
--- a whole text, with something behind its end or not
+-- a complete text, with or without tokens after its end
 pub data Begun (all : List Lexeme) (file : File) : Type 0 where
   begun : {front : List Lexeme} (rest : List Lexeme) → Forms front file → all ≡ front ++ rest → Begun all file
 

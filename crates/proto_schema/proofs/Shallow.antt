@@ -1,5 +1,5 @@
--- The limit on messages in one another changes nothing where no `{` opens the 33rd. So what a text reads as is what is
--- read of it.
+-- The limit on nested messages has no effect unless `{` opens the 33rd. So a text reads as a file exactly if the file
+-- is read from it.
 use Rattle.std.proofs.Common.{subst, ◌≡◌, ℕ, zero, suc, ◌+◌, ◌<◌, ◌≤◌, nat_le, length, take, Bool, true, false, List}
 use Rattle.std.proofs.Common.{[], ◌∷◌, ◌++◌, codes, refl, ap, sym, ◌∙◌, arith, length-append}
 use Rattle.std.specs.Prelude.{Ok, Err, Result, Some, if◌then◌else◌}
@@ -95,9 +95,9 @@ shallow_flat limited d (said.Value v) h = refl
 shallow_flat limited d (said.Rpc r block) h = refl
 shallow_flat limited d said.Close h = refl
 
--- ---- at most 32 are open, or a brace has the fault's name
+-- ---- at most 32 are open, or a brace has the reason `Nesting`
 
--- a brace before this place has the fault's name, and the reading says so
+-- a brace before this index has the reason `Nesting`, and reading reports it
 pub data Deep (ts : List Lexeme) (n : ℕ) : Type 0 where
   deep : (k : ℕ) (z : Lexeme) → IsNamed ts k Nesting → k < n → slice_get ts k ≡ Some z
       → reading true ts ≡ failed (fault_at reasons.Nesting z.span) → Deep ts n
@@ -129,12 +129,12 @@ nothing_is : (us : List Lexeme) (z : Lexeme) → [] ≡ us ++ z ∷ [] → ⊥
 nothing_is [] z e = let t : ◌≡◌ {A = List Lexeme} [] (z ∷ []) = e in cc
 nothing_is (u ∷ us) z e = let t : ◌≡◌ {A = List Lexeme} [] (u ∷ us ++ z ∷ []) = e in cc
 
--- a statement takes a token
+-- a statement has at least one token
 takes_some : (p : Place) {s : State} {ys : List Lexeme} {v : Said} → StepTakes p s ys v → ys ≡ [] → ⊥
 takes_some p (last x h) e = let t : ◌≡◌ {A = List Lexeme} (x ∷ []) [] = e in cc
 takes_some p (next x {ys = ys} h w) e = let t : ◌≡◌ {A = List Lexeme} (x ∷ ys) [] = e in cc
 
--- a statement that is too deep is at a fault at its last token
+-- a statement that is too deep gives a fault at its last token
 deep_run : (d : Draft) {s : State} {ys : List Lexeme} {v : Said} (xs us : List Lexeme) (z : Lexeme)
     → StepTakes (place_of d) s ys v → is_too_deep true d v ≡ true → ys ≡ us ++ z ∷ []
     → run true d s (ys ++ xs) ≡ failed (fault_at reasons.Nesting z.span)
@@ -195,7 +195,7 @@ says_well_or rest (Files.another {xs = front} {ys = ys} {all = all} {c = c} {d =
     by (says_well r l) = one_statement front ys rest c d (Files.another s k refl) r l (statement_is_read k)
     by (says_deep h) = says_deep (deep_before (sym (append_assoc front ys rest)) (let u : length (front ++ ys) ≡ length front + length ys = length-append front ys in omega arith) h)
 
--- a whole text with no such brace is read
+-- a complete text without such a brace is read
 pub forms_well : {all : List Lexeme} {file : File} → Forms all file → ((k : ℕ) → IsNamed all k Nesting → ⊥)
     → reading true all ≡ read file
 forms_well (Files.whole x {xs = front} {all = all} {d = d} s w h e) no_deep = by (says_well_or (x ∷ []) s)
@@ -204,7 +204,7 @@ forms_well (Files.whole x {xs = front} {all = all} {d = d} s w h e) no_deep = by
     by (says_well r l) = ap (reading true) e ∙ (r ∙ run_over true d states.Begin x [] (whole_is_over d x w h))
     by (says_deep (deep k z n l g f)) = absurd (no_deep k (subst (λ (l : List Lexeme). IsNamed l k Nesting) (sym e) n))
 
--- ---- where a text is read, no brace opens the 33rd
+-- ---- if a text is read, no brace opens the 33rd message
 
 pub says_within : {front : List Lexeme} {d : Draft} (rest : List Lexeme) (file : File) → Says front d
     → reading true (front ++ rest) ≡ read file
@@ -227,7 +227,7 @@ read_not_deep ts file k r (nesting x d g m s i l) =
     let n : length d.messages ≤ MAX_OPEN = w.1 in
     omega (arith, l)
 
--- ---- what comes with the limit comes without it, but for faults
+-- ---- a result with the limit is also one without it, except for faults
 
 abbrev pub NoFault : Outcome → Type 0
 NoFault o = (e : ProtoFault) → failed e ≡ o → ⊥
@@ -345,7 +345,7 @@ nothing_behind text place ts (y ∷ front) rest x (further_token t us e n l o) m
     let b : ◌≡◌ {A = List Lexeme} (lexemes text us) (front ++ x ∷ rest) = cc in
     nothing_behind text t.end us front rest x o m b
 
--- what is read of a text's tokens is a whole text, to its last token
+-- if a text's tokens read as a file, they are a complete text, to the last token
 pub forms_exactly : (text : List ℕ) (ts : List Token) (file : File) → AreTokens text 0 ts
     → reading false (lexemes text ts) ≡ read file → Forms (lexemes text ts) file
 forms_exactly text ts file a r = by (reading_reads (lexemes text ts) file r)
@@ -374,7 +374,7 @@ text_of text ts file a r = record {
 pub read_of : (text : List ℕ) (file : File) (h : IsTextOf text file) → reading true (lexemes text h.tokens) ≡ read file
 read_of text file h = forms_well h.reads h.shallow
 
--- a text reads as one file
+-- a text reads as at most one file
 pub one_reading : (text : List ℕ) (f g : File)
     → ((place : ℕ) (ts us : List Token) → AreTokens text place ts → AreTokens text place us → ts ≡ us)
     → IsTextOf text f → IsTextOf text g → f ≡ g

@@ -1,4 +1,4 @@
--- A small file and what it says, a small text with a fault, and files that are in no order.
+-- A small file and its declarations, a small text with a fault, and files that aren't in order.
 use Rattle.std.proofs.Common.{ℕ, ◌<◌, false, List, [], ◌∷◌, ◌++◌, codes, refl, arith}
 use Rattle.std.specs.Prelude.{Option, Some, None}
 use Rattle.mrpc_table.specs.declared.words.Decimal.TheVariants.{Small}
@@ -85,14 +85,14 @@ small_import =
     Faults.import 4 (at 4 (identifier (codes "import"))) (at 5 (identifier (codes "x"))) nothing_said refl (Files.start (Files.proto3 _ _ _ _ refl refl refl refl))
     (refl, refl) refl refl refl refl refl
 
--- where the parts of its field stand
+-- the spans of the parts of its field
 small_type : StandsAt small_says (here 7) (field_decl 0 0) its_type
 small_type = Order.field 0 0 _ _ refl refl (Order.field_type _ refl refl)
 
 small_number : StandsAt small_says (here 10) (field_decl 0 0) its_number
 small_number = Order.field 0 0 _ _ refl refl (Order.field_number refl)
 
--- no file has a message that stands before an earlier one
+-- in no file a message comes before an earlier one
 abbrev message_at : ℕ → MessageDecl
 message_at n = record { name = word_at (codes "M") (here n); file = 0; parent = None; fields = []; oneofs = []; ranges = []; names = [] }
 
@@ -105,7 +105,7 @@ small_disorder h =
     (Order.messages 0 1 (omega arith)) (Order.message 0 _ refl refl) (Order.message 1 _ refl refl) in
     omega arith
 
--- no field is one of a oneof that its message hasn't
+-- no field is in a oneof that its message doesn't have
 abbrev member : FieldDecl
 member = record {
   name = word_at (codes "a") (here 8);
@@ -121,7 +121,7 @@ small_stray h = let l : 0 < 0 = ((h.messages 0 (message_at 0) (omega arith)).fie
 
 -- ---- files that are resolved together
 
--- where the parts of the small file's field stand, and which file they are of, where it is resolved alone
+-- the spans of the parts of the small file's field, and their file, if it is resolved alone
 small_name_alone : Together.StandsAt (alone small_says) (here 8) (Together.field_decl 0 0) its_name
 small_name_alone = Together.field 0 0 _ _ refl refl (Order.field_name refl)
 
@@ -135,7 +135,7 @@ message_of file n = record (message_at n) { file = file }
 small_other : Together.IsFormed (alone (of_messages (message_of 1 5 ∷ []))) → ⊥
 small_other h = let l : 1 < 1 = h.message_files 0 (message_at 0) (omega arith) in omega arith
 
--- no two files have a message of the later one before one of the earlier, nor the later one's package
+-- in no two files a message or the package of the later one comes before a message of the earlier one
 abbrev head : Option Word → Head
 head w = record { «package» = w; sees = 0 ∷ 1 ∷ [] }
 

@@ -1,5 +1,5 @@
--- What is read of a statement, as far as the reason of a fault asks for it; and what the reason says where a token
--- can't go on.
+-- The tokens read of a statement, as far as the reason of a fault depends on them; and what the reason means if a
+-- token can't continue it.
 use Rattle.std.proofs.Common.{subst, ◌≡◌, ℕ, ◌==◌, Bool, true, false, List, [], ◌∷◌, ◌++◌, codes, refl, ap, sym, ◌∙◌}
 use Rattle.std.specs.Prelude.{Ok, Err, Result, Option, Some, None, is_some, if◌then◌else◌, not, ◌&&◌, ◌||◌}
 use Rattle.std.specs.Str.{bytes_eq}
@@ -84,7 +84,7 @@ use Rattle.proto_schema.proofs.SoFarWords.{map_unlike, map_group, MapOn, map_on}
 
 -- ---- fields
 
--- what stands before a field's type
+-- the tokens before a field's type
 pub data LabelSoFar (d : Draft) (ls : List Lexeme) : Type 0 where
   in_message : {label : FieldLabel} {words : List (List ℕ)} → InMessage d → LabelOf ls label words → LabelSoFar d ls
   in_oneof : (i : ℕ) (filled : Bool) → d.block ≡ a_oneof i filled → ls ≡ [] → LabelSoFar d ls
@@ -229,7 +229,7 @@ pub data NamedSoFar (d : Draft) (all : List Lexeme) : Type 0 where
   named_so_far : (a b : Lexeme) (name : List ℕ) → d.block ≡ a_service → IsWord a (codes "rpc") → IsWord b name
       → all ≡ a ∷ b ∷ [] → NamedSoFar d all
 
--- what completes the type is the type of an rpc with what is read of it
+-- what completes the type makes, with the tokens read so far, the type of an rpc
 abbrev pub RpcTypeSoFar : NameState → List Lexeme → Type 0
 RpcTypeSoFar s ns = (zs : List Lexeme) (w : Word) → RpcTypeRest s zs w → RpcType (ns ++ zs) w
 
@@ -266,7 +266,7 @@ RpcOn d ys x (Ok (rpc_steps.More t)) = RpcSoFar d t (ys ++ x ∷ [])
 RpcOn d ys x (Ok (rpc_steps.Done r block)) = Unit {0}
 RpcOn d ys x (Err e) = Fault d ys x e
 
--- what a fault in a type says, where the type stands behind these tokens
+-- what a fault in a type means, if these tokens precede the type
 type_fault : {d : Draft} {ps ns ys : List Lexeme} {x : Lexeme} {e : ProtoFault} → BeforeRpcType d ps → ys ≡ ps ++ ns
     → RpcNameFault ns x e → Fault d ys x e
 type_fault b a type_unlike = unlike
@@ -298,7 +298,7 @@ output_on d name input s ys x (output_so_far {ps = ps} ns b o a) = by (rpc_type_
     by (Ok (name_steps.Whole w)) p = tt
     by (Err e) p = type_fault b a p
 
--- one token more behind others
+-- one token more after others
 one_more : (a b c : Lexeme) (is : List Lexeme) (l ys : List Lexeme) (x : Lexeme) → ys ≡ a ∷ b ∷ c ∷ is ++ l
     → ys ++ x ∷ [] ≡ a ∷ b ∷ c ∷ is ++ (l ++ x ∷ [])
 one_more a b c is l ys x q = ap (λ (l : List Lexeme). l ++ x ∷ []) q ∙ append_assoc (a ∷ b ∷ c ∷ is) l (x ∷ [])

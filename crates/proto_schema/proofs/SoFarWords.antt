@@ -1,4 +1,4 @@
--- What is read of a statement's names, options and types, as far as the reason of a fault asks for it.
+-- The tokens read of a statement's names, options and types, as far as the reason of a fault depends on them.
 use Rattle.std.proofs.Common.{subst, ◌≡◌, ℕ, ◌+◌, ◌-◌, ◌==◌, nat_le, Bool, true, false, List, [], ◌∷◌, ◌++◌, codes, refl, ap, sym, ◌∙◌}
 use Rattle.std.specs.Prelude.{Ok, Err, Result, Option, Some, None, if◌then◌else◌, ◌&&◌, ◌||◌}
 use Rattle.std.specs.Str.{bytes_eq}
@@ -58,9 +58,9 @@ use Rattle.proto_parts.specs.declared.reserved.RangeState.{RangeState}
 use Rattle.proto_parts.specs.declared.reserved.RangeState.TheVariants as ranges
 use Rattle.proto_parts.specs.declared.reserved.ReservedStep.TheVariants as reserved_steps
 
--- ---- what a fault says
+-- ---- what a fault means
 
--- what a token's fault says behind these tokens of a statement
+-- what a token's fault means after these tokens of a statement
 pub data Fault (d : Draft) (ys : List Lexeme) (x : Lexeme) : ProtoFault → Type 0 where
   unlike : Fault d ys x (unexpected x)
   extends : ys ≡ [] → InBody d → says_one_of x (codes "extend" ∷ codes "extensions" ∷ []) ≡ true
@@ -71,7 +71,7 @@ pub data Fault (d : Draft) (ys : List Lexeme) (x : Lexeme) : ProtoFault → Type
   streams : (zs : List Lexeme) (z : Lexeme) → ys ≡ zs ++ z ∷ [] → BeforeRpcType d zs → IsWord z (codes "stream")
       → is_type_part x.means ≡ true → Fault d ys x (fault_at reasons.Stream z.span)
 
--- ---- parts in which each other token is unlike
+-- ---- parts in which any other token is unexpected
 
 abbrev pub Quiet : {X : Type 0} → Lexeme → Result X ProtoFault → Type 0
 Quiet x (Ok y) = Unit {0}
@@ -249,7 +249,7 @@ part_quiet signed (parts.NextName ws) x = name_quiet signed ws x
 
 -- ---- names
 
--- where a name is this word, it is one token
+-- a name that is this word is one token
 abbrev pub OnlyWord : List ℕ → NameState → List Lexeme → Type 0
 OnlyWord w names.Start ns = ns ≡ []
 OnlyWord w (names.Rooted s) ns = Unit {0}
@@ -282,7 +282,7 @@ only_on w k (names.Part v) ns x o = either_is (OnlyOn w ns x) (is_mark x.means d
 only_on w k (names.Dot v) ns x o =
     named_is (OnlyOn w ns x) x (λ n. part (v.name ++ dot ∷ n) (span_to v.span x.span)) (λ n h b. absurd (dotted_differs v.name n w k b)) name_unlike
 
--- what completes the name is a type's name with what is read of it
+-- what completes the name makes, with the tokens read so far, a type's name
 abbrev pub TypedSoFar : NameState → List Lexeme → Type 0
 TypedSoFar s ns = (zs : List Lexeme) (w : Word) → TypedRest s zs w → (TypeName (ns ++ zs) w) × (begins_with group_word (ns ++ zs) ≡ false)
 
@@ -305,7 +305,7 @@ pub data KeySoFar (s : NameState) (all : List Lexeme) : Type 0 where
   key_so_far : (m l : Lexeme) (ns : List Lexeme) → IsWord m (codes "map") → IsMark l less → OnlyWord (codes "map") s ns
       → TypedSoFar s ns → all ≡ m ∷ l ∷ ns → KeySoFar s all
 
--- keys of maps in one another
+-- keys of nested maps
 pub data Keys : List Lexeme → Type 0 where
   one_key : {ks : List Lexeme} {w : Word} → MapKey ks w → Keys ks
   more_keys : {ks js all : List Lexeme} {w : Word} → Keys ks → MapKey js w → all ≡ ks ++ js → Keys all
@@ -395,14 +395,14 @@ of_inner_key_on k0 d ks js ms x q a r k = by r k
     by (Ok (name_steps.Whole w)) k = value_so_far [] (more_keys q k longer) refl (sym (append-nil (ms ++ x ∷ [])))
     by (Err e) k = fault k
 
--- what stands where a map's value begins
+-- the start of a map's value
 value_fault : (ks ns ms : List Lexeme) (x : Lexeme) → Keys ks → ms ≡ ks ++ ns → {e : ProtoFault} → NameFault ns x e
     → MapFault ms x e
 value_fault ks ns ms x q a name_unlike = map_unlike
 value_fault ks ns ms x q a (name_group n h) =
     map_group (subst (λ (l : List Lexeme). BeforeMapPart l) (sym (a ∙ (ap (λ (l : List Lexeme). ks ++ l) n ∙ append-nil ks))) (keys_value q)) h
 
--- `map` and `<` begin a map in the map
+-- `map` and `<` start a map inside the map
 deeper : (s : NameState) (w : Word) (ks ns ms : List Lexeme) (x : Lexeme) → Keys ks → OnlyWord (codes "map") s ns
     → ms ≡ ks ++ ns → s ≡ names.Part w → begins_map w x ≡ true → InnerKeySoFar names.Start (ms ++ x ∷ [])
 deeper s w ks ns ms x q o a e b = by (subst (λ (t : NameState). OnlyWord (codes "map") t ns) e o both.1)

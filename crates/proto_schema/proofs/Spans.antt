@@ -20,7 +20,7 @@ pub record IsWithin (b e start : ℕ) : Type 0 where
 pub widen : (a b c d n : ℕ) → a ≤ b → c ≤ d → IsWithin b c n → IsWithin a d n
 widen a b c d n l m w = record { behind = omega arith; before = omega arith }
 
--- a token that stands first
+-- the first token
 pub first_within : (b : ℕ) (x : Lexeme) (xs : List Lexeme) (e : ℕ) → Along b (x ∷ xs) e → IsWithin b e x.span.start
 first_within b x xs e (l, s, h) =
     let k : suc x.span.start ≤ e = along_ends (suc x.span.start) xs e h in record { behind = l; before = omega arith }
@@ -114,7 +114,7 @@ pub record EndWithin (b e : ℕ) (w : Word) (n : Number) : Type 0 where
   pub number : IsWithin b e n.span.start
   pub ordered : w.span.start < n.span.start
 
--- a name, a token, and a number with others behind it
+-- a name, a token, and a number with others after it
 pub numbered_along : (b e : ℕ) (x y : Lexeme) (name : List ℕ) {signed : Bool} {ns : List Lexeme} {n : Number}
     (os zs : List Lexeme) → IsWord x name → NumberOf signed ns n → Along b (x ∷ y ∷ ns ++ os ++ zs) e
     → EndWithin b e (word_at name x.span) n

@@ -1,4 +1,4 @@
--- What completes a statement behind its first token, and what its first token begins.
+-- The tokens that complete a statement after its first token, and the part that its first token starts.
 use Rattle.std.proofs.Common.{◌≡◌, inl, inr, ℕ, Bool, true, false, List, [], ◌∷◌, ◌++◌, codes, refl, ap, sym, ◌∙◌}
 use Rattle.std.specs.Prelude.{Ok, Err, Result, Option, if◌then◌else◌, not, ◌&&◌, ◌||◌}
 use Rattle.proto_parts.specs.Lexemes.{Meaning, identifier, integer, number, string, mark, the_end, none, Lexeme, semicolon, opening_brace, word_at, IsWord, IsMark, says}
@@ -47,7 +47,7 @@ use Rattle.proto_schema.specs.declared.statement.Said.TheVariants as said
 use Rattle.proto_schema.specs.declared.statement.Step.{Step}
 use Rattle.proto_schema.specs.declared.statement.Step.TheVariants as steps
 
--- ---- what completes a statement
+-- ---- the completion of a statement
 
 pub data PackageRest (s : NameState) (all : List Lexeme) (v : Said) : Type 0 where
   package_rest : (z : Lexeme) (ys : List Lexeme) (w : Word) → FullRest s ys w → IsMark z semicolon → all ≡ ys ++ z ∷ []

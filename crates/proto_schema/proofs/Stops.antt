@@ -1,4 +1,4 @@
--- At the end of the text, and where no token stands, no statement goes on or ends.
+-- At the end of the text, and where no token starts, no statement continues or ends.
 use Rattle.std.proofs.Common.{◌≡◌, ℕ, Bool, true, false, List, [], codes, refl}
 use Rattle.std.specs.Prelude.{Ok, Err, Result, Option, Some, None, ◌&&◌}
 use Rattle.std.specs.Str.{bytes_eq}
@@ -54,7 +54,7 @@ use Rattle.proto_schema.specs.declared.statement.State.{State}
 use Rattle.proto_schema.specs.declared.statement.State.TheVariants as states
 use Rattle.proto_schema.specs.declared.statement.Step.{Step}
 
--- ---- at a token that is none, and at the end, nothing goes on
+-- ---- nothing continues where no token starts, or at the end
 
 abbrev Stops : {X : Type 0} → Result X ProtoFault → Type 0
 Stops (Ok x) = ⊥
@@ -481,7 +481,7 @@ last_means kinds.Number literal h = absurd (let t : false ≡ true = h in cc)
 last_means kinds.Text literal h = absurd (let t : false ≡ true = h in cc)
 last_means (kinds.Mark c) literal h = absurd (let t : false ≡ true = h in cc)
 
--- a statement takes no last token
+-- a statement doesn't contain the last token of a text
 pub takes_no_last : (text : List ℕ) (t : Token) (place : Place) (s : State) (r : Step)
     → statement_step place s (lexeme text t) ≡ Ok r → is_last t.kind ≡ false
 takes_no_last text t place s r e = by (is_last t.kind) refl

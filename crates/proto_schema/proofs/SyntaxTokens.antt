@@ -1,4 +1,4 @@
--- What comes of the tokens of the syntax statement, one after another.
+-- The results of the tokens of the syntax statement, one after another.
 use Rattle.std.proofs.Common.{◌≡◌, ℕ, Bool, true, false, List, [], ◌∷◌, codes, refl, ap, sym, ◌∙◌}
 use Rattle.std.specs.Prelude.{if◌then◌else◌}
 use Rattle.std.specs.Str.{bytes_eq}
@@ -24,7 +24,7 @@ pub first_list : (text : List ℕ) (t : Token) (ts : List Token) → AreTokensFr
 first_list text t ts (alone q il) h = absurd (let c : true ≡ false = sym il ∙ word_not_last text t (codes "syntax") h in cc)
 first_list text t ts (with_others others q n more) h = (others, more, rw q (rw h refl))
 
--- another first token, with others or alone
+-- another first token, followed by others or not
 other_first : (w : Lexeme) (zs : List Lexeme) (b : Bool) → says w.means (codes "syntax") ≡ false → is_no_token w.means ≡ b
     → reading true (w ∷ zs) ≡ (if b then failed (unexpected w) else failed (fault_at reasons.Syntax2 w.span))
 other_first w zs b h e = rw (h, e) refl
@@ -55,7 +55,7 @@ no_string text w t ts (alone q il) n =
 no_string text w t ts (with_others others q l more) n =
     ap (λ (us : List Token). behind_equals true w (lexemes text us)) q ∙ other_value w (lexeme text t) (lexemes text others) t.kind (literal_of text t) n
 
--- what comes behind a string, by what it stands for
+-- the result after a string, by its value
 the_value : (w y : Lexeme) (zs : List Lexeme) (k : Kind) (literal : List ℕ) (b : Bool) → k ≡ kinds.Text
     → bytes_eq (string_value literal) (codes "proto3") ≡ b
     → behind_value true w y zs (meaning k literal) ≡ (if b then behind_syntax true zs else failed (fault_at reasons.Syntax2 w.span))
@@ -89,9 +89,9 @@ semicolon_list : (text : List ℕ) (t : Token) (ts : List Token) → AreTokensFr
 semicolon_list text t ts (alone q il) h = absurd (let c : true ≡ false = sym il ∙ mark_not_last text t semicolon h in cc)
 semicolon_list text t ts (with_others others q n more) h = (others, more, rw q (rw h refl))
 
--- ---- behind the first token: `=`, a string and `;`
+-- ---- after the first token: `=`, a string and `;`
 
--- the tokens behind one, of which this is the first
+-- this token is the first one after another
 abbrev pub Next : List ℕ → Token → Token → Type 0
 Next text t u = (us : List Token) → AreTokens text t.end us → AreTokensFrom text u us
 

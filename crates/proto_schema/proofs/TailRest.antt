@@ -1,4 +1,4 @@
--- What completes what stands behind a number: options in brackets and `;`.
+-- The tokens that complete a field or value after its number: options in brackets and `;`.
 use Rattle.std.proofs.Common.{subst, ◌≡◌, Bool, List, [], ◌∷◌, ◌++◌, refl, ap, sym, ◌∙◌}
 use Rattle.std.specs.Prelude.{Ok, Err, Result, Option, Some, None, if◌then◌else◌}
 use Rattle.std.proofs.lemmas.List.{append_assoc}
@@ -20,7 +20,7 @@ use Rattle.proto_parts.specs.declared.tail.TailStep.TheVariants as steps
 pub option_of : (ys : List Lexeme) (b : Option Bool) → OptionRest next_option ys b → OptionOf ys b
 option_of ys b (from_name x n q v e s) = option x n q v e (sym s)
 
--- behind an option, with what was said of `packed` so far
+-- after an option, given the value of `packed` so far
 pub data BehindOption (p : Option Bool) (all : List Lexeme) (b : Option Bool) : Type 0 where
   closed : (x z : Lexeme) → IsMark x closing_bracket → IsMark z semicolon → all ≡ x ∷ z ∷ [] → p ≡ b
       → BehindOption p all b

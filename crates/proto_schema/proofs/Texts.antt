@@ -1,4 +1,4 @@
--- What reading answers of a text, in the words of the grammar.
+-- What reading returns for a text, in terms of the grammar.
 use Rattle.std.proofs.Common.{subst, ◌≡◌, ℕ, true, List, refl, sym, ◌∙◌}
 use Rattle.std.specs.Prelude.{Ok, Err, Result, IfOk, IfErr, MatchResult}
 use Rattle.proto_tokens.specs.Tokens.{AreTokens}
@@ -15,7 +15,7 @@ use Rattle.proto_file.specs.declared.file.File.{File}
 use Rattle.proto_parts.specs.declared.fault.ProtoFault.{ProtoFault}
 use Rattle.proto_parts.specs.declared.fault.ProtoFault.TheVariants as fault
 
--- what comes of the tokens of a text
+-- the result of the tokens of a text
 abbrev pub ComesOf : List ℕ → Result File ProtoFault → Type 0
 ComesOf text r = (ts : List Token) → AreTokens text 0 ts → Comes r (reading true (lexemes text ts))
 

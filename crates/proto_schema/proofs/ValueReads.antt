@@ -195,7 +195,7 @@ in_ranges signed rs (ranges.First n) t x h = by (is_mark x.means comma) (is_mark
     by false true e f = absurd (clash semicolon f)
     by false false e f = rw (e, f) (ap (of_range signed rs) h)
 
--- a whole range, and a comma or a semicolon behind it
+-- a complete range, followed by a comma or a semicolon
 
 range_comma : (signed : Bool) (rs : List Range) (s : RangeState) (r : Range) (x : Lexeme) → whole_range s ≡ Some r
     → IsMark x comma → ReservedGoes (kept (parts.Ranges rs s) signed) x
@@ -225,7 +225,7 @@ ranges_take signed rs z (more_ranges x {ys = ys} {zs = zs} {r = r} {rs = qs} o c
     (subst (λ (l : List Range). ReservedTakes (kept (parts.Ranges rs ranges.Start) signed)
     (ys ++ x ∷ (zs ++ z ∷ [])) (inl l)) (append_assoc rs (r ∷ []) qs) t)
 
--- nothing is read yet: what a range begins with is no string
+-- nothing is read yet: a range doesn't start with a string
 start_same : (signed : Bool) (x : Lexeme) (r : ReservedStep)
     → reserved_step (kept (parts.Ranges [] ranges.Start) signed) x ≡ Ok r
     → reserved_step (kept parts.Start signed) x ≡ Ok r

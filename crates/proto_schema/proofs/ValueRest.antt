@@ -1,4 +1,4 @@
--- What completes a value of an enum, by how far it is read.
+-- The tokens that complete a value of an enum, by how much of it is read.
 use Rattle.std.proofs.Common.{◌≡◌, Bool, true, false, List, [], ◌∷◌, ◌++◌, refl, ap}
 use Rattle.std.specs.Prelude.{Ok, Err, Result, Option}
 use Rattle.mrpc_table.specs.declared.words.Decimal.{Decimal}

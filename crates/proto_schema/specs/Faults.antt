@@ -1,4 +1,4 @@
--- Which token of a text that is no proto file is at fault first, and why (this project's own).
+-- Which token of a text that is not a proto file is at fault first, and why (this project's own).
 use Rattle.std.specs.Prelude.{◌≡◌, ◌≢◌, ℕ, ◌+◌, ◌<◌, ◌≤◌, Bool, true, false, List, [], ◌∷◌, ◌++◌, codes}
 use Rattle.std.specs.Prelude.{length, take, Some, slice_get}
 use Rattle.proto_tokens.specs.Tokens.{AreTokens}
@@ -21,29 +21,29 @@ use Rattle.proto_parts.specs.declared.fault.ProtoFault.TheVariants as fault
 
 -- ---- where a text breaks off
 
--- with some tokens behind them, these are a whole text
+-- these tokens can be continued to a complete text
 abbrev pub CanGoOn : List Lexeme → Type 0
 CanGoOn xs = (ys : List Lexeme) × (file : File) × Forms (xs ++ ys) file
 
--- the tokens before this one can go on, and with it they can't
+-- the tokens before this one can be continued, and with it they can't
 pub record BreaksAt (ts : List Lexeme) (k : ℕ) (x : Lexeme) : Type 0 where
   pub here : slice_get ts k ≡ Some x
   pub before : CanGoOn (take k ts)
   pub behind : CanGoOn (take (k + 1) ts) → ⊥
 
--- a statement begins at a place, behind statements that say this
+-- a statement starts at an index, after statements that declare this
 abbrev pub Begins : List Lexeme → ℕ → Draft → Type 0
 Begins ts k d = Says (take k ts) d
 
 -- ---- what a break means
 
--- it may stand behind `import`, as far as the reason is asked
+-- may follow `import`, for the reason `Import`
 abbrev pub is_path : Meaning → Bool
 is_path (string path) = true
 is_path the_end = true
 is_path m = says m (codes "public")
 
--- from the beginning of a statement up to an rpc's type
+-- from the start of a statement up to the type of an rpc
 pub data BeforeRpcType (d : Draft) (all : List Lexeme) : Type 0 where
   input : (a b c : Lexeme) (name : List ℕ) → d.block ≡ a_service → IsWord a (codes "rpc") → IsWord b name
       → IsMark c opening_paren → all ≡ a ∷ b ∷ c ∷ [] → BeforeRpcType d all
@@ -58,7 +58,7 @@ pub data BeforeMapPart : List Lexeme → Type 0 where
   value : {ks : List Lexeme} {w : Word} → MapKey ks w → BeforeMapPart ks
   inner : {ks ys all : List Lexeme} {w : Word} → MapKey ks w → BeforeMapPart ys → all ≡ ks ++ ys → BeforeMapPart all
 
--- from the beginning of a statement up to a place where a type's name begins
+-- from the start of a statement up to a point where the name of a type starts
 pub data BeforeType (d : Draft) (all : List Lexeme) : Type 0 where
   of_rpc : BeforeRpcType d all → BeforeType d all
   of_field : {label : FieldLabel} {words : List (List ℕ)} → InMessage d → LabelOf all label words → BeforeType d all
@@ -67,22 +67,22 @@ pub data BeforeType (d : Draft) (all : List Lexeme) : Type 0 where
   of_member : (i : ℕ) (filled : Bool) → d.block ≡ a_oneof i filled → all ≡ [] → BeforeType d all
   of_member_map : (i : ℕ) (filled : Bool) → d.block ≡ a_oneof i filled → BeforeMapPart all → BeforeType d all
 
--- the reasons that have a name of their own, at a token
+-- the reasons other than `Expected`, each at its token
 pub data IsNamed (ts : List Lexeme) (k : ℕ) : ProtoReason → Type 0 where
-  -- no token stands there
+  -- it is not a token
   no_token : (x : Lexeme) → BreaksAt ts k x → is_no_token x.means ≡ true → IsNamed ts k NoToken
-  -- behind `import`, where a statement of the file begins, stands neither a string nor `public`, nor the end of the
+  -- after `import`, where a statement of the file starts, comes neither a string nor `public`, nor the end of the
   -- text
   import : (j : ℕ) (x y : Lexeme) (d : Draft) → k ≡ j + 1 → Begins ts j d → InFile d → slice_get ts j ≡ Some x
       → IsWord x (codes "import") → slice_get ts k ≡ Some y → is_no_token y.means ≡ false → is_path y.means ≡ false
       → IsNamed ts k Import
-  -- `stream` stands where an rpc's type begins, and a name or a dot behind it
+  -- `stream` starts the type of an rpc, and a name or a dot follows
   stream : (xs ys zs : List Lexeme) (x y : Lexeme) (d : Draft) → ts ≡ xs ++ ys ++ x ∷ y ∷ zs → length (xs ++ ys) ≡ k
       → Says xs d → BeforeRpcType d ys → IsWord x (codes "stream") → is_type_part y.means ≡ true → IsNamed ts k Stream
-  -- `group` stands where a type's name begins
+  -- `group` starts the name of a type
   group : (xs ys zs : List Lexeme) (x : Lexeme) (d : Draft) → ts ≡ xs ++ ys ++ x ∷ zs → length (xs ++ ys) ≡ k
       → Says xs d → BeforeType d ys → IsWord x (codes "group") → IsNamed ts k Group
-  -- `extend` or `extensions` stands where a statement of the file or of a message begins
+  -- `extend` or `extensions` starts a statement of the file or of a message
   extend : (x : Lexeme) (d : Draft) → Begins ts k d → InBody d → slice_get ts k ≡ Some x
       → says_one_of x (codes "extend" ∷ codes "extensions" ∷ []) ≡ true → IsNamed ts k Extend
   -- the first token isn't `syntax`
@@ -92,11 +92,11 @@ pub data IsNamed (ts : List Lexeme) (k : ℕ) : ProtoReason → Type 0 where
   other_syntax : (x y z : Lexeme) (us : List Lexeme) (value : List ℕ) → k ≡ 0 → ts ≡ x ∷ y ∷ z ∷ us
       → IsWord x (codes "syntax") → IsMark y equals → z.means ≡ string value → value ≢ codes "proto3"
       → IsNamed ts k Syntax2
-  -- the brace opens a message in 32 others: no block of the innermost message is open behind it
+  -- the brace opens a message nested in 32 others; after it no block of the innermost message is open
   nesting : (x : Lexeme) (d : Draft) → slice_get ts k ≡ Some x → IsMark x opening_brace → Says (take (k + 1) ts) d
       → InMessage d → length d.messages ≡ MAX_OPEN + 1 → IsNamed ts k Nesting
 
--- a token is at fault for a reason: one with a name, or else that it can't stand there
+-- a token is at fault for a reason: a specific one, or else `Expected`
 pub data IsFault (ts : List Lexeme) (k : ℕ) : ProtoReason → Type 0 where
   named : {q : ProtoReason} → IsNamed ts k q → IsFault ts k q
   expected : (x : Lexeme) → BreaksAt ts k x → ((q : ProtoReason) (j : ℕ) → j ≤ k → IsNamed ts j q → ⊥)
@@ -109,14 +109,14 @@ pub record IsFirstFault (ts : List Lexeme) (k : ℕ) (q : ProtoReason) : Type 0 
 
 -- ---- texts
 
--- a text reads as a file: its tokens are those of a whole text, and no message lies in 32 others
+-- a text reads as a file: its tokens are those of a complete text, and no message is nested in 32 others
 pub record IsTextOf (text : List ℕ) (file : File) : Type 0 where
   pub tokens : List Token
   pub of_text : AreTokens text 0 tokens
   pub reads : Forms (lexemes text tokens) file
   pub shallow : (k : ℕ) → IsNamed (lexemes text tokens) k Nesting → ⊥
 
--- a text has its first fault here
+-- the first fault of a text is here
 pub record HasFault (text : List ℕ) (q : ProtoReason) (span : Span) : Type 0 where
   pub tokens : List Token
   pub of_text : AreTokens text 0 tokens
@@ -126,7 +126,7 @@ pub record HasFault (text : List ℕ) (q : ProtoReason) (span : Span) : Type 0 w
   pub is : slice_get (lexemes text tokens) place ≡ Some token
   pub stands : token.span ≡ span
 
--- what a fault says of a text; running out of memory says nothing
+-- what a fault means for a text; `Memory` means nothing
 abbrev pub IsFaultOf : List ℕ → ProtoFault → Type 0
 IsFaultOf text (fault.At q start end line) = HasFault text q (record { start = start; end = end; line = line })
 IsFaultOf text fault.Memory = Unit {0}

@@ -1,5 +1,5 @@
--- Statements, and what a text of statements says (Protocol Buffers, proto3 language specification; the profile is this
--- project's own). A text is its statements, one after another: one that ends in `{` opens a block, and `}` closes the
+-- Statements, and what a text of statements declares (Protocol Buffers, proto3 language specification; the profile is
+-- this project's own). A text is a list of statements. A statement that ends in `{` opens a block, and `}` closes the
 -- innermost open one.
 use Rattle.std.specs.Prelude.{◌≡◌, ◌≢◌, ℕ, zero, suc, ◌-◌, Bool, true, false, List, [], ◌∷◌, ◌++◌, codes, length}
 use Rattle.std.specs.Prelude.{Option, Some, None, slice_get}
@@ -20,13 +20,13 @@ use Rattle.proto_file.specs.declared.file.RpcDecl.{RpcDecl}
 use Rattle.proto_file.specs.declared.file.ServiceDecl.{ServiceDecl}
 use Rattle.proto_file.specs.declared.file.File.{File}
 
--- ---- what the statements so far say, and what is open
+-- ---- what is declared so far, and what is open
 
--- The block that is open in the innermost open message, or in the file where no message is open.
+-- The open block in the innermost open message, or in the file if no message is open.
 pub data Block : Type 0 where
-  -- There is none.
+  -- No block is open.
   no_block : Block
-  -- A oneof: its place among the oneofs of its message, and whether it has a field.
+  -- A oneof: its index among the oneofs of its message, and whether it has a field.
   a_oneof : (place : ℕ) (has_field : Bool) → Block
   -- An enum, the last one of the file, and whether it has a value.
   an_enum : (has_value : Bool) → Block
@@ -35,74 +35,74 @@ pub data Block : Type 0 where
   -- The options of an rpc, in a service.
   an_rpc : Block
 
--- What the statements so far say, and what is open behind them.
+-- What the statements so far declare, and what is open after them.
 pub record Draft : Type 0 where
-  -- What they declare; what is open has what was said of it so far.
+  -- The declarations; those of open messages and blocks as far as they were read.
   pub file : File
-  -- The messages that are open, by their places among those of the file: the innermost first.
+  -- The open messages, by their indices among those of the file: the innermost first.
   pub messages : List ℕ
-  -- The block that is open.
+  -- The open block.
   pub block : Block
 
--- A statement stands in the file itself: nothing is open.
+-- A statement is in the file itself: nothing is open.
 abbrev pub InFile : Draft → Type 0
 InFile draft = (draft.block ≡ no_block) × (draft.messages ≡ [])
 
--- A statement stands in a message: one is open, and no block in it.
+-- A statement is in a message: one is open, and no block in it.
 abbrev pub InMessage : Draft → Type 0
 InMessage draft = (draft.block ≡ no_block) × (draft.messages ≢ [])
 
--- A statement stands in the file or in a message.
+-- A statement is in the file or in a message.
 abbrev pub InBody : Draft → Type 0
 InBody draft = draft.block ≡ no_block
 
--- The place of the innermost open message, if one is open.
+-- The index of the innermost open message, if one is open.
 abbrev pub innermost_of : List ℕ → Option ℕ
 innermost_of [] = None
 innermost_of (place ∷ outer) = Some place
 
--- ---- a list in which one element is changed
+-- ---- a list with one element changed
 
--- The element at a place is changed. A list without an element there stays as it is.
+-- Changes the element at an index. A list without that element stays as it is.
 abbrev pub edit_at : {X : Type 0} → ℕ → (X → X) → List X → List X
 edit_at place change [] = []
 edit_at zero change (first ∷ others) = change first ∷ others
 edit_at (suc place) change (first ∷ others) = first ∷ edit_at place change others
 
--- The last element is changed.
+-- Changes the last element.
 abbrev pub edit_last : {X : Type 0} → (X → X) → List X → List X
 edit_last change list = edit_at (length list - 1) change list
 
--- The element that is open is changed, given its place. Where none is open, the list stays as it is.
+-- Changes the open element, given its index. If none is open, the list stays as it is.
 abbrev pub edit_open : {X : Type 0} → Option ℕ → (X → X) → List X → List X
 edit_open None change list = list
 edit_open (Some place) change list = edit_at place change list
 
 -- ---- what a statement adds
 
--- The draft with another file.
+-- Replaces the file of a draft.
 abbrev pub with_file : Draft → File → Draft
 with_file draft file = record { file = file; messages = draft.messages; block = draft.block }
 
--- The draft with another block.
+-- Replaces the block of a draft.
 abbrev pub with_block : Draft → Block → Draft
 with_block draft block = record { file = draft.file; messages = draft.messages; block = block }
 
--- The draft with a change in its innermost open message.
+-- Changes the innermost open message of a draft.
 abbrev pub in_message : Draft → (MessageDecl → MessageDecl) → Draft
 in_message draft change =
     with_file draft
     (record draft.file { messages = edit_open (innermost_of draft.messages) change draft.file.messages })
 
--- The draft with a change in the last enum of its file.
+-- Changes the last enum of a draft's file.
 abbrev pub in_enum : Draft → (EnumDecl → EnumDecl) → Draft
 in_enum draft change = with_file draft (record draft.file { enums = edit_last change draft.file.enums })
 
--- The draft with a change in the last service of its file.
+-- Changes the last service of a draft's file.
 abbrev pub in_service : Draft → (ServiceDecl → ServiceDecl) → Draft
 in_service draft change = with_file draft (record draft.file { services = edit_last change draft.file.services })
 
--- A message is added, without anything in it, and is the innermost open one.
+-- Adds an empty message, which becomes the innermost open one.
 abbrev pub open_message : Draft → Word → Draft
 open_message draft name = record {
   file = record draft.file {
@@ -120,7 +120,7 @@ open_message draft name = record {
   block = no_block;
 }
 
--- An enum is added, without a value, and is open.
+-- Adds an enum without values, and opens it.
 abbrev pub open_enum : Draft → Word → Draft
 open_enum draft name = record {
   file = record draft.file {
@@ -137,7 +137,7 @@ open_enum draft name = record {
   block = an_enum false;
 }
 
--- A service is added, without an rpc, and is open.
+-- Adds a service without rpcs, and opens it.
 abbrev pub open_service : Draft → Word → Draft
 open_service draft name = record {
   file = record draft.file { services = draft.file.services ++ record { name = name; file = 0; rpcs = [] } ∷ [] };
@@ -145,32 +145,32 @@ open_service draft name = record {
   block = a_service;
 }
 
--- How many oneofs a message has, if there is one.
+-- The number of oneofs of a message, if there is one.
 abbrev pub oneofs_of : Option MessageDecl → ℕ
 oneofs_of None = 0
 oneofs_of (Some m) = length m.oneofs
 
--- How many oneofs the message at a place has, if there is one: the place of the next one in it.
+-- The number of oneofs of the message at an index, if there is one: the index of its next oneof.
 abbrev pub count_oneofs : Option ℕ → List MessageDecl → ℕ
 count_oneofs None messages = 0
 count_oneofs (Some place) messages = oneofs_of (slice_get messages place)
 
--- A oneof is added to the innermost open message, behind those that it has, and is open without a field.
+-- Adds a oneof to the innermost open message, after its others, and opens it without a field.
 abbrev pub open_oneof : Draft → Word → Draft
 open_oneof draft name =
     with_block (in_message draft (λ m. record m { oneofs = m.oneofs ++ name ∷ [] }))
     (a_oneof (count_oneofs (innermost_of draft.messages) draft.file.messages) false)
 
--- A field is added to the innermost open message.
+-- Adds a field to the innermost open message.
 abbrev pub add_field : Draft → FieldDecl → Draft
 add_field draft f = in_message draft (λ m. record m { fields = m.fields ++ f ∷ [] })
 
--- An rpc is added to the last service.
+-- Adds an rpc to the last service.
 abbrev pub add_rpc : Draft → RpcDecl → Draft
 add_rpc draft r = in_service draft (λ s. record s { rpcs = s.rpcs ++ r ∷ [] })
 
--- `}` closes what is open: a block, where one is open, or else the innermost message. A oneof has a field by then, and
--- an enum a value.
+-- `}` closes a block if one is open, and else the innermost message. A closed oneof has a field, a closed enum a
+-- value.
 pub data ClosesTo (draft : Draft) : Draft → Type 0 where
   message_ends : (place : ℕ) (outer : List ℕ) → draft.block ≡ no_block → draft.messages ≡ place ∷ outer
       → ClosesTo draft (record { file = draft.file; messages = outer; block = no_block })
@@ -181,18 +181,18 @@ pub data ClosesTo (draft : Draft) : Draft → Type 0 where
 
 -- ---- fields
 
--- A field, by its parts in the order in which a statement says them; its oneof by its place in the message.
+-- A field, by its parts in the order of a statement; its oneof by its index in the message.
 abbrev pub field : Word → Number → FieldType → FieldLabel → Option ℕ → Option Bool → FieldDecl
 field name number kind label oneof packed =
     record { name = name; number = number; kind = kind; label = label; oneof = oneof; packed = packed }
 
--- `optional`, `repeated`, or no label; and the words that no type begins with behind it
+-- `optional`, `repeated`, or no label; and the words that can't start the type after it
 pub data LabelOf : List Lexeme → FieldLabel → List (List ℕ) → Type 0 where
   plain : LabelOf [] Plain statement_words
   optional : (x : Lexeme) → IsWord x (codes "optional") → LabelOf (x ∷ []) Optional group_word
   repeated : (x : Lexeme) → IsWord x (codes "repeated") → LabelOf (x ∷ []) Repeated group_word
 
--- `NAME = NUMBER [options];`, behind a field's type
+-- `NAME = NUMBER [options];`, after the type of a field
 pub data FieldEnd : List Lexeme → Word → Number → Option Bool → Type 0 where
   field_end : (x y z : Lexeme) (name : List ℕ) {ns os all : List Lexeme} {number : Number} {packed : Option Bool}
       → IsWord x name → IsMark y equals → NumberOf false ns number → FieldOptions os packed → IsMark z semicolon
@@ -210,7 +210,7 @@ pub data RpcHead : List Lexeme → RpcDecl → Type 0 where
 
 -- ---- statements
 
--- These tokens are one statement. It stands behind those that say the draft d, and with it they say another draft.
+-- These tokens are one statement. After statements that declare the draft d, they lead to another draft.
 pub data Statement (d : Draft) (all : List Lexeme) : Draft → Type 0 where
   -- package FULLNAME;
   package_name : (x z : Lexeme) {ys : List Lexeme} {w : Word} → InFile d → d.file.package ≡ None
@@ -227,7 +227,7 @@ pub data Statement (d : Draft) (all : List Lexeme) : Draft → Type 0 where
       → Statement d all (with_file d (record d.file {
         imports = d.file.imports ++ record { path = path; public = true; span = y.span } ∷ [];
       }))
-  -- option NAME = VALUE; wherever a statement stands
+  -- option NAME = VALUE; anywhere
   option : (x z : Lexeme) {ys : List Lexeme} {b : Option Bool} → IsWord x (codes "option") → OptionOf ys b
       → IsMark z semicolon → all ≡ x ∷ ys ++ z ∷ [] → Statement d all d
   -- ;
@@ -286,7 +286,7 @@ pub data Statement (d : Draft) (all : List Lexeme) : Draft → Type 0 where
 
 -- ---- texts
 
--- What the syntax statement alone says.
+-- The draft after the syntax statement alone.
 abbrev pub nothing_said : Draft
 nothing_said = record {
   file = record { «package» = None; imports = []; messages = []; enums = []; services = [] };
@@ -299,7 +299,7 @@ pub data Syntax : List Lexeme → Type 0 where
   proto3 : (w x y z : Lexeme) → IsWord w (codes "syntax") → IsMark x equals → y.means ≡ string (codes "proto3")
       → IsMark z semicolon → Syntax (w ∷ x ∷ y ∷ z ∷ [])
 
--- The tokens are the syntax statement and statements behind it, and say this.
+-- The tokens are the syntax statement followed by statements, and declare this.
 pub data Says : List Lexeme → Draft → Type 0 where
   start : {xs : List Lexeme} → Syntax xs → Says xs nothing_said
   another : {xs ys all : List Lexeme} {c d : Draft} → Says xs c → Statement c ys d → all ≡ xs ++ ys → Says all d
@@ -308,7 +308,7 @@ pub data Says : List Lexeme → Draft → Type 0 where
 abbrev pub IsWhole : Draft → Type 0
 IsWhole draft = InFile draft
 
--- The tokens are those of a whole text, with its end, and say this file, however deep its messages lie.
+-- The tokens are those of a complete text with its end, and declare this file, without a limit on nesting.
 pub data Forms : List Lexeme → File → Type 0 where
   whole : (x : Lexeme) {xs all : List Lexeme} {d : Draft} → Says xs d → IsWhole d → x.means ≡ the_end
       → all ≡ xs ++ x ∷ [] → Forms all d.file

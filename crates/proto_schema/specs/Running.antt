@@ -1,4 +1,4 @@
--- The code's own: a text is read token by token: statements, and the whole text.
+-- The code's own: statements, and a whole text, are read token by token.
 use Rattle.std.specs.Prelude.{◌≡◌, ℕ, ◌==◌, nat_le, Bool, true, false, not, ◌&&◌, ◌||◌, if◌then◌else◌, List, [], ◌∷◌}
 use Rattle.std.specs.Prelude.{◌++◌, codes, length, Option, Some, None, is_some, Result, Ok, Err}
 use Rattle.std.specs.Str.{bytes_eq}
@@ -56,7 +56,7 @@ use Rattle.proto_schema.specs.declared.statement.Said.TheVariants as said
 use Rattle.proto_schema.specs.declared.statement.Step.{Step}
 use Rattle.proto_schema.specs.declared.statement.Step.TheVariants as steps
 
--- ---- where a statement stands
+-- ---- where a statement is
 
 abbrev pub place_in : List ℕ → Option Word → Place
 place_in [] p = places.File (is_some p)
@@ -76,12 +76,12 @@ block_of (block.Enum filled) = an_enum filled
 block_of block.Service = a_service
 block_of block.Rpc = an_rpc
 
--- a stack whose top is the list's end
+-- the stack, whose top is the end of the list, as a list with its top first
 abbrev pub stack : List ℕ → List ℕ
 stack [] = []
 stack (x ∷ xs) = stack xs ++ x ∷ []
 
--- what a draft of the code stands for
+-- the draft that a draft of the code represents
 abbrev pub draft_of : CodeDraft → Draft
 draft_of d = record {
   file = record {
@@ -114,13 +114,13 @@ closes_in (places.Enum filled) = filled
 closes_in places.Service = true
 closes_in places.Rpc = true
 
--- where `;` is a statement
+-- `;` is a statement here
 abbrev pub is_body : Place → Bool
 is_body (places.File p) = true
 is_body places.Message = true
 is_body p = false
 
--- where a field without a label begins
+-- a field without a label may start here
 abbrev pub has_fields : Place → Bool
 has_fields places.Message = true
 has_fields (places.Oneof filled) = true
@@ -141,7 +141,7 @@ mark_begins p x c =
     else if c == closing_brace && closes_in p then done said.Close
     else wrong x
 
--- `message`, `enum`, `service` and `oneof`, where they may stand
+-- `message`, `enum`, `service` and `oneof`, if they are allowed here
 abbrev pub opening_of : Bool → List ℕ → Option Opening
 opening_of in_file n =
     if bytes_eq n (codes "message") then Some openings.Message
@@ -193,7 +193,7 @@ begins p x m = wrong x
 
 -- ---- further tokens
 
--- the `;` behind what a statement says
+-- the `;` that ends a statement
 abbrev pub ended : Said → Lexeme → Result Step ProtoFault
 ended s x = if is_mark x.means semicolon then done s else wrong x
 
@@ -247,7 +247,7 @@ statement_step p (states.Reserved s) x = of_reserved (reserved_step s x)
 statement_step p (states.Value s) x = of_value (value_step s x)
 statement_step p (states.Rpc s) x = of_rpc (rpc_step s x)
 
--- how many braces of an option, or maps of a type, are open
+-- the number of open braces of an option, or of open maps of a type
 abbrev pub depth : State → ℕ
 depth (states.Option s) = option_depth s
 depth (states.Field s) = field_depth s
@@ -299,7 +299,7 @@ added d said.Close = closed_with d d.block
 
 -- ---- the whole text
 
--- what has come of the tokens: they are used up, the text ends and says a file, or one of them is at fault
+-- the result of reading tokens: they are used up, the text ends and declares a file, or one of them is at fault
 pub data Outcome : Type 0 where
   cut_off : Draft → State → Outcome
   read : File → Outcome
@@ -317,23 +317,23 @@ abbrev pub is_end : Meaning → Bool
 is_end the_end = true
 is_end m = false
 
--- whether a statement opens a message in as many others as may be open
+-- a statement opens a message inside `MAX_OPEN` others
 abbrev pub is_too_deep : Bool → Draft → Said → Bool
 is_too_deep limited d (said.Open openings.Message w) = limited && nat_le MAX_OPEN (length d.messages)
 is_too_deep limited d s = false
 
--- what comes of the tokens behind, by what a token does
+-- the result of the remaining tokens, given what one token does
 abbrev pub behind : (Draft → State → Outcome) → Bool → Draft → Lexeme → Result Step ProtoFault → Outcome
 behind go limited d x (Ok (steps.More t)) = go d t
 behind go limited d x (Ok (steps.Done t)) =
     if is_too_deep limited d t then failed (fault_at reasons.Nesting x.span) else go (added d t) states.Begin
 behind go limited d x (Err e) = failed e
 
--- the text ends here, where nothing is open
+-- the text ends here: nothing is open
 abbrev pub is_over : Draft → State → Lexeme → Bool
 is_over d s x = is_end x.means && (is_begin s && is_file (place_of d))
 
--- the tokens from a place on, where messages may nest without limit or not
+-- the result of the tokens from here on, with or without the limit on nested messages
 unfoldable pub run : Bool → Draft → State → List Lexeme → Outcome
 run limited d s [] = cut_off d s
 run limited d s (x ∷ xs) =
@@ -342,7 +342,7 @@ run limited d s (x ∷ xs) =
 
 -- ---- the syntax statement
 
--- the tokens of a text are its syntax statement, and then statements
+-- the tokens of a text are its syntax statement, followed by statements
 abbrev pub behind_syntax : Bool → List Lexeme → Outcome
 behind_syntax limited [] = cut_off nothing_said states.Begin
 behind_syntax limited (z ∷ zs) =
@@ -368,9 +368,9 @@ reading limited (w ∷ zs) =
     else if is_no_token w.means then failed (unexpected w)
     else failed (fault_at reasons.Syntax2 w.span)
 
--- ---- what the code answers
+-- ---- what the code returns
 
--- a part of the code answered as reading does, unless memory ran out
+-- a part of the code returned what reading defines, or ran out of memory
 abbrev pub Failed : ProtoFault → Outcome → Type 0
 Failed fault.Memory o = Unit {0}
 Failed e o = o ≡ failed e
@@ -379,16 +379,16 @@ abbrev pub Comes : Result File ProtoFault → Outcome → Type 0
 Comes (Ok f) o = o ≡ read f
 Comes (Err e) o = Failed e o
 
--- what came of a token whose statement is whole: the tokens behind go on with the draft, unless memory ran out
+-- the result of a token that ends its statement: the remaining tokens continue with the draft, unless memory ran out
 abbrev pub Follows : {X : Type 0} → Result X ProtoFault → Draft → Outcome → List Lexeme → Type 0
 Follows (Ok u) d o xs = o ≡ run true d states.Begin xs
 Follows (Err e) d o xs = Failed e o
 
--- what comes of the tokens behind one, by what it does to a statement
+-- the result of the tokens after one, given what that one does to a statement
 abbrev pub behind_step : Draft → Lexeme → List Lexeme → Result Step ProtoFault → Outcome
 behind_step d x xs r = behind (λ c t. run true c t xs) true d x r
 
--- a list of tokens begins with this one, and the others are those behind it
+-- a list of tokens starts with this one, and the others follow it
 pub data AreTokensFrom (text : List ℕ) (t : Token) : List Token → Type 0 where
   alone : {ts : List Token} → ts ≡ t ∷ [] → is_last t.kind ≡ true → AreTokensFrom text t ts
   with_others : {ts : List Token} (others : List Token) → ts ≡ t ∷ others → is_last t.kind ≡ false

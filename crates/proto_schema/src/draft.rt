@@ -1,4 +1,4 @@
-//! What the statements so far say.
+//! The declarations of the statements so far.
 
 ghost use Rattle.std.specs.Prelude.{◌≡◌, ◌∷◌, ◌++◌, [], OnOk, length, nat_le, slice_get};
 ghost use Rattle.proto_schema.specs.Files.{edit_at, innermost_of, oneofs_of, nothing_said};
@@ -17,11 +17,11 @@ use proto_file::{
 use std::alloc::Global;
 use std::mem;
 
-// The block that is open in the file, or in the innermost open message.
+// The open block in the innermost open message, or in the file if no message is open.
 #[derive(Clone, Copy)]
 pub(crate) enum Block {
     None,
-    // A oneof, by its place in its message, and whether it has a field.
+    // A oneof: its index in its message, and whether it has a field.
     Oneof(usize, bool),
     // An enum, and whether it has a value.
     Enum(bool),
@@ -30,14 +30,14 @@ pub(crate) enum Block {
     Rpc,
 }
 
-// A file while it is read.
+// A file while it is being read.
 pub(crate) struct Draft {
     package: Option<Word>,
     imports: Imports,
     messages: Vec<MessageDecl>,
     enums: Vec<EnumDecl>,
     services: Vec<ServiceDecl>,
-    // The places of the messages that are open, the outermost first.
+    // The indices of the open messages, the outermost first.
     nested: Vec<usize>,
     block: Block,
 }
@@ -56,7 +56,7 @@ impl Drop for Draft {
     }
 }
 
-// Items behind others. Where there are no others, none is copied.
+// Appends items to others. If there are no others, nothing is copied.
 fn append<T: Drop>(alloc: Global, items: &mut Sequence<T>, more: Sequence<T>) -> Result<(), Memory>
     ensures { OnOk result (items.new ≡ items.old ++ more) }
 {
@@ -171,7 +171,7 @@ fn push_rpc(services: &mut [ServiceDecl], place: usize, rpc: RpcDecl) -> Result<
     Ok(())
 }
 
-// How many oneofs a message has.
+// The number of oneofs of a message.
 fn oneofs_in(messages: &[MessageDecl], place: usize) -> usize
     ensures { result ≡ oneofs_of (slice_get messages.now place) }
 {
@@ -183,7 +183,7 @@ fn oneofs_in(messages: &[MessageDecl], place: usize) -> usize
 
 #[tactic(auto, using(crate::proofs::Drafts::draft_lemmas))]
 impl Draft {
-    // Nothing is said.
+    // An empty draft: nothing is declared and nothing is open.
     pub(crate) fn new(alloc: Global) -> Draft
         ensures { draft_of result ≡ nothing_said }
     {
@@ -198,7 +198,7 @@ impl Draft {
         }
     }
 
-    // Where the next statement stands.
+    // Where the next statement is.
     pub(crate) fn place(&self) -> Place
         ensures { result ≡ place_of (draft_of self.now) }
     {
@@ -214,14 +214,14 @@ impl Draft {
         }
     }
 
-    // Whether a message can't be opened, since `MAX_OPEN` are open.
+    // True if no further message can be opened, since `MAX_OPEN` are open.
     pub(crate) fn is_deep(&self) -> bool
         ensures { result ≡ nat_le MAX_OPEN (length (draft_of self.now).messages) }
     {
         self.nested.len() >= MAX_OPEN
     }
 
-    // The file, where nothing is open.
+    // The file, if nothing is open.
     pub(crate) fn into_file(self) -> File
         ensures { result ≡ (draft_of self).file }
     {
@@ -243,7 +243,7 @@ impl Draft {
         }
     }
 
-    // The place of the innermost message.
+    // The index of the innermost open message.
     fn innermost(&self) -> Option<usize>
         ensures { result ≡ innermost_of (draft_of self.now).messages }
     {
@@ -394,7 +394,7 @@ impl Draft {
         }
     }
 
-    // Adds what a statement says.
+    // Adds what a statement declares.
     pub(crate) fn add(&mut self, alloc: Global, says: Said) -> Result<(), Memory>
         ensures { OnOk result (draft_of self.new ≡ added (draft_of self.old) says) }
     {

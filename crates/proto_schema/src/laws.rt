@@ -12,14 +12,14 @@ ghost use Rattle.proto_parts.specs.declared.fault.ProtoReason.{ProtoReason};
 
 use proto_tokens::one_list;
 
-/// A text reads as one file at most.
+/// A text reads as at most one file.
 pub fn one_file()
     ensures { (text : List ℕ) (f g : File) → IsTextOf text f → IsTextOf text g → f ≡ g }
 {
     one_list();
 }
 
-/// A text has one first fault at most.
+/// A text has at most one first fault.
 pub fn one_fault()
     ensures { (text : List ℕ) (q r : ProtoReason) (s t : Span) → HasFault text q s → HasFault text r t
         → (q ≡ r) × (s ≡ t) }
@@ -27,7 +27,7 @@ pub fn one_fault()
     one_list();
 }
 
-/// A text reads as a file or has a first fault, and never both.
+/// Every text reads as a file or has a first fault, and never both.
 pub fn file_or_fault()
     ensures either { (text : List ℕ)
         → ((f : File) × IsTextOf text f) ⊎ ((q : ProtoReason) × (s : Span) × HasFault text q s) }
@@ -37,21 +37,21 @@ pub fn file_or_fault()
     one_list();
 }
 
-/// A file that was read is well formed, and its names and numbers start in its order: its places are those of its
-/// lists, each oneof has a field and each enum a value, and its names have the forms of names; no two names or numbers
-/// start at one place.
+/// A file that was read is valid: its indices are within its lists, each oneof has a field, each enum a value, and
+/// its names have the forms of names. Its names and numbers start in the order of its lists, no two at the same
+/// offset.
 pub fn file_is_ordered()
     ensures formed { (text : List ℕ) (F : File) → IsTextOf text F → IsFormed F }
     ensures ordered { (text : List ℕ) (F : File) → IsTextOf text F → IsOrdered F }
 {}
 
-/// A file that was read is well formed and in order also as one that is resolved alone.
+/// A file that was read is also valid and in order as a file that is resolved alone.
 pub fn alone_is_ordered()
     ensures formed { (text : List ℕ) (F : File) → IsTextOf text F → Together.IsFormed (alone F) }
     ensures ordered { (text : List ℕ) (F : File) → IsTextOf text F → Together.IsOrdered (alone F) }
 {}
 
-/// What a text reads as stands in it: each name and number starts before the text's end, and ends there at the latest.
+/// Each name and number of a file starts before the end of its text, and ends there at the latest.
 pub fn file_is_within()
     ensures { (text : List ℕ) (F : File) → IsTextOf text F → IsWithin (length text) F }
 {}

@@ -1,15 +1,18 @@
 //! Proto files (Protocol Buffers, proto3 language specification), in this project's profile.
 //!
-//! [`read_proto`] reads a text, token by token. `specs/Files.antt` says what a text of statements says, and
-//! `specs/Faults.antt` which token of a text that is none is at fault first, and why. It stands on `proto_tokens`, which
-//! says what the tokens of a text are, on `proto_parts`, which says which of them are which part of a statement and
-//! reads the parts, on `proto_file`, which has the file's types, and on `mrpc_table`. The layer above uses the contract
-//! of [`read_proto`]: a file that it answers is what the text reads as (`reads`), a text that reads as a file is
-//! answered by that file, unless memory runs out (`only`), and a fault that it answers is the text's first one
-//! (`fault`). A text reads as one file at most ([`one_file`]) and has one first fault at most ([`one_fault`]), one of
-//! both and never both ([`file_or_fault`]). What it reads as is well formed, and its names and numbers start in the
-//! order of its lists (`Order` of `proto_file`, [`file_is_ordered`]), also as a file that is resolved alone (`Together`
-//! of `proto_file`, [`alone_is_ordered`]). They stand in the text (`Within` of `proto_file`, [`file_is_within`]).
+//! [`read_proto`] reads a text, token by token. `specs/Files.antt` defines what a text of statements declares, and
+//! `specs/Faults.antt` which token of any other text is at fault first, and why. The crate uses the tokens of
+//! `proto_tokens`; `proto_parts`, which defines and reads the parts of statements; the types of `proto_file`; and
+//! `mrpc_table`.
+//!
+//! The layer above relies on the contract of [`read_proto`]. A file that it returns is what the text reads as
+//! (`reads`). If the text reads as a file, it returns that file or runs out of memory (`only`). A fault that it
+//! returns is the text's first one (`fault`). A text reads as at most one file ([`one_file`]), has at most one first
+//! fault ([`one_fault`]), and has exactly one of the two ([`file_or_fault`]).
+//!
+//! The file is valid, and its names and numbers start in the order of its lists (`Order` of `proto_file`,
+//! [`file_is_ordered`]); so it is as a file that is resolved alone (`Together` of `proto_file`,
+//! [`alone_is_ordered`]). They lie within the text (`Within` of `proto_file`, [`file_is_within`]).
 #![tactic(auto)]
 
 mod draft;

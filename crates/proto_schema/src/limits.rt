@@ -1,4 +1,4 @@
-//! The limits of proto files, which the definitions share.
+//! The limits of proto files, shared with the definitions.
 
-/// How many messages are open in one another at most.
+/// The maximum depth of nested messages.
 pub const MAX_OPEN: usize = 32;

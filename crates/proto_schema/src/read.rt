@@ -49,21 +49,21 @@ fn next(text: &[u8], place: usize, line: u64) -> Token
     next_token(text, place, line)
 }
 
-// Whether a token is a string.
+// True if a token is a string.
 fn is_text(token: &Token) -> bool
     ensures { IsTrue result ↔ (token.now.kind ≡ kinds.Text) }
 {
     token.kind == Kind::Text
 }
 
-// Whether no token stands here, or one that stands in the braces of an option alone.
+// True if this is not a token, or one only inside the braces of an option.
 fn is_none(token: &Token) -> bool
     ensures { (text : List ℕ) → result ≡ is_no_token (lexeme text token.now).means }
 {
     matches!(token.kind, Kind::Bad | Kind::Mark(b':' | b'/'))
 }
 
-// Whether a string stands for `proto3`.
+// True if the value of a string is `proto3`.
 fn is_proto3(alloc: Global, text: &[u8], token: &Token) -> Result<bool, Memory>
     requires lies { Lies text.now token.now }
     requires string { token.now.kind ≡ kinds.Text }
@@ -73,14 +73,14 @@ fn is_proto3(alloc: Global, text: &[u8], token: &Token) -> Result<bool, Memory>
     Ok(value.as_slice() == b"proto3".as_slice())
 }
 
-// Whether the text ends at this token, where nothing is open and no statement is begun.
+// True if the text ends at this token: nothing is open, and no statement has started.
 fn is_end(draft: &Draft, token: &Token) -> bool
     ensures { (text : List ℕ) → result ≡ is_over (draft_of draft.now) states.Begin (lexeme text token.now) }
 {
     token.kind == Kind::End && matches!(draft.place(), Place::File { .. })
 }
 
-// How far the statement is read that goes on at this token, unless the text ends there.
+// The state of the statement that this token continues; `None` if the text ends there.
 #[tactic(auto, using(crate::proofs::Next::goes_in))]
 fn goes_on(draft: &Draft, state: State, token: &Token) -> Option<State>
     ensures { (text : List ℕ) → MatchOption result
@@ -99,14 +99,14 @@ fn goes_on(draft: &Draft, state: State, token: &Token) -> Option<State>
     }
 }
 
-// Whether this opens a message in as many others as may be open.
+// True if this opens a message inside `MAX_OPEN` others.
 fn is_too_deep(draft: &Draft, opening: Opening) -> bool
     ensures { (w : Word) → result ≡ too_deep true (draft_of draft.now) (said.Open opening w) }
 {
     matches!(opening, Opening::Message) && draft.is_deep()
 }
 
-// Opens a block with the last token of its statement.
+// Opens a block at the last token of its statement.
 fn open(
     alloc: Global,
     draft: &mut Draft,
@@ -123,7 +123,7 @@ fn open(
     Ok(draft.open(alloc, opening, name)?)
 }
 
-// Adds what a statement says with its last token.
+// Adds what a statement declares, at its last token.
 #[tactic(auto, using(crate::proofs::Next::added_shallow))]
 fn add(alloc: Global, draft: &mut Draft, says: Said, token: &Token) -> Result<(), ProtoFault>
     ensures { (text : List ℕ) (xs : List Lexeme) → Follows result (draft_of draft.new)
@@ -135,7 +135,7 @@ fn add(alloc: Global, draft: &mut Draft, says: Said, token: &Token) -> Result<()
     }
 }
 
-// What a token does to the statements so far.
+// Reads one token after the statements so far.
 #[tactic(auto, using(crate::proofs::Next::fails_step, crate::proofs::Next::grows, crate::proofs::Stops::takes_no_last))]
 fn take(
     alloc: Global,
@@ -162,7 +162,7 @@ fn take(
     }
 }
 
-// The file that the tokens behind the syntax statement say, or the first fault among them.
+// The file that the tokens after the syntax statement declare, or the first fault among them.
 fn read_statements(alloc: Global, text: &[u8], semicolon: Token) -> Result<File, ProtoFault>
     requires small { length text.now < 2 ^ 62 }
     requires within { semicolon.end ≤ length text.now }
@@ -209,7 +209,7 @@ fn behind_first(alloc: Global, text: &[u8], first: Token) -> Result<File, ProtoF
     read_statements(alloc, text, last)
 }
 
-// What comes of a text's tokens.
+// The file of a text's tokens, or their first fault.
 fn read_tokens(alloc: Global, text: &[u8]) -> Result<File, ProtoFault>
     requires small { length text.now < 2 ^ 62 }
     ensures { (ts : List Token) → AreTokens text.now 0 ts → Comes result (reading true (lexemes text.now ts)) }
@@ -224,14 +224,14 @@ fn read_tokens(alloc: Global, text: &[u8]) -> Result<File, ProtoFault>
     Err(fault_at(ProtoReason::Syntax2, span_of(&first)))
 }
 
-/// The file that a text reads as, or its first fault. It takes time in proportion to the text.
+/// Returns the file that a text reads as, or its first fault. Takes time proportional to the text.
 pub fn read_proto(alloc: Global, text: &[u8]) -> Result<File, ProtoFault>
     requires small { length text.now < 2 ^ 62 }
-    // A file is what the text reads as.
+    // A returned file is what the text reads as.
     ensures reads { IfOk result (λ f. IsTextOf text.now f) }
-    // A text that reads as a file gives this file, unless memory runs out.
+    // If the text reads as a file, this file is returned, unless memory runs out.
     ensures only { (f : File) → IsTextOf text.now f → MatchResult result (λ g. g ≡ f) (λ e. e ≡ faults.Memory) }
-    // A fault is the first one of the text.
+    // A returned fault is the first one of the text.
     ensures fault { IfErr result (λ e. IsFaultOf text.now e) }
 {
     one_list();

@@ -25,22 +25,22 @@ use proto_parts::{
 use proto_tokens::{Kind, Token, string_value};
 use std::alloc::Global;
 
-// Where a statement stands.
+// Where a statement is.
 #[derive(Clone, Copy)]
 pub(crate) enum Place {
-    // In the file, with a package before or not.
+    // In the file; `package` if there was a package statement.
     File { package: bool },
     Message,
-    // In a oneof, with a field before or not.
+    // In a oneof; `filled` if it has a field.
     Oneof { filled: bool },
-    // In an enum, with a value before or not.
+    // In an enum; `filled` if it has a value.
     Enum { filled: bool },
     Service,
     // In the block of an rpc.
     Rpc,
 }
 
-// What opens a block.
+// The kind of block that a statement opens.
 #[derive(Clone, Copy)]
 pub(crate) enum Opening {
     Message,
@@ -49,7 +49,7 @@ pub(crate) enum Opening {
     Oneof,
 }
 
-// How far a statement is read.
+// How much of a statement is read.
 #[derive(Drop)]
 pub(crate) enum State {
     // Nothing of it is read.
@@ -70,7 +70,7 @@ pub(crate) enum State {
     Rpc(RpcState),
 }
 
-// What a whole statement says.
+// What a complete statement declares.
 #[derive(Drop)]
 pub(crate) enum Said {
     Nothing,
@@ -87,15 +87,15 @@ pub(crate) enum Said {
     Close,
 }
 
-// What a token does to a statement.
+// The result of reading one token of a statement.
 #[derive(Drop)]
 pub(crate) enum Step {
     More(State),
-    // It is its last one.
+    // The token is its last one.
     Done(Said),
 }
 
-// Whether a name is this word.
+// True if a name is this word.
 fn is(name: &[u8], word: &[u8]) -> bool
     ensures { result ≡ bytes_eq name.now word.now }
 {
@@ -108,7 +108,7 @@ fn more(state: State) -> Result<Step, ProtoFault>
     Ok(Step::More(state))
 }
 
-// Where `}` closes a block.
+// True if `}` closes a block here.
 fn closes_in(place: Place) -> bool
     ensures { result ≡ Running.closes_in place }
 {
@@ -119,14 +119,14 @@ fn closes_in(place: Place) -> bool
     }
 }
 
-// Where `;` is a statement.
+// True if `;` is a statement here.
 fn is_body(place: Place) -> bool
     ensures { result ≡ Running.is_body place }
 {
     matches!(place, Place::File { .. } | Place::Message)
 }
 
-// Where a field without a label begins.
+// True if a field without a label may start here.
 fn has_fields(place: Place) -> bool
     ensures { result ≡ Running.has_fields place }
 {
@@ -149,7 +149,7 @@ fn of_field(
     }
 }
 
-// A field without a label.
+// Starts a field without a label.
 fn field_begins(alloc: Global, text: &[u8], token: &Token) -> Result<Step, ProtoFault>
     requires { Lies text.now token.now }
     ensures { Gives result (Running.field_begins (lexeme text.now token.now)) }
@@ -158,7 +158,7 @@ fn field_begins(alloc: Global, text: &[u8], token: &Token) -> Result<Step, Proto
     of_field(alloc, text, state, token)
 }
 
-// A statement that begins with a mark.
+// Starts a statement at a punctuator.
 fn mark_begins(
     alloc: Global,
     text: &[u8],
@@ -180,7 +180,7 @@ fn mark_begins(
     }
 }
 
-// `message`, `enum`, `service` or `oneof`, where one may stand.
+// `message`, `enum`, `service` or `oneof`, if it is allowed here.
 fn opening_of(in_file: bool, name: &[u8]) -> Option<Opening>
     ensures { result ≡ Running.opening_of in_file name.now }
 {
@@ -278,7 +278,7 @@ fn service_begins(name: &[u8], token: &Token) -> Result<Step, ProtoFault>
     }
 }
 
-// A statement that begins with a word.
+// Starts a statement at a word.
 fn word_begins(
     alloc: Global,
     text: &[u8],
@@ -300,7 +300,7 @@ fn word_begins(
     }
 }
 
-// The first token of a statement.
+// Reads the first token of a statement.
 fn begins(alloc: Global, text: &[u8], place: Place, token: &Token) -> Result<Step, ProtoFault>
     requires { Lies text.now token.now }
     ensures { let x = lexeme text.now token.now in Gives result (Running.begins place x x.means) }
@@ -348,7 +348,7 @@ fn of_package(
     }
 }
 
-// A path behind `import`, or behind `import public`.
+// Reads the path after `import` or `import public`.
 fn imported(alloc: Global, text: &[u8], public: bool, token: &Token) -> Result<Step, ProtoFault>
     requires lies { Lies text.now token.now }
     requires string { token.now.kind ≡ kinds.Text }
@@ -359,7 +359,7 @@ fn imported(alloc: Global, text: &[u8], public: bool, token: &Token) -> Result<S
     more(State::Imported(Import { path, public, span }))
 }
 
-// A token behind `import`, or behind `import public`.
+// Reads a token after `import` or `import public`.
 fn import_step(alloc: Global, text: &[u8], public: bool, token: &Token) -> Result<Step, ProtoFault>
     requires { Lies text.now token.now }
     ensures { let x = lexeme text.now token.now in Gives result (Running.import_step public x x.means) }
@@ -373,7 +373,7 @@ fn import_step(alloc: Global, text: &[u8], public: bool, token: &Token) -> Resul
     }
 }
 
-// The end of an import.
+// Reads the end of an import.
 fn import_ends(import: Import, token: &Token) -> Result<Step, ProtoFault>
     ensures { (text : List ℕ) → Gives result (Running.ended (said.Import import) (lexeme text token.now)) }
 {
@@ -457,7 +457,7 @@ fn of_rpc(alloc: Global, text: &[u8], rpc: RpcState, token: &Token) -> Result<St
     }
 }
 
-// A token of a statement that stands at this place.
+// Reads one token of a statement in this place.
 #[tactic(auto, unfolding(crate::specs::Running::statement_step))]
 pub(crate) fn statement_step(
     alloc: Global,

@@ -1,4 +1,4 @@
--- How many bytes stand up to a closing quote, step by step.
+-- The bytes up to a closing quote, byte by byte.
 use Rattle.std.proofs.Common.{◌≡◌, ◌≢◌, ℕ, ◌+◌, ◌<◌, ◌≤◌, ◌==◌, true, false, ◌||◌, List, [], ◌∷◌, length, get_or, drop, refl, arith, ◌∙◌, ap}
 use Rattle.std.specs.Prelude.{Option, Some, None, option_map}
 use Rattle.std.proofs.lemmas.List.{drop_more, drop_all}
@@ -9,7 +9,7 @@ shifted : (o : Option ℕ) (i k : ℕ) → option_map (λ n. n + i) (option_map 
 shifted None i k = refl
 shifted (Some n) i k = let e : n + k + i ≡ n + (i + k) = omega arith in ap Some e
 
--- ---- at the front
+-- ---- at the start
 
 pub front_quote : (quote c : ℕ) (cs : List ℕ) → c ≡ quote → closes quote (c ∷ cs) ≡ Some 1
 unfolding closes
@@ -50,7 +50,7 @@ front_on quote c (d ∷ cs) n b e =
     let s : (c == 92) ≡ false = ne_eqb _ _ b in
     rw (t, s, e) refl
 
--- ---- at a place, behind the bytes before it
+-- ---- at an offset
 
 pub closes_quote : (quote : ℕ) (bytes : List ℕ) (i : ℕ)
     → closes quote bytes ≡ option_map (λ n. n + i) (closes quote (drop i bytes)) → i < length bytes

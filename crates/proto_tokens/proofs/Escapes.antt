@@ -1,4 +1,4 @@
--- What strings stand for, byte by byte.
+-- The values of strings, byte by byte.
 use Rattle.std.proofs.Common.{◌≡◌, ◌≢◌, ℕ, zero, suc, ◌+◌, ◌-◌, ◌%◌, ◌<◌, ◌≤◌, ◌==◌, true, false, inl, inr, subst}
 use Rattle.std.proofs.Common.{List, [], ◌∷◌, ◌++◌, length, get_or, drop, refl, arith, ap, sym, ◌∙◌}
 use Rattle.std.specs.Char.{is_digit}
@@ -54,7 +54,7 @@ escape_simple (c ∷ cs) h d x u w =
 
 pub ruleset escapes = (escape_none, escape_octal, escape_x, escape_u, escape_wide, escape_simple)
 
--- ---- what stands behind an escape are the last of the bytes
+-- ---- the bytes after an escape are a suffix
 
 code_point_end : (n : ℕ) (behind : List ℕ) → (k : ℕ) × ((code_point n behind).behind ≡ drop k behind)
 code_point_end n behind = elim (cases_Bool (is_pair n behind)) [ inl e ↦ (6, rw e refl) | inr e ↦ (0, rw e refl) ]
@@ -96,7 +96,7 @@ behind_again bytes = let p = escape_end bytes in rw p.1 (end_again p.0 bytes)
 behind_le : (bytes : List ℕ) → length (escape_of bytes).behind ≤ length bytes
 behind_le bytes = let p = escape_end bytes in omega (arith, ap length p.1, length-drop p.0 bytes)
 
--- ---- the relation and the function are one
+-- ---- the relation and the function agree
 
 value_skip : (n : ℕ) (bytes : List ℕ) → value_behind n bytes ≡ body_value (drop n bytes)
 unfolding value_behind
@@ -135,7 +135,7 @@ some_value body = stands_up_to (length body) body (omega arith)
 
 -- ---- bytes and escapes, one after another
 
--- what a body stands for is the bytes so far and what its bytes from a place on stand for
+-- the value of a body is the output so far followed by the value of its bytes from an offset on
 abbrev pub GoesOn : List ℕ → List ℕ → ℕ → Type 0
 GoesOn body out i = (value : List ℕ) → StandsFor (drop i body) value → StandsFor body (out ++ value)
 

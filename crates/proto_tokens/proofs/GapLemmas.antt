@@ -1,11 +1,11 @@
--- Where a walk over blanks and comments ends, there they end.
+-- The scanner of gaps stops where the blanks and comments end.
 use Rattle.std.proofs.Common.{◌≡◌, ◌⊎◌, inl, inr, ℕ, ◌<◌, ◌≤◌, ◌==◌, Bool, true, false, not, cond, ◌&&◌, List, []}
 use Rattle.std.proofs.Common.{◌∷◌, ◌++◌, length, refl, arith, sym, ◌∙◌, ap, length-append}
 use Rattle.std.proofs.lemmas.Bool.{eqb-true, cases_Bool, and_parts, or_parts, not-true}
 use Rattle.proto_tokens.specs.Gaps.{is_blank, begins, ends_line, has_no_line_feed, has_close, Gap, nothing, blank, line_comment, block_comment}
 use Rattle.proto_tokens.specs.Scanning.{Spot, between, slash, line, block, star, walk}
 
--- ---- a gap is walked over
+-- ---- the scanner passes a gap
 
 line_body : (body more : List ℕ) → has_no_line_feed body ≡ true → ends_line more ≡ true → walk line (body ++ more) ≡ walk between more
 unfolding walk
@@ -16,7 +16,7 @@ line_body (c ∷ cs) more clean ends =
     let e : (c == 10) ≡ false = not-true (c == 10) parts.0 in
     rw e (line_body cs more parts.1 ends)
 
--- what a walk in a comment up to `*/` does, and behind a `*` in it
+-- what the scanner does in a block comment, and after a `*` in it
 abbrev Passes : List ℕ → List ℕ → List ℕ → Type 0
 Passes start body more =
     (walk (block start) (body ++ 42 ∷ 47 ∷ more) ≡ walk between more)
@@ -42,9 +42,9 @@ gap_walk (blank c more e b g) = ap (walk between) e ∙ rw b (gap_walk g)
 gap_walk (line_comment body more e clean ends g) = ap (walk between) e ∙ line_body body more clean ends ∙ gap_walk g
 gap_walk (block_comment body more e none g) = ap (walk between) e ∙ (block_body (47 ∷ 42 ∷ body ++ 42 ∷ 47 ∷ more) body more none).0 ∙ gap_walk g
 
--- ---- a walk goes over a gap
+-- ---- what the scanner passes is a gap
 
--- what a walk has gone over, from each spot
+-- what the scanner has passed, for each of its states
 pub record InLine (bytes rest : List ℕ) : Type 0 where
   pub body : List ℕ
   pub more : List ℕ
@@ -70,7 +70,7 @@ Walked (star start) bytes rest = (rest ≡ start) ⊎ InBlock (42 ∷ bytes) res
 line_more : (c : ℕ) (cs rest : List ℕ) → (c == 10) ≡ false → InLine cs rest → InLine (c ∷ cs) rest
 line_more c cs rest e w = record { body = c ∷ w.body; more = w.more; is = ap (λ (r : List ℕ). c ∷ r) w.is; clean = rw e w.clean; ends = w.ends; gap = w.gap }
 
--- the body goes on with a byte that isn't a `*`, or with a `*` before no slash
+-- the body continues with a byte other than `*`, or with a `*` that no slash follows
 block_more : (c : ℕ) (cs rest : List ℕ) → (c == 42) ≡ false → InBlock cs rest → InBlock (c ∷ cs) rest
 block_more c cs rest e w = record { body = c ∷ w.body; more = w.more; is = ap (λ (r : List ℕ). c ∷ r) w.is; none = rw e w.none; gap = w.gap }
 
@@ -136,7 +136,7 @@ walked (star start) (c ∷ cs) = elim (cases_Bool (c == 47)) as (λ _. (walk (st
 pub walk_gap : (bytes : List ℕ) → Gap bytes (walk between bytes)
 walk_gap bytes = walked between bytes
 
--- ---- a gap that ends where a walk stands still
+-- ---- a gap that ends where the scanner stops
 
 pub gap_le : {bytes rest : List ℕ} → Gap bytes rest → length rest ≤ length bytes
 gap_le (nothing e) = omega (arith, ap length e)
@@ -159,6 +159,6 @@ still_gap bytes rest still g = elim (gap_moves g) [
   | inr h ↦ absurd (omega (arith, ap length (sym still ∙ gap_walk g)))
 ]
 
--- a walk stands still where it has come
+-- the scanner stays where it stopped
 pub walk_still : (bytes : List ℕ) → walk between (walk between bytes) ≡ walk between bytes
 walk_still bytes = sym (gap_walk (walk_gap bytes))

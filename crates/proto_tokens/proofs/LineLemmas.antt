@@ -1,4 +1,4 @@
--- Line feeds: none stands in a token, and those before a place are counted piece by piece.
+-- Line feeds: a token contains none, and those before an offset are counted piece by piece.
 use Rattle.std.proofs.Common.{◌≡◌, ◌⊎◌, inl, inr, ℕ, ◌+◌, ◌-◌, ◌≤◌, ◌==◌, Bool, true, false, not, cond, ◌&&◌}
 use Rattle.std.proofs.Common.{List, [], ◌∷◌, ◌++◌, codes, take, drop, refl, arith, sym, ◌∙◌, ap}
 use Rattle.std.specs.Prelude.{count_by}
@@ -22,7 +22,7 @@ use Rattle.proto_tokens.proofs.NumberLemmas.{decimal_digits}
 abbrev pub is_feed : ℕ → Bool
 is_feed c = c == 10
 
--- ---- no line feed stands in a token
+-- ---- a token contains no line feed
 
 digit_feed : (c : ℕ) → is_decimal_digit c ≡ true → not (c == 10) ≡ true
 digit_feed c h = grind (arith, nat_tests)
@@ -119,7 +119,7 @@ clean_count (x ∷ xs) h =
     let n : ◌≡◌ {A = ℕ} (cond (x == 10) 1 0) 0 = rw e refl in
     sum_by-cons (λ c. cond (is_feed c) 1 0) x xs ∙ omega (arith, n, clean_count xs parts.1)
 
--- a front in two pieces
+-- a prefix in two pieces
 front_pieces : (text : List ℕ) (n m : ℕ) → take (n + m) text ≡ take n text ++ take m (drop n text)
 front_pieces text n m =
     sym (take-append-drop n (take (n + m) text)) ∙ ap (λ (x : List ℕ). x ++ drop n (take (n + m) text))

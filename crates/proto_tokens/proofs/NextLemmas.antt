@@ -1,4 +1,4 @@
--- The next token of a text: there is one, and no other.
+-- The next token of a text exists and is unique.
 use Rattle.std.proofs.Common.{subst, ◌≡◌, ◌≢◌, inl, inr, ℕ, zero, suc, ◌+◌, ◌-◌, ◌<◌, ◌≤◌, true, false, List, [], ◌∷◌}
 use Rattle.std.proofs.Common.{◌++◌, length, take, drop, refl, arith, sym, ◌∙◌, ap, length-append, length-drop}
 use Rattle.std.proofs.Common.{length-take}
@@ -18,7 +18,7 @@ use Rattle.proto_tokens.proofs.GapLemmas.{gap_walk, walk_gap, still_gap, walk_st
 use Rattle.proto_tokens.proofs.WordLemmas.{stands_word, word_stands, stands_still, stands_long}
 use Rattle.proto_tokens.proofs.LineLemmas.{stands_clean, line_same}
 
--- ---- what is made is the next token
+-- ---- the returned token is the next one
 
 pub stuck_at : (bytes : List ℕ) → walk between bytes ≡ bytes → bytes ≢ [] → word_at bytes ≡ None → IsStuck bytes
 stuck_at bytes still more none = record {
@@ -71,7 +71,7 @@ next_word text place start line w behind within gap l some =
       here = word (omega arith) (rw (lit, others) f.stands);
     }
 
--- ---- one token
+-- ---- the next token is unique
 
 parts_of : (text : List ℕ) (t : Token) → t.start ≤ t.end → drop t.start text ≡ literal_of text t ++ drop t.end text
 parts_of text t le =
@@ -141,7 +141,7 @@ one_token text place t u m n =
     let h = same_here text t u s m.within n.within m.here n.here in
     same_token t u h.0 s h.1 (m.line ∙ ap (line_at text) s ∙ sym n.line)
 
--- ---- there is one
+-- ---- the next token exists
 
 gap_front : {bytes rest : List ℕ} → Gap bytes rest → (front : List ℕ) × (bytes ≡ front ++ rest)
 gap_front (nothing e) = ([], e)
@@ -156,7 +156,7 @@ gap_front {rest = rest} (block_comment body more e none g) =
           ∙ ap (λ (x : List ℕ). 47 ∷ 42 ∷ x) (sym (append_assoc body (42 ∷ 47 ∷ f.0) rest)),
     )
 
--- the place at which the walk ends
+-- the offset where the scanner stops
 gap_place : (text : List ℕ) (place : ℕ) → place ≤ length text → (start : ℕ) × (place ≤ start) × (start ≤ length text)
     × (walk between (drop place text) ≡ drop start text)
 gap_place text place within =
@@ -184,7 +184,7 @@ next_exists text place within =
     let g = gap_place text place within in
     next_from text place g.0 g.1 g.2 g.3 (word_at (drop g.0 text)) refl
 
--- ---- a token that isn't the last goes on, in its line
+-- ---- a token that isn't the last has a byte and stays in its line
 
 last_word : (text : List ℕ) (t : Token) → is_last t.kind ≡ false → IsHere text t → (t.start ≤ t.end) × Stands t.kind (literal_of text t) (drop t.end text)
 last_word text t going (word le s) = (le, s)
@@ -201,7 +201,7 @@ keeps_line text place t n going =
     let s = last_word text t going n.here in
     line_same text t.start t.end s.0 (stands_clean s.1) ∙ sym n.line
 
--- ---- one list of tokens
+-- ---- the list of tokens exists and is unique
 
 same_lists : {text : List ℕ} {place : ℕ} {ts us : List Token} → AreTokens text place ts → AreTokens text place us → ts ≡ us
 same_lists {text = text} {place = place} (last t e n l) (last u f m k) = e ∙ ap (λ (x : Token). x ∷ []) (one_token text place t u n m) ∙ sym f

@@ -1,4 +1,4 @@
--- Numbers: what stands at the front of bytes is a number exactly where one is read.
+-- Numbers: the bytes start with a number exactly if the scanner reads one.
 use Rattle.std.proofs.Common.{subst, ◌≡◌, ◌⊎◌, inl, inr, ℕ, ◌+◌, ◌<◌, ◌≤◌, ◌==◌, Bool, true, false, not, ◌&&◌, ◌||◌}
 use Rattle.std.proofs.Common.{List, [], ◌∷◌, ◌++◌, length, take, drop, refl, arith, sym, ◌∙◌, ap, length-append}
 use Rattle.std.specs.Prelude.{Option, Some, None}
@@ -48,7 +48,7 @@ octal_digit c h = grind (arith, nat_tests)
 octal_glue : (c : ℕ) → is_octal_digit c ≡ true → is_glue c ≡ true
 octal_glue c h = digit_glue c (octal_digit c h)
 
--- the letter behind `0` in front of hexadecimal digits
+-- the letter between `0` and hexadecimal digits
 abbrev is_x : ℕ → Bool
 is_x c = c == 120 || c == 88
 
@@ -118,7 +118,7 @@ exponent_signed e s ds rest h sign some all stops =
     let n : length ds + 2 ≡ length (e ∷ s ∷ ds) = omega arith in
     rw (h, sign) (ap (unless_none 2) run ∙ unless_some 2 (length ds) (some_long ds some) ∙ n)
 
--- what holds of an exponent, or none, with what may follow a number behind it
+-- properties of an exponent, or of none, before bytes that may follow a number
 record Power (power rest : List ℕ) : Type 0 where
   pub long : exponent_len (power ++ rest) ≡ length power
   pub no_digit : begins is_decimal_digit (power ++ rest) ≡ false
@@ -175,7 +175,7 @@ pub decimal_digits : (whole : List ℕ) → is_decimal whole ≡ true → list_a
 decimal_digits [] h = refl
 decimal_digits (c ∷ cs) h = list_all_weaker is_ascii_digit is_decimal_digit ascii_digit (c ∷ cs) (and_parts (list_all is_ascii_digit (c ∷ cs)) (not (c == 48) || length cs == 0) h).0
 
--- a number that begins with decimal digits, without a leading zero, is read as a decimal one
+-- a number that starts with decimal digits, without a leading zero, is read as a decimal one
 unsplit_decimal : (whole tail : List ℕ) → is_decimal whole ≡ true → begins is_decimal_digit tail ≡ false
     → begins is_x tail ≡ false → unsplit_number_at (whole ++ tail) ≡ Some (decimal_at (whole ++ tail))
 unsplit_decimal [] tail h digit x = absurd (let t : false ≡ true = h in cc)
@@ -194,7 +194,7 @@ unsplit_decimal (c ∷ d ∷ ds) tail h digit x =
     let b : (c == 48 && is_decimal_digit d) ≡ false = and_left (c == 48) (is_decimal_digit d) z in
     rw (a, b) refl
 
--- a number is read where nothing is glued to it
+-- a number is read if nothing is glued to it
 split_ok : (literal rest : List ℕ) (w : Scanned) → unsplit_number_at (literal ++ rest) ≡ Some w → w.len ≡ length literal
     → begins is_glue rest ≡ false → number_at (literal ++ rest) ≡ Some w
 unfolding number_at
@@ -330,7 +330,7 @@ read_number rest (point whole part power is h all p) stops = rw is (read_point w
 read_number rest (fraction part power is some all p) stops = rw is (read_fraction part power rest some all (a_power rest p stops) stops)
 read_number rest (exponent whole power is h p) stops = rw is (read_exponent whole power rest h (exponent_long p) (some_power rest p stops) stops)
 
--- ---- what is read is a number
+-- ---- what the scanner reads is a number
 
 pub record Front (bytes : List ℕ) (w : Scanned) : Type 0 where
   pub literal : List ℕ
@@ -342,7 +342,7 @@ pub record Front (bytes : List ℕ) (w : Scanned) : Type 0 where
 none_some : {X : Type 0} (x : X) (o : Option X) → o ≡ None → o ≡ Some x → ⊥
 none_some x o a b = cc
 
--- digits of a base at the front, behind other bytes
+-- leading digits of a base, after other bytes
 integer_front : (base : ℕ) (p : ℕ → Bool) (bytes : List ℕ) (before : ℕ) (w : Scanned) → integer_of base bytes before (prefix_len p bytes) ≡ Some w
     → (digits rest : List ℕ) × (bytes ≡ digits ++ rest) × (w.len ≡ length digits + before)
     × (w.kind ≡ Integer (in_64_bits (digits_value base digits))) × (is_some digits ≡ true)
@@ -420,7 +420,7 @@ record Fraction_front (bytes : List ℕ) : Type 0 where
   pub is : bytes ≡ part ++ rest
   pub long : fraction_len bytes ≡ length part
   pub what : (part ≡ []) ⊎ ((digits : List ℕ) × (part ≡ 46 ∷ digits) × (list_all is_decimal_digit digits ≡ true))
-  -- digits behind a point are some
+  -- a point has a digit after it
   pub some : (cs : List ℕ) → bytes ≡ 46 ∷ cs → begins is_decimal_digit cs ≡ true
       → (digits : List ℕ) × (part ≡ 46 ∷ digits) × (list_all is_decimal_digit digits ≡ true) × (is_some digits ≡ true)
 
@@ -462,7 +462,7 @@ fraction_front (c ∷ cs) = elim (cases_Bool (c == 46)) [
 
 -- ---- decimal numbers
 
--- the first byte is a digit, no `0` before a digit, or a point before one
+-- the first byte is a digit, but no `0` before a digit, or a point before a digit
 abbrev pub Leads : ℕ → List ℕ → Type 0
 Leads c cs = ((is_decimal_digit c ≡ true) × (c ≡ 48 → begins is_decimal_digit cs ≡ false)) ⊎ ((c ≡ 46) × (begins is_decimal_digit cs ≡ true))
 
@@ -478,7 +478,7 @@ whole_decimal c (d ∷ ds) tail all zero =
     ] in
     and_from _ _ (list_all_weaker is_decimal_digit is_ascii_digit digit_ascii (c ∷ d ∷ ds) all) (or_left _ _ (not_from_false _ lead))
 
--- the parts of a decimal number at the front
+-- the parts of a leading decimal number
 record Parts (bytes : List ℕ) : Type 0 where
   pub whole : List ℕ
   pub part : List ℕ
@@ -542,7 +542,7 @@ parts_of c cs leads =
       whole_is = whole_part c cs leads r f;
     }
 
--- ---- the front of a decimal number
+-- ---- a decimal number at the start
 
 number_parts : (whole part power : List ℕ)
     → (part ≡ []) ⊎ ((digits : List ℕ) × (part ≡ 46 ∷ digits) × (list_all is_decimal_digit digits ≡ true))
@@ -657,7 +657,7 @@ split_front bytes (Some u) w e = elim (cases_Bool (begins is_glue (drop u.len by
       (ap Some same, ap (λ (v : Scanned). begins is_glue (drop v.len bytes)) (sym same) ∙ g)
 ]
 
--- a number that is read stands at the front, and nothing is glued to it
+-- the bytes start with the number that the scanner reads, and nothing is glued to it
 pub number_front : (c : ℕ) (cs : List ℕ) (w : Scanned) → Begins c cs → number_at (c ∷ cs) ≡ Some w → (f : Front (c ∷ cs) w) × (begins is_glue f.rest ≡ false)
 unfolding number_at
 number_front c cs w b e =

@@ -1,10 +1,10 @@
--- The longest front of which each byte passes.
+-- The longest prefix whose bytes all pass a test.
 use Rattle.std.proofs.Common.{◌≡◌, inl, inr, ℕ, suc, ◌+◌, ◌==◌, Bool, true, false, List, [], ◌∷◌, ◌++◌, length, refl, arith, sym, ◌∙◌, ap}
 use Rattle.std.specs.List.{list_all, list_any, prefix_len}
 use Rattle.std.proofs.lemmas.Bool.{eqb-true, cases_Bool, and_parts, and_from, or_cases}
 use Rattle.proto_tokens.specs.Gaps.{begins}
 
--- ---- a run and what stands behind it
+-- ---- a run and the bytes after it
 
 pub run_len : (p : ℕ → Bool) (ds rest : List ℕ) → list_all p ds ≡ true → begins p rest ≡ false → prefix_len p (ds ++ rest) ≡ length ds
 run_len p [] [] all stops = refl
@@ -59,7 +59,7 @@ list_all_append p (x ∷ xs) ys a b =
     let parts = and_parts (p x) (list_all p xs) a in
     and_from (p x) (list_all p (xs ++ ys)) parts.0 (list_all_append p xs ys parts.1 b)
 
--- a byte that is one of some bytes, each of which passes, passes
+-- a byte passes if it is one of several bytes that all pass
 pub one_of : (p : ℕ → Bool) (c : ℕ) (ms : List ℕ) → list_all p ms ≡ true → list_any (λ m. c == m) ms ≡ true → p c ≡ true
 one_of p c [] all any = absurd (let t : false ≡ true = any in cc)
 one_of p c (m ∷ ms) all any =

@@ -1,4 +1,4 @@
--- Strings: what stands up to the closing quote is the body of a string.
+-- Strings: the bytes up to the closing quote are the body of a string.
 use Rattle.std.proofs.Common.{◌≡◌, ◌≢◌, ◌⊎◌, inl, inr, ℕ, ◌+◌, ◌≤◌, ◌==◌, Bool, true, false, not, ◌&&◌, ◌||◌, List}
 use Rattle.std.proofs.Common.{[], ◌∷◌, ◌++◌, length, refl, arith, sym, ◌∙◌, ap, nat_le}
 use Rattle.std.specs.Prelude.{Option, Some, None, option_map}
@@ -12,7 +12,7 @@ use Rattle.proto_tokens.specs.Literals.{hexadecimal_escape, unicode_escape, wide
 use Rattle.proto_tokens.specs.Scanning.{is_escape, closes}
 use Rattle.proto_tokens.proofs.Closing.{front_quote, front_last, front_escape, front_no_escape, front_break, front_on}
 
--- ---- digits behind an escape are those of the body
+-- ---- digits after an escape belong to the body
 
 prefix_len_more : (p : ℕ → Bool) (xs ys : List ℕ) → prefix_len p xs ≤ prefix_len p (xs ++ ys)
 prefix_len_more p [] ys = omega arith
@@ -43,7 +43,7 @@ is_wide_more (a ∷ b ∷ c ∷ xs) ys h =
 quote_cases : (q : ℕ) → is_quote q ≡ true → (q ≡ 34) ⊎ (q ≡ 39)
 quote_cases q h = elim (or_cases (q == 34) (q == 39) h) [ inl e ↦ inl (eqb-true q 34 e) | inr e ↦ inr (eqb-true q 39 e) ]
 
--- what holds of both quotes
+-- what holds of both quotes holds of either
 at_quote : (P : ℕ → Bool) (b : Bool) (q : ℕ) → is_quote q ≡ true → P 34 ≡ b → P 39 ≡ b → P q ≡ b
 at_quote P b q h x y = elim (quote_cases q h) [ inl e ↦ rw e x | inr e ↦ rw e y ]
 
@@ -111,7 +111,7 @@ closes_body quote h (unicode_escape more e p b) rest =
 closes_body quote h (wide_escape more e p b) rest =
     rw e (read_escape quote 85 more rest h (is_wide_more more (quote ∷ rest) p) (closes_body quote h b rest))
 
--- ---- what is read is a body
+-- ---- what the scanner reads is a body
 
 pub record Body (quote : ℕ) (bytes : List ℕ) (n : ℕ) : Type 0 where
   pub body : List ℕ

@@ -1,11 +1,11 @@
--- A walk over blanks and comments, step by step.
+-- The scanner of blanks and comments, step by step.
 use Rattle.std.proofs.Common.{◌≡◌, ◌≢◌, ℕ, ◌+◌, ◌<◌, ◌≤◌, ◌==◌, true, false, cond, List, ◌∷◌, length, get_or, drop, refl, arith}
 use Rattle.std.proofs.lemmas.List.{drop_more, drop_all}
 use Rattle.std.proofs.lemmas.Bool.{ne_eqb}
 use Rattle.proto_tokens.specs.Gaps.{is_blank}
 use Rattle.proto_tokens.specs.Scanning.{between, slash, line, block, star, walk}
 
--- ---- in a comment up to the line's end
+-- ---- in a line comment
 
 pub line_on : (text : List ℕ) (i : ℕ) → i < length text → get_or text i 0 ≢ 10 → walk line (drop i text) ≡ walk line (drop (i + 1) text)
 unfolding walk
@@ -19,7 +19,7 @@ pub line_ends : (text : List ℕ) (i : ℕ) → length text ≤ i → walk line 
 unfolding walk
 line_ends text i h = rw (drop_all i text h) refl
 
--- ---- in a comment up to `*/`
+-- ---- in a block comment
 
 block_star : (start cs : List ℕ) (d : ℕ) → d ≢ 47 → walk (star start) (d ∷ cs) ≡ walk (block start) (d ∷ cs)
 unfolding walk
@@ -53,7 +53,7 @@ pub block_ends : (start text : List ℕ) (i : ℕ) → length text ≤ i → wal
 unfolding walk
 block_ends start text i h = rw (drop_all i text h) refl
 
--- ---- behind a slash
+-- ---- after a slash
 
 pub slash_last : (start text : List ℕ) (i : ℕ) → length text ≤ i → walk (slash start) (drop i text) ≡ start
 unfolding walk

@@ -1,4 +1,4 @@
--- The front of bytes: a token stands there exactly where one is read.
+-- The bytes start with a token exactly if the scanner reads one.
 use Rattle.std.proofs.Common.{◌≡◌, ◌⊎◌, inl, inr, ℕ, ◌+◌, ◌<◌, ◌==◌, Bool, true, false, not, ◌&&◌, ◌||◌, List, []}
 use Rattle.std.proofs.Common.{◌∷◌, ◌++◌, codes, length, refl, arith, sym, ◌∙◌, ap, length-append}
 use Rattle.std.specs.Prelude.{Option, Some, None}
@@ -93,7 +93,7 @@ reads_number literal rest s =
     let b = begins_with s.first s.others rest s.what in
     rw (s.is, begins_no_name s.first (s.others ++ rest) b, begins_is s.first (s.others ++ rest) b) refl
 
--- ---- what stands is read
+-- ---- a token is read
 
 read_name : (literal rest : List ℕ) → is_name_form literal ≡ true → begins is_name_byte rest ≡ false → word_at (literal ++ rest) ≡ Some (name_of (length literal))
 unfolding word_at
@@ -119,7 +119,7 @@ read_text quote body rest h b =
     let n : (length body + 1) + 1 ≡ length (quote ∷ body ++ quote ∷ []) = omega (arith, length-append body (quote ∷ [])) in
     word_quote quote ((body ++ quote ∷ []) ++ rest) h ∙ ap (λ (x : List ℕ). text_of (closes quote x)) same ∙ ap text_of (closes_body quote h b rest) ∙ word_is _ _ refl n
 
--- what no mark is
+-- a byte that starts no name, number, string, blank or line feed
 abbrev pub is_other : ℕ → Bool
 is_other c = not (is_name_start c) && (not (is_decimal_digit c) && (not (is_quote c) && (not (is_blank c) && not (c == 10))))
 
@@ -143,7 +143,7 @@ stands_word (number k h stops) = reads_number _ _ (starts_number h) ∙ read_num
 stands_word {rest = rest} (string quote body k h is b) = rw is (read_text quote body rest h b ∙ word_is _ _ (sym k) refl)
 stands_word {rest = rest} (mark c k is h stops) = rw is (read_mark c rest h stops ∙ word_is _ _ (sym k) refl)
 
--- ---- what is read stands
+-- ---- what the scanner reads is a token
 
 pub record Found (bytes : List ℕ) (w : Scanned) : Type 0 where
   pub literal : List ℕ
@@ -220,7 +220,7 @@ word_stands (c ∷ cs) w e = elim (cases_Bool (is_name_start c)) [
   ]
 ]
 
--- ---- a walk stands still before a token
+-- ---- the scanner of gaps stops before a token
 
 still_byte : (c : ℕ) (cs : List ℕ) → is_blank c ≡ false → (c == 47) ≡ false → walk between (c ∷ cs) ≡ c ∷ cs
 unfolding walk

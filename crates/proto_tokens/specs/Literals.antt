@@ -1,5 +1,5 @@
--- Numbers, strings and marks of a proto file (Protocol Buffers, proto3 language specification, "Lexical elements";
--- escapes as protoc reads them).
+-- Numbers, strings and punctuators of a proto file (Protocol Buffers, proto3 language specification, "Lexical
+-- elements"; escapes as protoc reads them).
 use Rattle.std.specs.Prelude.{◌≡◌, ◌⊎◌, ℕ, ◌==◌, nat_le, Bool, true, false, not, ◌&&◌, ◌||◌, List, [], ◌∷◌, ◌++◌, codes}
 use Rattle.std.specs.List.{list_all, list_any, prefix_len}
 use Rattle.std.specs.Char.{is_digit}
@@ -19,12 +19,12 @@ is_octal_digit c = is_digit c 8
 abbrev pub is_hexadecimal_digit : ℕ → Bool
 is_hexadecimal_digit c = is_digit c 16
 
--- at least one
+-- the list isn't empty
 abbrev pub is_some : List ℕ → Bool
 is_some [] = false
 is_some (c ∷ cs) = true
 
--- decimal digits without a leading zero; octal digits behind `0`; hexadecimal digits behind `0x` or `0X`
+-- decimal digits without a leading zero, octal digits after `0`, or hexadecimal digits after `0x` or `0X`
 pub data IsInteger (literal : List ℕ) (value : ℕ) : Type 0 where
   decimal : is_decimal literal ≡ true → value ≡ digits_value 10 literal → IsInteger literal value
   octal : (digits : List ℕ) → literal ≡ 48 ∷ digits → is_some digits ≡ true → list_all is_octal_digit digits ≡ true
@@ -38,7 +38,7 @@ is_exponent_letter c = c == 101 || c == 69
 abbrev pub is_sign : ℕ → Bool
 is_sign c = c == 43 || c == 45
 
--- `e` or `E`, a sign or none, and digits
+-- `e` or `E`, an optional sign, and digits
 pub data IsExponent (literal : List ℕ) : Type 0 where
   unsigned : (e : ℕ) (digits : List ℕ) → literal ≡ e ∷ digits → is_exponent_letter e ≡ true → is_some digits ≡ true
       → list_all is_decimal_digit digits ≡ true → IsExponent literal
@@ -54,7 +54,7 @@ pub data IsNumber (literal : List ℕ) : Type 0 where
   exponent : (whole power : List ℕ) → literal ≡ whole ++ power → is_decimal whole ≡ true → IsExponent power
       → IsNumber literal
 
--- what may not follow a number: a letter, a digit, `_` or a point
+-- what may not directly follow a number: a letter, a digit, `_` or a point
 abbrev pub is_glue : ℕ → Bool
 is_glue c = is_name_byte c || c == 46
 
@@ -63,7 +63,7 @@ is_glue c = is_name_byte c || c == 46
 abbrev pub is_quote : ℕ → Bool
 is_quote c = c == 34 || c == 39
 
--- what stands for itself: no quote of this sort, no backslash, no line feed and no NUL byte
+-- a byte that represents itself: no quote of this kind, backslash, line feed or NUL byte
 abbrev pub is_plain : ℕ → ℕ → Bool
 is_plain quote c = (not (c == quote) && not (c == 92)) && (not (c == 10) && not (c == 0))
 
@@ -71,7 +71,7 @@ is_plain quote c = (not (c == quote) && not (c == 92)) && (not (c == 10) && not 
 abbrev pub is_simple_escape : ℕ → Bool
 is_simple_escape c = list_any (λ e. c == e) (codes "abfnrtv\\?'\"")
 
--- this many hexadecimal digits stand here, at least
+-- the bytes start with at least this many hexadecimal digits
 abbrev pub has_digits : ℕ → List ℕ → Bool
 has_digits n bytes = nat_le n (prefix_len is_hexadecimal_digit bytes)
 
@@ -80,7 +80,7 @@ abbrev pub is_wide : List ℕ → Bool
 is_wide (a ∷ b ∷ c ∷ bytes) = (a == 48 && b == 48) && ((c == 48 || c == 49) && has_digits 5 bytes)
 is_wide _ = false
 
--- what may stand between two quotes of this sort; the digits of an escape stand for themselves here
+-- what may appear between two quotes of this kind; here the digits of an escape count as plain bytes
 pub data IsBody (quote : ℕ) : List ℕ → Type 0 where
   no_bytes : {body : List ℕ} → body ≡ [] → IsBody quote body
   plain : {body : List ℕ} (c : ℕ) (more : List ℕ) → body ≡ c ∷ more → is_plain quote c ≡ true → IsBody quote more
@@ -100,11 +100,11 @@ pub data IsBody (quote : ℕ) : List ℕ → Type 0 where
   wide_escape : {body : List ℕ} (more : List ℕ) → body ≡ 92 ∷ 85 ∷ more → is_wide more ≡ true → IsBody quote more
       → IsBody quote body
 
--- ---- marks
+-- ---- punctuators
 
 abbrev pub is_mark : ℕ → Bool
 is_mark c = list_any (λ m. c == m) (codes "=;{}()<>[],.-+:/")
 
--- a point that begins a number, or a slash that begins a comment
+-- the byte starts a longer token or a comment: a point before a digit, or a slash before `/` or `*`
 abbrev pub goes_on : ℕ → List ℕ → Bool
 goes_on c rest = (c == 46 && begins is_decimal_digit rest) || (c == 47 && begins (λ d. d == 47 || d == 42) rest)

@@ -1,4 +1,4 @@
--- The code's own: what stands at the front of bytes, by its first bytes.
+-- The code's own: the token at the start of a byte string, decided by its first bytes.
 use Rattle.std.specs.Prelude.{ℕ, ◌+◌, ◌==◌, Bool, not, ◌&&◌, ◌||◌, if◌then◌else◌, List, [], ◌∷◌, take, drop, Option}
 use Rattle.std.specs.Prelude.{Some, None, option_map}
 use Rattle.std.specs.List.{prefix_len}
@@ -14,8 +14,8 @@ use Rattle.proto_tokens.specs.declared.word.Scanned.{Scanned}
 
 -- ---- blanks and comments
 
--- where a walk is: between tokens, behind a slash, in a comment up to the line's end, in a comment up to `*/`, or
--- behind a `*` in it, with the bytes from the slash on
+-- where the scanner is: between tokens, after a slash, in a line comment, in a block comment, or after a `*` in one;
+-- with the bytes from the slash on
 pub data Spot : Type 0 where
   between : Spot
   slash : List ℕ → Spot
@@ -23,7 +23,7 @@ pub data Spot : Type 0 where
   block : List ℕ → Spot
   star : List ℕ → Spot
 
--- the bytes behind the blanks and comments at the front
+-- the remainder after the leading blanks and comments
 unfoldable pub walk : Spot → List ℕ → List ℕ
 walk between [] = []
 walk between (c ∷ cs) = if is_blank c then walk between cs else if c == 47 then walk (slash (c ∷ cs)) cs else c ∷ cs
@@ -102,7 +102,7 @@ is_escape c cs =
     (is_simple_escape c || is_octal_digit c)
     || ((c == 120 && has_digits 1 cs) || ((c == 117 && has_digits 4 cs) || (c == 85 && is_wide cs)))
 
--- how many bytes stand up to the closing quote, with it
+-- the number of bytes up to and including the closing quote
 unfoldable pub closes : ℕ → List ℕ → Option ℕ
 closes quote [] = None
 closes quote (c ∷ []) = if c == quote then Some 1 else None
@@ -116,7 +116,7 @@ abbrev pub text_of : Option ℕ → Option Scanned
 text_of None = None
 text_of (Some n) = Some (record { kind = Text; len = n + 1 })
 
--- ---- the front
+-- ---- the token at the start
 
 abbrev pub mark_at : ℕ → List ℕ → Option Scanned
 mark_at c cs = if is_mark c && not (goes_on c cs) then Some (record { kind = Mark c; len = 1 }) else None

@@ -1,5 +1,5 @@
--- What a string of a proto file stands for (Protocol Buffers, proto3 language specification, "String literals"; escapes
--- as protoc reads them).
+-- The values of the string literals of a proto file (Protocol Buffers, proto3 language specification, "String
+-- literals"; escapes as protoc reads them).
 use Rattle.std.specs.Prelude.{◌≢◌, ℕ, zero, suc, ◌+◌, ◌-◌, ◌*◌, ◌/◌, ◌%◌, ◌==◌, nat_lt, nat_le, min, Bool, false}
 use Rattle.std.specs.Prelude.{◌&&◌, if◌then◌else◌, List, [], ◌∷◌, ◌++◌, length, take, drop}
 use Rattle.std.specs.List.{prefix_len}
@@ -7,7 +7,7 @@ use Rattle.std.specs.Char.{is_digit, digit_char}
 use Rattle.std.specs.Str.Parse.{digits_value}
 use Rattle.proto_tokens.specs.Literals.{is_octal_digit}
 
--- the digits of a base at the front, n at most: how many there are, what they spell, and the bytes behind them
+-- the leading digits of a base, at most n: their count, the number they spell, and the bytes after them
 abbrev pub few : ℕ → ℕ → List ℕ → ℕ
 few base n bytes = min n (prefix_len (λ c. is_digit c base) bytes)
 
@@ -17,7 +17,7 @@ spelled base n bytes = digits_value base (take (few base n bytes) bytes)
 abbrev pub behind_digits : ℕ → ℕ → List ℕ → List ℕ
 behind_digits base n bytes = drop (few base n bytes) bytes
 
--- the UTF-8 bytes of a code point; of a number above the code points, the escape that spells it
+-- the UTF-8 bytes of a code point; for a number above the code points, the escape that spells it
 abbrev pub low_six : ℕ → ℕ
 low_six n = 128 + n % 64
 
@@ -34,7 +34,7 @@ utf8 n =
     ∷ hexadecimal_char (n / 1048576) ∷ hexadecimal_char (n / 65536) ∷ hexadecimal_char (n / 4096)
     ∷ hexadecimal_char (n / 256) ∷ hexadecimal_char (n / 16) ∷ hexadecimal_char n ∷ []
 
--- the first half of a UTF-16 pair, and `\u` with the second half
+-- a high surrogate of UTF-16, and the `\u` escape of a low one
 abbrev pub is_high : ℕ → Bool
 is_high n = nat_le 55296 n && nat_lt n 56320
 
@@ -48,7 +48,7 @@ is_low_escape _ = false
 abbrev pub joined : ℕ → ℕ → ℕ
 joined high low = 65536 + ((high - 55296) * 1024 + (low - 56320))
 
--- an escape, given the bytes behind its backslash: the bytes that it stands for, and those that stand behind it
+-- an escape, given the bytes after its backslash: its value, and the bytes after it
 pub record Escape : Type 0 where
   pub value : List ℕ
   pub behind : List ℕ
@@ -56,18 +56,18 @@ pub record Escape : Type 0 where
 abbrev pub is_pair : ℕ → List ℕ → Bool
 is_pair n behind = is_high n && is_low_escape behind
 
--- the code point n, joined with the second half of a pair where the bytes behind begin with one
+-- the code point n; a high surrogate followed by the escape of a low one forms one code point with it
 abbrev pub code_point : ℕ → List ℕ → Escape
 code_point n behind =
     if is_pair n behind
     then record { value = utf8 (joined n (spelled 16 4 (drop 2 behind))); behind = drop 6 behind }
     else record { value = utf8 n; behind = behind }
 
--- `\u` or `\U`, given the number of its digits
+-- a `\u` or `\U` escape, given its number of digits
 abbrev pub unicode_escape : ℕ → List ℕ → Escape
 unicode_escape most cs = code_point (spelled 16 most cs) (behind_digits 16 most cs)
 
--- `\a`, `\b`, `\f`, `\n`, `\r`, `\t` and `\v` are control bytes; every other byte stands for itself
+-- `\a`, `\b`, `\f`, `\n`, `\r`, `\t` and `\v` are control bytes; after a backslash every other byte represents itself
 abbrev pub simple_value : ℕ → ℕ
 simple_value c =
     if c == 97 then 7 else if c == 98 then 8 else if c == 102 then 12 else if c == 110 then 10
@@ -82,14 +82,14 @@ escape_of (c ∷ cs) =
     else if c == 85 then unicode_escape 8 cs
     else record { value = simple_value c ∷ []; behind = cs }
 
--- what the bytes between the quotes stand for: each byte for itself, but for a backslash, which begins an escape
+-- the value of the bytes between the quotes: each byte represents itself, but a backslash starts an escape
 pub data StandsFor : List ℕ → List ℕ → Type 0 where
   nothing : StandsFor [] []
   itself : (c : ℕ) (rest value : List ℕ) → c ≢ 92 → StandsFor rest value → StandsFor (c ∷ rest) (c ∷ value)
   escape : (rest value : List ℕ) → StandsFor (escape_of rest).behind value
       → StandsFor (92 ∷ rest) ((escape_of rest).value ++ value)
 
--- the same as a function, where the first n bytes still belong to an escape
+-- the value as a function; the first n bytes belong to an escape that was already read
 unfoldable pub value_behind : ℕ → List ℕ → List ℕ
 value_behind n [] = []
 value_behind (suc n) (c ∷ cs) = value_behind n cs

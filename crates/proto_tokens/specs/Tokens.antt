@@ -9,7 +9,7 @@ use Rattle.proto_tokens.specs.declared.token.Kind.{Kind}
 use Rattle.proto_tokens.specs.declared.token.Kind.TheVariants.{Identifier, Integer, Number, Text, Mark, End, Bad}
 use Rattle.proto_tokens.specs.declared.token.Token.{Token}
 
--- a literal, with the rest behind it, is a token of this kind, the longest one
+-- a literal is a token of this kind, the longest one, and the remainder follows it
 pub data Stands (kind : Kind) (literal rest : List ℕ) : Type 0 where
   identifier : kind ≡ Identifier → is_name_form literal ≡ true → begins is_name_byte rest ≡ false
       → Stands kind literal rest
@@ -21,7 +21,7 @@ pub data Stands (kind : Kind) (literal rest : List ℕ) : Type 0 where
   mark : (c : ℕ) → kind ≡ Mark c → literal ≡ c ∷ [] → is_mark c ≡ true → goes_on c rest ≡ false
       → Stands kind literal rest
 
--- at the front of these bytes stands no token, no blank and no comment
+-- neither a token nor a blank nor a comment starts here
 pub record IsStuck (bytes : List ℕ) : Type 0 where
   pub more : bytes ≢ []
   pub no_gap : (rest : List ℕ) → Gap bytes rest → rest ≡ bytes
@@ -31,17 +31,17 @@ pub record IsStuck (bytes : List ℕ) : Type 0 where
 abbrev pub literal_of : List ℕ → Token → List ℕ
 literal_of text t = take (t.end - t.start) (drop t.start text)
 
--- the line of a place: 1, and one more for each line feed before it
+-- the line of an offset: 1, plus the number of line feeds before it
 abbrev pub line_at : List ℕ → ℕ → ℕ
 line_at text place = 1 + count_by (λ c. c == 10) (take place text)
 
--- what stands where t starts
+-- what starts at the offset of t: a token, the end of the text, or neither
 pub data IsHere (text : List ℕ) (t : Token) : Type 0 where
   word : t.start ≤ t.end → Stands t.kind (literal_of text t) (drop t.end text) → IsHere text t
   the_end : t.kind ≡ End → t.start ≡ length text → t.end ≡ length text → IsHere text t
   no_word : t.kind ≡ Bad → t.end ≡ t.start + 1 → IsStuck (drop t.start text) → IsHere text t
 
--- t is the first token from a place of a text on
+-- t is the first token at or after an offset
 pub record IsNext (text : List ℕ) (place : ℕ) (t : Token) : Type 0 where
   pub behind : place ≤ t.start
   pub within : t.end ≤ length text
@@ -49,13 +49,13 @@ pub record IsNext (text : List ℕ) (place : ℕ) (t : Token) : Type 0 where
   pub line : t.line ≡ line_at text t.start
   pub here : IsHere text t
 
--- no token follows the end, or a place at which none stands
+-- no token follows the end of the text or an offset where no token starts
 abbrev pub is_last : Kind → Bool
 is_last End = true
 is_last Bad = true
 is_last _ = false
 
--- the tokens of a text from a place on
+-- the tokens of a text from an offset on
 pub data AreTokens (text : List ℕ) : ℕ → List Token → Type 0 where
   last : {place : ℕ} {ts : List Token} (t : Token) → ts ≡ t ∷ [] → IsNext text place t → is_last t.kind ≡ true
       → AreTokens text place ts

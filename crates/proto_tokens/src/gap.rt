@@ -1,4 +1,4 @@
-//! What stands between two tokens: blanks and comments.
+//! The gaps between tokens: blanks and comments.
 
 ghost use Rattle.std.specs.Prelude.{◌≡◌, ◌≤◌, ◌<◌, ◌==◌, ◌+◌, ℕ, List, length, drop, MatchOption, IfSome};
 ghost use Rattle.proto_tokens.specs.Gaps.{is_blank};
@@ -10,7 +10,7 @@ fn is_blank(byte: u8) -> bool
     byte == b' ' || (byte >= 9 && byte <= 13)
 }
 
-// The place of the first line feed from a place on, or the end of the text.
+// The offset of the first line feed at or after `at`, or the length of the text.
 #[tactic(auto, using(crate::proofs::Walks::line_on, crate::proofs::Walks::line_stops, crate::proofs::Walks::line_ends))]
 fn line_end(text: &[u8], at: usize) -> usize
     requires { at ≤ length text.now }
@@ -24,7 +24,7 @@ fn line_end(text: &[u8], at: usize) -> usize
     i
 }
 
-// The place behind the first `*/` from a place on.
+// The offset just after the first `*/` at or after `at`; `None` if there is none.
 #[tactic(auto, using(crate::proofs::Walks::block_lemmas))]
 fn block_end(text: &[u8], at: usize) -> Option<usize>
     requires { at ≤ length text.now }
@@ -42,7 +42,7 @@ fn block_end(text: &[u8], at: usize) -> Option<usize>
     None
 }
 
-// The place behind the comment that begins with the slash at a place.
+// The offset just after the comment that starts with the slash at `at`; `None` if no comment starts there.
 #[tactic(auto, using(crate::proofs::Walks::slash_lemmas))]
 fn comment_end(text: &[u8], at: usize) -> Option<usize>
     requires { at < length text.now }
@@ -60,7 +60,7 @@ fn comment_end(text: &[u8], at: usize) -> Option<usize>
     }
 }
 
-// The place behind the blanks and comments from a place on.
+// The offset just after the blanks and comments at `at`.
 #[tactic(auto, using(crate::proofs::Walks::between_lemmas))]
 pub(crate) fn gap_end(text: &[u8], at: usize) -> usize
     requires { at ≤ length text.now }

@@ -1,9 +1,10 @@
 //! The tokens of a proto file (Protocol Buffers, proto3 language specification, "Lexical elements").
 //!
-//! [`next_token`] gives the first token from a place of a text on. Blanks and comments stand between tokens and are
-//! none. `specs/Tokens.antt` says what a token is, with one case for each sort, and `specs/Gaps.antt` what may stand
-//! between two. It stands on `mrpc_table`, for names and numbers. The layer above uses one contract: a text has one
-//! list of tokens, whose last one is its end or the first place at which no token stands.
+//! [`next_token`] returns the first token at or after an offset of a text. Blanks and comments separate tokens and
+//! are not tokens themselves. `specs/Tokens.antt` defines tokens, with one case for each kind, and `specs/Gaps.antt`
+//! defines what may separate two of them. The crate uses `mrpc_table` for names and numbers. The layer above relies
+//! on one contract: a text has exactly one list of tokens, whose last one is its end or the first offset where no
+//! token starts.
 #![tactic(auto)]
 
 mod gap;

@@ -13,9 +13,9 @@ fn line_feeds(bytes: &[u8]) -> usize
     bytes.iter().filter(|byte| **byte == b'\n').count()
 }
 
-/// The first token from a place of a text on, given the line of that place. Behind its last byte the line is still the
-/// token's, so that the next one can be asked for there; behind the end of the text, or a place at which no token
-/// stands, none follows. It takes time in proportion to the bytes up to its end.
+/// Returns the first token at or after `place`, given the line of that offset. A token doesn't contain a line feed,
+/// so a caller passes `end` and `line` of one token to ask for the next. No token follows `End` or `Bad`. Takes time
+/// proportional to the bytes from `place` to the token's end.
 pub fn next_token(text: &[u8], place: usize, line: u64) -> Token
     requires within { place ≤ length text.now }
     requires line { line ≡ line_at text.now place }

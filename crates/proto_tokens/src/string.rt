@@ -1,4 +1,4 @@
-//! What strings stand for.
+//! The values of string literals.
 
 ghost use Rattle.std.specs.Prelude.{◌≡◌, ◌≤◌, ◌<◌, ◌+◌, ◌-◌, ◌^◌, ◌++◌, true, length, drop, IfOk, OnOk};
 ghost use Rattle.std.specs.List.{prefix_len};
@@ -11,7 +11,7 @@ use crate::word::{digits_len, is_digit};
 use mrpc_table::{Bytes, Memory, number_capped};
 use std::alloc::Global;
 
-// How many digits stand at the front, `most` at most.
+// The number of leading digits of a base, at most `most`.
 fn few(bytes: &[u8], base: u8, most: usize) -> usize
     ensures value { result ≡ few base most bytes.now }
     ensures bound { result ≤ length bytes.now }
@@ -19,7 +19,7 @@ fn few(bytes: &[u8], base: u8, most: usize) -> usize
     digits_len(bytes, base).min(most)
 }
 
-// The number that the digits at the front spell, `most` digits at most.
+// The number that the leading digits spell, at most `most` digits.
 #[tactic(auto, using(crate::proofs::Spelled::spelled_small))]
 fn spelled(bytes: &[u8], base: u8, most: usize) -> u32
     requires base { base ≤ 16 }
@@ -44,7 +44,7 @@ fn hexadecimal_char(number: u32) -> u8
     if digit < 10 { 48 + digit } else { 87 + digit }
 }
 
-// Appends the escape of a number above the code points.
+// Appends the escape of a number above the largest code point.
 fn push_escaped(out: &mut Bytes, number: u32) -> Result<(), Memory>
     requires { 1114112 ≤ number }
     ensures { OnOk result (out.new ≡ out.old ++ utf8 number) }
@@ -111,7 +111,7 @@ fn is_high(number: u32) -> bool
     number >= 55296 && number < 56320
 }
 
-// Whether a number and the escape behind it are the two halves of a pair.
+// True if a number and the escape after it form a surrogate pair.
 fn is_pair(number: u32, behind: &[u8]) -> bool
     ensures value { result ≡ is_pair number behind.now }
     ensures long { result ≡ true → 6 ≤ length behind.now }
@@ -120,7 +120,7 @@ fn is_pair(number: u32, behind: &[u8]) -> bool
     is_high(number) && is_low_escape(behind)
 }
 
-// The number of the second half of a pair.
+// The low half of a surrogate pair.
 fn low_half(behind: &[u8]) -> u32
     requires { is_low_escape behind.now ≡ true }
     ensures value { result ≡ spelled 16 4 (drop 2 behind.now) }
@@ -132,8 +132,8 @@ fn low_half(behind: &[u8]) -> u32
     }
 }
 
-// Appends the bytes of a code point, joined with the second half of a pair where the bytes behind begin with one.
-// Gives how many of these belong to it.
+// Appends the UTF-8 bytes of a code point. If `number` is a high surrogate and an escape of a low one follows, both
+// form one code point. Returns how many bytes of that escape were used.
 fn push_code_point(out: &mut Bytes, number: u32, behind: &[u8]) -> Result<usize, Memory>
     ensures value { OnOk result (out.new ≡ out.old ++ (code_point number behind.now).value) }
     ensures rest { IfOk result (λ n. drop n behind.now ≡ (code_point number behind.now).behind) }
@@ -149,7 +149,7 @@ fn push_code_point(out: &mut Bytes, number: u32, behind: &[u8]) -> Result<usize,
     }
 }
 
-// Appends what `\u` or `\U` stands for, given the number of its digits. Gives how many bytes belong to it.
+// Appends the value of a `\u` or `\U` escape, given its number of digits. Returns how many bytes it takes.
 fn push_unicode(out: &mut Bytes, digits: &[u8], most: usize) -> Result<usize, Memory>
     requires small { length digits.now < 2 ^ 62 }
     requires most { most ≤ 8 }
@@ -177,7 +177,7 @@ fn simple_value(byte: u8) -> u8
     }
 }
 
-// Appends what the escape behind a backslash stands for, and gives the number of its bytes.
+// Appends the value of the escape after a backslash. Returns how many bytes it takes.
 #[tactic(auto, using(crate::proofs::Escapes::escapes))]
 fn push_escape(out: &mut Bytes, behind: &[u8]) -> Result<usize, Memory>
     requires { length behind.now < 2 ^ 62 }
@@ -204,7 +204,7 @@ fn push_escape(out: &mut Bytes, behind: &[u8]) -> Result<usize, Memory>
     }
 }
 
-/// What a string stands for, given its bytes with the quotes. It takes time in proportion to them.
+/// Returns the value of a string literal, given its bytes with the quotes. Takes time proportional to its length.
 pub fn string_value(alloc: Global, literal: &[u8]) -> Result<Bytes, Memory>
     requires two { 2 ≤ length literal.now }
     requires small { length literal.now < 2 ^ 62 }

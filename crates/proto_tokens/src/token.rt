@@ -1,34 +1,34 @@
-//! What a token is.
+//! Tokens and their kinds.
 
 use mrpc_table::Decimal;
 
-/// The sort of a token.
+/// The kind of a token.
 #[derive(Clone, Copy, PartialEq, Eq)]
 pub enum Kind {
-    /// A letter or `_`, and then letters, digits and `_`.
+    /// A letter or `_`, followed by letters, digits and `_`.
     Identifier,
-    /// A number in decimal, in octal behind `0`, or in hexadecimal behind `0x`.
+    /// An integer: decimal, octal after `0`, or hexadecimal after `0x`.
     Integer(Decimal),
-    /// A number with a point or an exponent.
+    /// A number with a decimal point or an exponent.
     Number,
-    /// A string in quotes.
+    /// A quoted string.
     Text,
-    /// One of `= ; { } ( ) < > [ ] , . - + : /`.
+    /// A punctuator: one of `= ; { } ( ) < > [ ] , . - + : /`.
     Mark(u8),
     /// The end of the text.
     End,
-    /// A place at which no token stands.
+    /// An offset where no token starts.
     Bad,
 }
 
-/// A token, and where it stands.
+/// A token and its position in the text.
 #[derive(Clone, Copy)]
 pub struct Token {
     pub kind: Kind,
-    /// The place of its first byte, from 0; at the end of the text the number of bytes.
+    /// The offset of its first byte, from 0. For `End`, the length of the text.
     pub start: usize,
-    /// The place behind its last byte; where no token stands, the place behind the first byte that is at fault.
+    /// The offset just after its last byte. For `Bad`, just after the first byte at fault.
     pub end: usize,
-    /// The line in which it starts: 1, and one more for each line feed before it.
+    /// The line in which it starts: 1, plus the number of line feeds before it.
     pub line: u64,
 }

@@ -1,4 +1,4 @@
-//! What stands at the front of bytes: a token of the text that isn't its end.
+//! The token at the start of a byte string, other than the end of the text.
 
 ghost use Rattle.std.specs.Prelude.{◌≡◌, ◌≤◌, ◌<◌, ◌==◌, ◌+◌, ◌^◌, ◌∷◌, ℕ, List, length, drop, take, Some, None};
 ghost use Rattle.std.specs.Prelude.{MatchOption, IfSome};
@@ -15,7 +15,7 @@ ghost use Rattle.proto_tokens.specs.Scanning.{begins_number, mark_at, number_at,
 use crate::token::Kind;
 use mrpc_table::{decimal_of, digit_value, is_name_byte, is_name_start};
 
-// A token that was scanned at the front of bytes: its sort and how many bytes it has.
+// A scanned token: its kind and its length in bytes.
 #[derive(Clone, Copy)]
 pub(crate) struct Scanned {
     pub kind: Kind,
@@ -33,14 +33,14 @@ fn name_len(bytes: &[u8]) -> usize
     i
 }
 
-// Whether a byte is a digit of a base.
+// True if a byte is a digit of a base.
 pub(crate) fn is_digit(byte: u8, base: u8) -> bool
     ensures { result ≡ is_digit byte base }
 {
     digit_value(byte) < base
 }
 
-// How many digits of a base stand at the front.
+// The number of leading digits of a base.
 pub(crate) fn digits_len(bytes: &[u8], base: u8) -> usize
     ensures value { result ≡ prefix_len (λ c. is_digit c base) bytes.now }
     ensures bound { result ≤ length bytes.now }
@@ -52,7 +52,7 @@ pub(crate) fn digits_len(bytes: &[u8], base: u8) -> usize
     i
 }
 
-// The integer whose digits stand behind `0x`.
+// The integer with these hexadecimal digits, which follow `0x`.
 fn hexadecimal_behind(digits: &[u8]) -> Option<Scanned>
     requires { length digits.now < 2 ^ 63 }
     ensures value { result ≡ hexadecimal_behind digits.now }
@@ -68,7 +68,7 @@ fn hexadecimal_behind(digits: &[u8]) -> Option<Scanned>
     })
 }
 
-// The integer whose digits stand behind `0`.
+// The integer with these octal digits, which follow `0`.
 fn octal_behind(digits: &[u8]) -> Option<Scanned>
     requires { length digits.now < 2 ^ 63 }
     ensures value { result ≡ octal_behind digits.now }
@@ -113,14 +113,14 @@ fn exponent_len(bytes: &[u8]) -> usize
     }
 }
 
-// Whether hexadecimal digits have to stand behind these two bytes.
+// True if hexadecimal digits must follow these two bytes.
 fn begins_hexadecimal(first: u8, second: u8) -> bool
     ensures { result ≡ begins_hexadecimal first second }
 {
     first == b'0' && (second == b'x' || second == b'X')
 }
 
-// The number at the front, without a look behind it.
+// The leading number, without a check of the byte after it.
 fn decimal_at(bytes: &[u8]) -> Scanned
     requires { length bytes.now < 2 ^ 63 }
     ensures value { result ≡ decimal_at bytes.now }
@@ -168,7 +168,7 @@ fn is_glue(byte: u8) -> bool
 }
 
 #[tactic(auto, unfolding(crate::specs::Scanning::number_at))]
-// The number at the front, unless a letter, a digit, `_` or a point stands right behind it.
+// The leading number; `None` if a letter, a digit, `_` or a point follows it directly.
 fn number_at(bytes: &[u8]) -> Option<Scanned>
     requires { length bytes.now < 2 ^ 63 }
     ensures value { result ≡ number_at bytes.now }
@@ -205,7 +205,7 @@ fn is_wide(bytes: &[u8]) -> bool
     }
 }
 
-// Whether a backslash, this byte and those behind it begin with an escape.
+// True if a backslash followed by these bytes starts an escape.
 fn is_escape(byte: u8, behind: &[u8]) -> bool
     ensures { result ≡ is_escape byte behind.now }
 {
@@ -216,7 +216,7 @@ fn is_escape(byte: u8, behind: &[u8]) -> bool
         || (byte == b'U' && is_wide(behind))
 }
 
-// How many bytes stand up to the closing quote, with it.
+// The number of bytes up to and including the closing quote.
 #[tactic(auto, using(crate::proofs::Closing::closing))]
 fn closes(quote: u8, bytes: &[u8]) -> Option<usize>
     requires { length bytes.now < 2 ^ 63 }
@@ -287,7 +287,7 @@ fn goes_on(byte: u8, behind: &[u8]) -> bool
     }
 }
 
-// Whether a byte, with those behind it, begins a number: a digit, or a point before one.
+// True if a number starts with this byte: it is a digit, or a point before one.
 fn begins_number(first: u8, behind: &[u8]) -> bool
     ensures { result ≡ begins_number first behind.now }
 {
@@ -313,7 +313,7 @@ fn is_quote(byte: u8) -> bool
     byte == b'"' || byte == b'\''
 }
 
-// The token at the front of bytes, if one stands there. It takes time in proportion to the token.
+// The token at the start of the bytes, if one starts there. Takes time proportional to its length.
 #[tactic(auto, unfolding(crate::specs::Scanning::word_at))]
 pub(crate) fn word_at(bytes: &[u8]) -> Option<Scanned>
     requires { length bytes.now < 2 ^ 63 }

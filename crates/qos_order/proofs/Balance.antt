@@ -21,7 +21,7 @@ counted_ending weight visits rounds kept dropped given Shut balanced fits =
     let within = fits.within in
     record { all = omega (arith, balanced.all); most = omega (arith, balanced.most) }
 
--- one visit more keeps the balance
+-- one more visit keeps the balance
 pub visited_balanced : (weight : ℕ) (account : Account) (visit : Visit) → IsBalanced weight account
     → Fits (granted weight account.kept) visit → IsBalanced weight (visited weight account visit)
 visited_balanced weight account visit balanced fits = elim (bool_cases (nat_lt account.visits (2 ^ 40))) [

@@ -19,7 +19,7 @@ use Rattle.qos_order.specs.declared.account.Account.{Account}
 use Rattle.qos_order.specs.declared.account.Ending.TheVariants.{Given}
 use Rattle.qos_order.specs.declared.seat.Seat.{Seat}
 
--- a connection had so many visits since the wheel was as at first, each given whole
+-- a connection has had this many visits since the first wheel, each with its whole grant
 pub record Gained (wheel now : WheelState) (conn visits : ℕ) : Type 0 where
   pub was : Seat
   pub is : Seat
@@ -30,7 +30,7 @@ pub record Gained (wheel now : WheelState) (conn visits : ℕ) : Type 0 where
   pub count : is.account.visits ≡ was.account.visits + visits
   pub rounds : is.account.rounds ≡ was.account.rounds + was.weight * visits
 
--- of those on the wheel the ones in front had so many visits, and the others one more
+-- of the connections on the wheel, those in the prefix have had this many visits, and the others one more
 pub record IsEven (wheel now : WheelState) (visits : ℕ) (front back : List ℕ) : Type 0 where
   pub order : now.order ≡ front ++ back
   pub less : All (λ conn. Gained wheel now conn visits) front
@@ -43,7 +43,7 @@ first_once n ns m once there same =
     let apart = apart_from_distinct nat_eq (n ∷ ns) 0 (suc there.0) m once (omega arith) (omega (arith, there.1)) in
     eqb-false n (get_or ns there.0 m) apart (same ∙ sym there.2)
 
--- a turn of another connection leaves what one gained
+-- a turn of another connection doesn't change what one gained
 gained_aside : (wheel now : WheelState) (turn : Turn) (first : ℕ) (others : List ℕ) (conn visits : ℕ)
     → now.order ≡ first ∷ others → first ≢ conn → Gained wheel now conn visits
     → Gained wheel (turned now turn) conn visits
@@ -126,7 +126,7 @@ to_end : (first : ℕ) (others : List ℕ) (conn : ℕ) → Contains (first ∷ 
 to_end first others conn there = Contains-permutation (first ∷ others) (others ++ first ∷ []) conn
     (IsPermutation-sym (others ++ first ∷ []) (first ∷ others) (IsPermutation-to_front others first)) there
 
--- a turn of one of those in front
+-- a turn of a connection in the prefix
 turn_in_front : (wheel now : WheelState) (turn : Turn) (visits first : ℕ) (front back : List ℕ) → IsWheel now
     → IsWhole now turn → IsEven wheel now visits (first ∷ front) back
     → IsEven wheel (turned now turn) visits front (back ++ first ∷ [])
@@ -143,7 +143,7 @@ turn_in_front wheel now turn visits first front back sound whole even =
       stay = λ conn there. rw (append_assoc front back (first ∷ [])) at (to_end first (front ++ back) conn (even.stay conn there));
     }
 
--- all have one visit more: those behind are in front again
+-- all have had one more visit: those of the suffix form the prefix again
 around : (wheel now : WheelState) (visits : ℕ) (back : List ℕ) → IsEven wheel now visits [] back → IsEven wheel now (visits + 1) back []
 around wheel now visits back even = record {
   order = even.order ∙ sym (append-nil back);
@@ -209,7 +209,7 @@ stretch_even wheel turns sound nothing whole = turns_even wheel wheel turns soun
   };
 })
 
--- what one on the wheel gained: so many visits, or one more
+-- what a connection on the wheel gained: this many visits, or one more
 gained_of : (wheel now : WheelState) (even : AreEven wheel now) (conn : ℕ) → Contains wheel.order conn → Gained wheel now conn even.visits ⊎ Gained wheel now conn (even.visits + 1)
 gained_of wheel now even conn there = elim (Contains-append_cases even.front even.back conn (even.even.stay conn there)) [
   | inl front ↦ inl (All-contains (λ c. Gained wheel now c even.visits) even.front conn even.even.less front)

@@ -1,4 +1,4 @@
--- Sorting a list of weights by its halves: which faults of the halves are those of the whole.
+-- Sorting a list of weights by halves: which faults of the halves are faults of the whole.
 use Rattle.std.proofs.Common.{◌≡◌, ℕ, zero, suc, ◌<◌, ◌≤◌, false, is_some, List, [], ◌∷◌, ◌++◌, length, get_or, take}
 use Rattle.std.proofs.Common.{drop, slice_get, refl, ap, sym, ◌∙◌, arith, inl, inr, subst, append_assoc, None}
 use Rattle.std.proofs.Common.{option_map, IfSome, length-append, drop-cons}
@@ -20,7 +20,7 @@ use Rattle.qos_order.specs.declared.weights.Weight.{Weight}
 use Rattle.qos_order.specs.declared.weights.WeightFault.{WeightFault}
 use Rattle.qos_order.specs.declared.weights.WeightFault.TheVariants.{Range, Twice}
 
--- no connection of the second list stands in the first
+-- no connection of the second list is in the first
 pub record AreApart (xs ys : List Weight) : Type 0 where
   pub apart : All (λ w. ¬ Contains (conns_of xs) w.conn) ys
 
@@ -49,7 +49,7 @@ apart-front xs ys zs apart = record { apart = λ k d within. rw (sym (get-front 
     get-front (y ∷ ys) zs zero d within = refl
     get-front (y ∷ ys) zs (suc k) d within = get-front ys zs k d (omega arith)
 
--- what is apart from a list is apart from it in another order
+-- a list that shares no connection with another shares none with its permutations
 pub apart-moved : (xs zs ys : List Weight) → IsPermutation xs zs → AreApart zs ys → AreApart xs ys
 apart-moved xs zs ys moved apart =
     record {
@@ -58,7 +58,7 @@ apart-moved xs zs ys moved apart =
           (IsPermutation-map (λ w. w.conn) xs zs moved) there);
     }
 
--- a fault of the front is one of the whole
+-- a fault of the prefix is a fault of the whole
 pub fault-append : (xs ys : List Weight) (fault : WeightFault) → IsFirstFault xs fault → IsFirstFault (xs ++ ys) fault
 fault-append xs ys fault first = record {
   before = first.before;
@@ -69,7 +69,8 @@ fault-append xs ys fault first = record {
   there = first.there;
 }
 
--- a doubled connection of the second part is one of the whole, where the first part is sound and apart from it
+-- a repeated connection of the second half is one of the whole, if the first half is valid and shares no connection
+-- with it
 pub twice-behind : (xs ys : List Weight) (conn : ℕ) → IsSound xs → AreApart xs ys → IsFirstFault ys (Twice conn) → IsFirstFault (xs ++ ys) (Twice conn)
 twice-behind xs ys conn sound apart first = record {
   before = xs ++ first.before;
@@ -80,7 +81,7 @@ twice-behind xs ys conn sound apart first = record {
   there = (first.there.0, first.there.1, rw (conns-append xs first.before) (Contains-append_right (conns_of xs) (conns_of first.before) conn first.there.2));
 }
 
--- an entry behind that stands in the first part
+-- a later entry whose connection is in the first half
 pub twice-met : (xs ys : List Weight) (w : Weight) (more : List Weight) → IsSound (xs ++ ys) → IsWeight w.weight
     → Contains (conns_of xs) w.conn → IsFirstFault (xs ++ (ys ++ w ∷ more)) (Twice w.conn)
 twice-met xs ys w more sound ranged there = record {
@@ -92,7 +93,7 @@ twice-met xs ys w more sound ranged there = record {
   there = (refl, ranged, rw (conns-append xs ys) (Contains-append_left (conns_of xs) (conns_of ys) w.conn there));
 }
 
--- the state after the front half was sorted
+-- the state after the first half was sorted
 pub record Halved (entries front back : List Weight) : Type 0 where
   pub unsorted : List Weight
   pub split : entries ≡ unsorted ++ back
@@ -126,11 +127,11 @@ ranged-back : (entries front back : List Weight) → Halved entries front back �
 ranged-back entries front back state ranged =
     All-behind (λ w. IsWeight w.weight) state.unsorted back (subst (λ (xs : List Weight). All (λ w. IsWeight w.weight) xs) state.split ranged)
 
--- all entries behind are in range where all are
+-- all entries of the suffix are in range if all entries are
 pub ranged_behind : (entries front back : List Weight) (n : ℕ) → Halved entries front back → All (λ w. IsWeight w.weight) entries → All (λ w. IsWeight w.weight) (take n back)
 ranged_behind entries front back n state ranged = All-take (λ w. IsWeight w.weight) n back (ranged-back entries front back state ranged)
 
--- the second part has a connection twice
+-- the second half has a connection twice
 pub twice_in_back : (entries front back : List Weight) (n conn : ℕ) → Halved entries front back
     → AreApart front (take n back) → IsFirstFault (take n back) (Twice conn) → IsFirstFault entries (Twice conn)
 twice_in_back entries front back n conn state apart first =
@@ -159,7 +160,7 @@ met_entry entries front back n state ranged apart sound w there within at =
     (take-append-drop n back) ∙ sym state.split in
     subst (λ (xs : List Weight). IsFirstFault xs (Twice w.conn)) same known
 
--- an entry of the second part stands in the first
+-- an entry of the second half has a connection of the first
 pub twice_met : (entries front back : List Weight) (n : ℕ) → Halved entries front back
     → All (λ w. IsWeight w.weight) entries → AreApart front (take n back) → IsSound (take n back)
     → IfSome (slice_get back n) (λ w. Contains (conns_of front) w.conn) → IfSome (option_map (λ w. w.conn) (slice_get back n)) (λ conn. IsFirstFault entries (Twice conn))
@@ -168,7 +169,7 @@ twice_met entries front back n state ranged apart sound met = elim ((slice_get_c
   | inr past ↦ rw past.1 tt
 ]
 
--- nothing of the second part stands in the first
+-- no entry of the second half has a connection of the first
 pub whole_sound : (entries front back : List Weight) (n : ℕ) → Halved entries front back
     → AreApart front (take n back) → IsSound (take n back)
     → is_some (option_map (λ (w : Weight). w.conn) (slice_get back n)) ≡ false → IsSound entries
@@ -179,11 +180,11 @@ whole_sound entries front back n state apart sound none = elim ((slice_get_cases
       rw state.split all
 ]
 
--- the first entries in another order, and the others behind them
+-- a permutation of the first entries, followed by the others
 pub first_moved : (xs ys : List Weight) (n : ℕ) → IsPermutation (take n xs) ys → IsPermutation xs (ys ++ drop n xs)
 first_moved xs ys n moved = subst (λ (zs : List Weight). IsPermutation zs (ys ++ drop n xs)) (take-append-drop n xs) (IsPermutation-append_left (drop n xs) (take n xs) ys moved)
 
--- the halves that were sorted have what the entries had
+-- the sorted halves have the items of the entries
 pub same_entries : (entries front back sorted all : List Weight) (n : ℕ) → Halved entries front back
     → IsPermutation (take n back) sorted → IsPermutation (front ++ (sorted ++ drop n back)) all
     → IsPermutation entries all
@@ -191,17 +192,17 @@ same_entries entries front back sorted all n state moved last =
     let both = IsPermutation-append state.unsorted front back (sorted ++ drop n back) state.moved (first_moved back sorted n moved) in
     subst (λ (xs : List Weight). IsPermutation xs all) (sym state.split) (IsPermutation-trans (state.unsorted ++ back) (front ++ (sorted ++ drop n back)) all both last)
 
--- at most one entry is sound where it is in range
+-- at most one entry is valid if it is in range
 pub sound-short : (xs : List Weight) → length xs ≤ 1 → All (λ w. IsWeight w.weight) xs → IsSound xs
 sound-short [] short ranged = sound-nil
 sound-short (x ∷ []) short ranged = sound-more [] x sound-nil (ranged 0 x (omega arith)) (λ there. omega (arith, there.1))
 sound-short (x ∷ y ∷ ys) short ranged = absurd (omega arith)
 
--- a fault of the first entries is one of the whole
+-- a fault of the first entries is a fault of the whole
 pub fault_of_first : (xs : List Weight) (n : ℕ) (fault : WeightFault) → IsFirstFault (take n xs) fault → IsFirstFault xs fault
 fault_of_first xs n fault first = subst (λ (ys : List Weight). IsFirstFault ys fault) (take-append-drop n xs) (fault-append (take n xs) (drop n xs) fault first)
 
--- an entry out of range behind sound ones
+-- an entry out of range after valid ones
 pub range_behind : (xs : List Weight) (n : ℕ) → IsSound (take n xs)
     → IfSome (slice_get xs n) (λ w. ¬ IsWeight w.weight)
     → IfSome (option_map (λ w. w.conn) (slice_get xs n)) (λ conn. IsFirstFault xs (Range conn))
@@ -217,7 +218,7 @@ range_behind xs n sound out = elim ((slice_get_cases xs n).1) [
   | inr past ↦ rw past.1 tt
 ]
 
--- no entry behind the first ones
+-- no entry after the first ones
 pub all_sound : (xs : List Weight) (n : ℕ) → IsSound (take n xs) → option_map (λ (w : Weight). w.conn) (slice_get xs n) ≡ None → IsSound xs
 all_sound xs n sound none = elim ((slice_get_cases xs n).1) [
   | inl inside ↦ absurd (let e = inside.2 in let found = rw e at none in cc)

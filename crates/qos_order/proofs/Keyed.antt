@@ -1,4 +1,4 @@
--- Lists whose items are told apart by a number each: what a search finds, and what moves leave.
+-- Lists of items with distinct numbers: what a search finds, and what permutations preserve.
 use Rattle.std.proofs.Common.{◌≡◌, ◌≢◌, ℕ, zero, suc, ◌<◌, ◌≤◌, ◌==◌, nat_eq, Bool, true, false, List, [], ◌∷◌, map}
 use Rattle.std.proofs.Common.{length, get_or, Some, None, refl, ap, sym, ◌∙◌, arith, ◌⊎◌, inl, inr, Result, Ok, Err}
 use Rattle.std.proofs.Common.{IsTrue, is_ok, ◌↔◌, slice_get}
@@ -13,7 +13,7 @@ use Rattle.std.proofs.lemmas.List.Elements.{Contains-get_or}
 use Rattle.std.proofs.lemmas.Option.{slice_get-get_or}
 use Rattle.std.proofs.lemmas.List.Sorted.{IsPermutation-map, IsPermutation-sym, Contains-permutation}
 
--- no two items have one number
+-- no two items have the same number
 abbrev pub IsKeyed : {X : Type 0} → (X → ℕ) → List X → Type 0
 IsKeyed key xs = IsDistinct nat_eq (map key xs)
 
@@ -67,7 +67,7 @@ pub find-searched : {X : Type 0} (key : X → ℕ) (xs : List X) (n i : ℕ) (x 
 find-searched key xs n i x keyed within equal is =
     find-at key xs n i x keyed within (equal_is (key (get_or xs i x)) n (equal x)) ∙ ap Some (sym is)
 
--- what a search by number among items that don't fall didn't find
+-- what a search by number in a sorted list didn't find
 pub find-missed : {X : Type 0} (key : X → ℕ) (xs : List X) (n i : ℕ) → IsNonDecreasingBy key xs
     → (IsNonDecreasingBy (λ x. ordering_index (nat_cmp (key x) n)) xs
     → IsPartitionPoint (λ x. nat_cmp (key x) n ≡ Less) (λ x. nat_cmp (key x) n ≡ Greater) xs i)
@@ -89,7 +89,7 @@ none_more : {X : Type 0} (key : X → ℕ) (x : X) (xs : List X) (n : ℕ) → k
 none_more key x xs n other none zero d within = other
 none_more key x xs n other none (suc i) d within = none i d (omega arith)
 
--- an item of this number is there, or none is
+-- an item with this number is in the list, or none is
 pub there_or_not : {X : Type 0} (key : X → ℕ) (xs : List X) (n : ℕ)
     → ((x : X) × Contains xs x × (key x ≡ n)) ⊎ ((i : ℕ) (d : X) → i < length xs → key (get_or xs i d) ≢ n)
 there_or_not key [] n = inr (λ i d within. absurd (omega arith))
@@ -101,7 +101,7 @@ there_or_not key (x ∷ xs) n = elim (bool_cases (key x == n)) [
   ]
 ]
 
--- the item that has this number is found
+-- the item with this number is found
 pub find-contained : {X : Type 0} (key : X → ℕ) (xs : List X) (n : ℕ) (x : X) → IsKeyed key xs → Contains xs x → key x ≡ n → find (λ y. key y == n) xs ≡ Some x
 find-contained key xs n x keyed there is =
     find-at key xs n there.0 x keyed there.1 (ap key there.2 ∙ is) ∙ ap Some there.2
@@ -110,7 +110,7 @@ pub keyed-moved : {X : Type 0} (key : X → ℕ) (xs ys : List X) → IsPermutat
 keyed-moved key xs ys moved keyed =
     IsDistinct-IsPermutation nat_eq (nat_eq_equiv).symm (map key xs) (map key ys) (IsPermutation-map key xs ys moved) keyed
 
--- moves leave what is found
+-- permutations preserve what is found
 pub find-moved : {X : Type 0} (key : X → ℕ) (xs ys : List X) (n : ℕ) → IsPermutation xs ys → IsKeyed key xs → find (λ x. key x == n) ys ≡ find (λ x. key x == n) xs
 find-moved key xs ys n moved keyed = elim (there_or_not key xs n) [
   | inl found ↦
@@ -123,7 +123,7 @@ find-moved key xs ys n moved keyed = elim (there_or_not key xs n) [
       ∙ sym (find-none key xs n none)
 ]
 
--- an item has each number that stands in the list of numbers
+-- each number in the list of numbers has an item
 pub keys_have : {X : Type 0} (key : X → ℕ) (xs : List X) (n k : ℕ) → k < length (map key xs) → get_or (map key xs) k n ≡ n → (x : X) × Contains xs x × (key x ≡ n)
 keys_have key [] n k within is = absurd (omega arith)
 keys_have key (x ∷ xs) n zero within is = (x, (0, omega arith, refl), is)
@@ -131,7 +131,7 @@ keys_have key (x ∷ xs) n (suc k) within is =
     let found = keys_have key xs n k (omega arith) is in
     (found.0, (suc found.1.0, omega (arith, found.1.1), found.1.2), found.2)
 
--- where a search by number among items that don't fall found none, none has the number
+-- if a search by number in a sorted list found none, no item has the number
 none_missed : {X : Type 0} (key : X → ℕ) (xs : List X) (n i : ℕ) → IsNonDecreasingBy key xs
     → (IsNonDecreasingBy (λ x. ordering_index (nat_cmp (key x) n)) xs
     → IsPartitionPoint (λ x. nat_cmp (key x) n ≡ Less) (λ x. nat_cmp (key x) n ≡ Greater) xs i)
@@ -143,7 +143,7 @@ none_missed key xs n i up parts k d within =
       | inr le ↦ differs_greater (key (get_or xs k d)) n (point.1 k d le within)
     ]
 
--- a search by number says whether the number is there
+-- a search by number returns whether the number is in the list
 pub search_tells : {X : Type 0} (key : X → ℕ) (xs : List X) (n : ℕ) (r : Result ℕ ℕ) → IsNonDecreasingBy key xs
     → IsSearchInRange r (length xs) → IsBinarySearchResult (λ x. nat_cmp (key x) n) xs r → IsTrue (is_ok r)
     ↔ Contains (map key xs) n
@@ -159,7 +159,7 @@ search_tells key xs n (Err i) up bound parts = (
       absurd (none_missed key xs n i up parts found.1.0 found.0 found.1.1 (ap key found.1.2 ∙ found.2)),
 )
 
--- the item at the place that a search by number found is the one of the number
+-- the item at the index that a search by number found is the one with that number
 pub find-place : {X : Type 0} (key : X → ℕ) (xs : List X) (n i : ℕ) → IsKeyed key xs → i < length xs
     → ((d : X) → nat_cmp (key (get_or xs i d)) n ≡ Equal) → slice_get xs i ≡ find (λ x. key x == n) xs
 find-place key [] n i keyed within equal = absurd (omega arith)

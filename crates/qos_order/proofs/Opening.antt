@@ -1,4 +1,4 @@
--- The wheel of a sound list.
+-- The wheel of a valid list.
 use Rattle.std.proofs.Common.{◌≡◌, ℕ, zero, suc, ◌<◌, length, arith, ◌==◌, List, [], ◌∷◌, map, get_or, option_map, refl, ap, ◌∙◌, inl, inr}
 use Rattle.std.specs.List.{find}
 use Rattle.std.specs.List.Sorted.{IsPermutation}

@@ -1,4 +1,4 @@
--- Wheels, accounts and lists of weights that were worked out by hand.
+-- Wheels, accounts and lists of weights worked out by hand.
 use Rattle.std.proofs.Common.{◌≡◌, ℕ, true, false, List, [], ◌∷◌, Some, None, refl, arith}
 use Rattle.std.proofs.lemmas.List.Elements.{All-cons, All-nil}
 use Rattle.qos_order.specs.Account.{IsWeight, account_after, granted}
@@ -38,7 +38,7 @@ unlisted = refl
 idle_drops : account_of (wheel_after (wheel_after two five) (record stays { visit = record { given = 0; ending = Idle } } ∷ [])) 3 ≡ Some (numbers 3 2 0 1)
 idle_drops = refl
 
--- what is kept beyond the weight is dropped in the next visit
+-- rounds kept beyond the weight are dropped by the next visit
 beyond : account_after 2 (record { given = 0; ending = Shut } ∷ record { given = 0; ending = Shut } ∷ record { given = 1; ending = Shut } ∷ []) ≡ numbers 3 1 3 2
 beyond = refl
 
@@ -57,7 +57,7 @@ weight_listed = refl
 whole_turn : AreTurns two (record stays { visit = record { given = 3; ending = Given } } ∷ [])
 whole_turn = (record { some = λ no. cc; fits = record { within = omega arith; whole = λ _. refl } }, tt)
 
--- three turns in which each grant is given whole: two visits of the first connection, one of the second
+-- three turns that give their whole grants: two visits of the first connection, one of the second
 abbrev three : List Turn
 three = record stays { visit = record { given = 3; ending = Given } } ∷ stays ∷ record stays { visit = record { given = 3; ending = Given } } ∷ []
 
@@ -79,7 +79,7 @@ visits_of_second = refl
 rounds_of_first : rounds_in two three 1 ≡ 6
 rounds_of_first = refl
 
--- a weight out of range comes before a number that stands already
+-- a weight out of range comes before a repeated number
 range_first : IsFirstFault (record { conn = 4; weight = 1 } ∷ record { conn = 4; weight = 101 } ∷ []) (Range 4)
 range_first = record {
   before = record { conn = 4; weight = 1 } ∷ [];

@@ -1,4 +1,4 @@
--- Sound lists of weights, and first faults.
+-- Valid lists of weights, and first faults.
 use Rattle.std.proofs.Common.{◌≡◌, ℕ, zero, suc, ◌<◌, nat_eq, false, List, [], ◌∷◌, ◌++◌, length, get_or, refl, ap}
 use Rattle.std.proofs.Common.{sym, ◌∙◌, arith, ◌⊎◌, inl, inr, subst, append_assoc}
 use Rattle.std.specs.List.{Contains, IsDistinct, list_any}
@@ -28,7 +28,7 @@ pub sound-nil : IsSound []
 unfolding IsDistinct
 sound-nil = record { ranged = All-nil (λ w. IsWeight w.weight); once = tt }
 
--- one entry more that is in range and new
+-- one more entry that is in range and new
 pub sound-more : (xs : List Weight) (x : Weight) → IsSound xs → IsWeight x.weight → (Contains (conns_of xs) x.conn → ⊥) → IsSound (xs ++ x ∷ [])
 sound-more xs x sound ranged new = record {
   ranged = All-push (λ w. IsWeight w.weight) xs x sound.ranged ranged;
@@ -54,7 +54,7 @@ longer : {X : Type 0} (xs : List X) (y : X) (ys : List X) → length xs < length
 longer [] y ys = omega arith
 longer (x ∷ xs) y ys = omega (arith, longer xs y ys)
 
--- no entry of a sound list is at fault
+-- no entry of a valid list has a fault
 fault_is_none : (before : List Weight) (entry : Weight) (after : List Weight) (fault : WeightFault) → IsSound (before ++ entry ∷ after) → IsAtFault before entry fault → ⊥
 fault_is_none before entry after (Range conn) sound at =
     at.1 (subst (λ (w : Weight). IsWeight w.weight) (get-append before entry after entry)
@@ -74,7 +74,7 @@ fault_is_none before entry after Memory sound at = at
 pub sound_has_none : SoundHasNone
 sound_has_none weights fault sound first = fault_is_none first.before first.entry first.after fault (subst IsSound first.is sound) first.there
 
--- two ways to split a list at an item: at the same one, or one inside the front of the other
+-- two ways to split a list at an item: at the same one, or one inside the prefix of the other
 split_again : (xs : List Weight) (x : Weight) (rest : List Weight) (ys : List Weight) (y : Weight) (more : List Weight) → xs ++ x ∷ rest ≡ ys ++ y ∷ more
     → ((xs ≡ ys) × (x ≡ y)) ⊎ ((mid : List Weight) × (ys ≡ xs ++ x ∷ mid)) ⊎ ((mid : List Weight) × (xs ≡ ys ++ y ∷ mid))
 split_again [] x rest [] y more same = inl (refl, cc)

@@ -40,7 +40,7 @@ find-listed_after conn visit (s ∷ seats) n = elim (bool_cases (s.conn == n)) [
   | inr other ↦ rw (conn-seat_after conn visit s, other) (find-listed_after conn visit seats n)
 ]
 
--- what is found under a number has it
+-- what is found under a number has that number
 pub conn-found : (seats : List Seat) (n : ℕ) (s : Seat) → find (λ s. s.conn == n) seats ≡ Some s → s.conn ≡ n
 conn-found [] n s found = cc
 conn-found (r ∷ seats) n s found = elim (bool_cases (r.conn == n)) [
@@ -48,13 +48,13 @@ conn-found (r ∷ seats) n s found = elim (bool_cases (r.conn == n)) [
   | inr other ↦ conn-found seats n s (rw other at found)
 ]
 
--- a visit of a connection that isn't among these leaves them
+-- a visit of a connection outside this list doesn't change it
 others_stay : (conn : ℕ) (visit : Visit) (seats : List Seat)
     → ((k : ℕ) (d : Seat) → k < length seats → (get_or seats k d).conn ≢ conn) → listed_after conn visit seats ≡ seats
 others_stay conn visit [] none = refl
 others_stay conn visit (s ∷ seats) none = rw (ne_eqb s.conn conn (none 0 s (omega arith))) (ap (λ r. s ∷ r) (others_stay conn visit seats (λ k d within. none (suc k) d (omega arith))))
 
--- a write at the place of the connection is the visit
+-- a write at the index of the connection is the visit
 pub set-visited : (conn : ℕ) (visit : Visit) (seats : List Seat) (place : ℕ) (d : Seat)
     → IsDistinct nat_eq (numbers_of seats) → place < length seats → (get_or seats place d).conn ≡ conn
     → set seats place (seat_visited visit (get_or seats place d)) ≡ listed_after conn visit seats
@@ -66,7 +66,7 @@ set-visited conn visit (s ∷ seats) (suc place) d once within is =
     let apart = first_apart (λ (x : Seat). x.conn) s seats place d once (omega arith) in
     rw (rw is at apart) (ap (λ r. s ∷ r) (set-visited conn visit seats place d (keyed-tail (λ (x : Seat). x.conn) s seats once) (omega arith) is))
 
--- a visit of a listed connection that fits its grant keeps each account balanced
+-- a visit of a listed connection within its grant keeps each account balanced
 seat_after_balanced : (seats : List Seat) (conn : ℕ) (visit : Visit) (k : ℕ) (d : Seat) → IsDistinct nat_eq (numbers_of seats) → All (λ s. IsBalanced s.weight s.account) seats
     → ((s : Seat) → find (λ s. s.conn == conn) seats ≡ Some s → Fits (granted s.weight s.account.kept) visit) → k < length seats
     → IsBalanced (seat_after conn visit (get_or seats k d)).weight (seat_after conn visit (get_or seats k d)).account
@@ -123,7 +123,7 @@ order_is : (order : List ℕ) (conn : ℕ) → Some conn ≡ slice_get order 0 �
 order_is [] conn first = cc
 order_is (n ∷ ns) conn first = let same : conn ≡ n = cc in ap (λ m. m ∷ ns) (sym same)
 
--- what the parts of a wheel are after a visit is the wheel after the turn
+-- the fields of a wheel after a visit are those of the wheel after the turn
 pub visited_wheel : (wheel : WheelState) (turn : Turn) (conn : ℕ) (seats : List Seat) (order : List ℕ)
     → Some conn ≡ slice_get wheel.order 0 → seats ≡ listed_after conn turn.visit wheel.listed
     → order ≡ (if turn.leaves then drop 1 wheel.order else drop 1 wheel.order ++ take 1 wheel.order) → record { listed = seats; order = order } ≡ turned wheel turn
@@ -139,7 +139,7 @@ pub visited_sound : (wheel : WheelState) (turn : Turn) (conn : ℕ) (seats : Lis
 visited_sound wheel turn conn seats order sound is_turn first listed turning =
     subst IsWheel (sym (visited_wheel wheel turn conn seats order first listed turning)) (wheel_turned wheel turn sound is_turn)
 
--- the visit fits the grant of the connection that is found
+-- the visit is within the grant of the connection that is found
 pub first_fits : (wheel : WheelState) (visit : Visit) (conn : ℕ) → IsWheel wheel → Some conn ≡ slice_get wheel.order 0 → Fits (first_grant wheel) visit
     → IsSomeAnd (find (λ s. s.conn == conn) wheel.listed) (λ s. Fits (granted s.weight s.account.kept) visit)
 first_fits wheel visit conn sound first fits =
@@ -149,7 +149,7 @@ first_fits wheel visit conn sound first fits =
     let at : seat_of wheel conn ≡ Some found.0 = find-contained (λ (s : Seat). s.conn) wheel.listed conn found.0 sound.listed_once found.1 found.2 in
     rw at (rw (grant_of_first wheel conn (drop 1 wheel.order) found.0 is at) at fits)
 
--- connections stay by number where their numbers stay
+-- connections stay ordered by number if their numbers stay
 pub ascends_alike : (seats others : List Seat) → numbers_of others ≡ numbers_of seats → SeatsAscend seats → SeatsAscend others
 ascends_alike seats others same up i j d le within =
     let long : length others ≡ length seats = sym (length-keys (λ (s : Seat). s.conn) others) ∙ ap length same ∙ length-keys (λ (s : Seat). s.conn) seats in
@@ -164,6 +164,6 @@ ascends_alike seats others same up i j d le within =
 pub ascends_after : (conn : ℕ) (visit : Visit) (seats others : List Seat) → others ≡ listed_after conn visit seats → SeatsAscend seats → SeatsAscend others
 ascends_after conn visit seats others is up = ascends_alike seats others (ap numbers_of is ∙ numbers-listed_after conn visit seats) up
 
--- what stands in a vector after all its items were written
+-- the items of a vector after all of them were written
 pub written : (fresh items : List Seat) (len : ℕ) → length fresh ≡ len → take len (fresh ++ drop (length fresh) items) ≡ fresh
 written fresh items len long = subst (λ (n : ℕ). take n (fresh ++ drop (length fresh) items) ≡ fresh) long (take-append_seam fresh (drop (length fresh) items))

@@ -1,4 +1,4 @@
--- An account of rounds, and what its visits make of it (this project's own).
+-- An account of rounds, and how visits change it (this project's own).
 use Rattle.std.specs.Prelude.{◌≡◌, ◌≤◌, ℕ, ◌+◌, ◌-◌, ◌*◌, ◌^◌, min, nat_lt, if◌then◌else◌, List, [], ◌∷◌, fold}
 use Rattle.qos_order.specs.declared.account.Account.{Account}
 use Rattle.qos_order.specs.declared.account.Ending.{Ending}
@@ -8,22 +8,22 @@ use Rattle.qos_order.specs.declared.account.Ending.TheVariants.{Given, Idle, Shu
 abbrev pub IsWeight : ℕ → Type 0
 IsWeight weight = (1 ≤ weight) × (weight ≤ 100)
 
--- a visit of a connection: the rounds that it was given, and how the visit ended
+-- a visit of a connection: the rounds given, and how the visit ended
 pub record Visit : Type 0 where
   pub given : ℕ
   pub ending : Ending
 
--- how many rounds a visit is granted: the weight, and of what was kept at most as much again
+-- the rounds granted to a visit: the weight, plus the kept rounds up to the weight
 abbrev pub granted : ℕ → ℕ → ℕ
 granted weight kept = weight + min kept weight
 
--- what a visit keeps of the rounds that are left of its grant: all where the connection was shut
+-- what a visit keeps of the unused rounds of its grant: all if the connection was shut
 abbrev pub kept_of : Ending → ℕ → ℕ
 kept_of Given left = 0
 kept_of Idle left = 0
 kept_of Shut left = left
 
--- what a visit drops of them: all where the connection was idle
+-- what a visit drops of the unused rounds: all if the connection was idle
 abbrev pub dropped_of : Ending → ℕ → ℕ
 dropped_of Given left = 0
 dropped_of Idle left = left
@@ -33,7 +33,7 @@ dropped_of Shut left = 0
 abbrev pub new_account : Account
 new_account = record { visits = 0; rounds = 0; kept = 0; dropped = 0 }
 
--- the account with one visit more; kept rounds beyond the weight are dropped, too
+-- the account with one more visit; kept rounds beyond the weight are dropped too
 abbrev pub counted : ℕ → Account → Visit → Account
 counted weight account visit =
     let left = granted weight account.kept - visit.given in record {
@@ -43,7 +43,7 @@ counted weight account visit =
       dropped = account.dropped + (account.kept - min account.kept weight) + dropped_of visit.ending left;
     }
 
--- the account after a further visit; at 2^40 visits it stands still
+-- the account after one more visit; at 2^40 visits it no longer changes
 abbrev pub visited : ℕ → Account → Visit → Account
 visited weight account visit = if nat_lt account.visits (2 ^ 40) then counted weight account visit else account
 
@@ -51,23 +51,23 @@ visited weight account visit = if nat_lt account.visits (2 ^ 40) then counted we
 abbrev pub account_after : ℕ → List Visit → Account
 account_after weight visits = fold (visited weight) new_account visits
 
--- a visit gives at most its grant, and all of it where it ends Given
+-- a visit gives at most its grant, and all of it if it ends `Given`
 pub record Fits (grant : ℕ) (visit : Visit) : Type 0 where
   pub within : visit.given ≤ grant
   pub whole : visit.ending ≡ Given → visit.given ≡ grant
 
--- each visit fits its grant, as the visits before it leave the account
+-- each visit is within the grant that the account has after the visits before it
 abbrev pub AllFit : ℕ → Account → List Visit → Type 0
 AllFit weight account [] = Unit {0}
 AllFit weight account (visit ∷ visits) = Fits (granted weight account.kept) visit
     × AllFit weight (visited weight account visit) visits
 
--- the rounds of all visits at this weight are given, kept or dropped, and at most twice the weight is kept
+-- the granted rounds of all visits are given, kept or dropped, and at most twice the weight is kept
 pub record IsBalanced (weight : ℕ) (account : Account) : Type 0 where
   pub all : weight * account.visits ≡ account.rounds + account.kept + account.dropped
   pub most : account.kept ≤ 2 * weight
 
--- over every list of visits at one weight that fit their grants the account is balanced
+-- over every list of visits at one weight within their grants, the account is balanced
 abbrev pub VisitsBalance : Type 0
 VisitsBalance = (weight : ℕ) (visits : List Visit) → IsWeight weight → AllFit weight new_account visits
     → IsBalanced weight (account_after weight visits)

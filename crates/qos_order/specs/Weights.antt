@@ -1,4 +1,4 @@
--- The weights of connections: the list that a reader takes, and its first fault (this project's own).
+-- The weights of connections: valid lists, and the first fault of any other (this project's own).
 use Rattle.std.specs.Prelude.{◌≡◌, ℕ, ◌==◌, List, ◌∷◌, ◌++◌, map, find, All, Contains, nat_eq, Option, unwrap_or, option_map, ◌⊎◌}
 use Rattle.std.specs.List.{IsDistinct}
 use Rattle.std.specs.List.Sorted.{IsNonDecreasingBy}
@@ -11,22 +11,22 @@ use Rattle.qos_order.specs.Account.{IsWeight}
 abbrev pub conns_of : List Weight → List ℕ
 conns_of weights = map (λ w. w.conn) weights
 
--- the entries stand by number
+-- the entries are ordered by number
 abbrev pub Ascends : List Weight → Type 0
 Ascends weights = IsNonDecreasingBy (λ w. w.conn) weights
 
--- each weight is 1 to 100, and no connection stands twice
+-- each weight is 1 to 100, and no connection is listed twice
 pub record IsSound (weights : List Weight) : Type 0 where
   pub ranged : All (λ w. IsWeight w.weight) weights
   pub once : IsDistinct nat_eq (conns_of weights)
 
--- an entry behind these entries is at fault in this way; a weight out of range comes first
+-- an entry that follows these entries has this fault; a weight out of range comes before a repeated number
 abbrev pub IsAtFault : List Weight → Weight → WeightFault → Type 0
 IsAtFault before entry (Range conn) = (conn ≡ entry.conn) × (¬ IsWeight entry.weight)
 IsAtFault before entry (Twice conn) = (conn ≡ entry.conn) × IsWeight entry.weight × Contains (conns_of before) conn
 IsAtFault before entry Memory = ⊥
 
--- the first fault of a list: that of an entry behind entries that are sound
+-- the first fault of a list: that of an entry whose preceding entries are valid
 pub record IsFirstFault (weights : List Weight) (fault : WeightFault) : Type 0 where
   pub before : List Weight
   pub entry : Weight
@@ -39,24 +39,24 @@ pub record IsFirstFault (weights : List Weight) (fault : WeightFault) : Type 0 w
 abbrev pub entry_of : List Weight → ℕ → Option Weight
 entry_of weights conn = find (λ w. w.conn == conn) weights
 
--- the weight of a connection, 1 where it isn't listed
+-- the weight of a connection; 1 if it isn't listed
 abbrev pub weight_of : List Weight → ℕ → ℕ
 weight_of weights conn = unwrap_or (option_map (λ w. w.weight) (entry_of weights conn)) 1
 
--- a list has one first fault at most
+-- a list has at most one first fault
 abbrev pub FaultsOnce : Type 0
 FaultsOnce = (weights : List Weight) (fault other : WeightFault) → IsFirstFault weights fault
     → IsFirstFault weights other → fault ≡ other
 
--- a list that is sound has none
+-- a valid list has no fault
 abbrev pub SoundHasNone : Type 0
 SoundHasNone = (weights : List Weight) (fault : WeightFault) → IsSound weights → IsFirstFault weights fault → ⊥
 
--- a list is sound or has one
+-- a list is valid or has a first fault
 abbrev pub SoundOrFault : Type 0
 SoundOrFault = (weights : List Weight) → IsSound weights ⊎ ((fault : WeightFault) × IsFirstFault weights fault)
 
--- a sound list by number
+-- a valid list, ordered by number
 pub record IsOrdered (weights : List Weight) : Type 0 where
   pub sound : IsSound weights
   pub ascends : Ascends weights

@@ -1,4 +1,4 @@
--- The wheel of connections: which one is visited next, and how shares come out (this project's own).
+-- The wheel of connections: which one is visited next, and how rounds are shared (this project's own).
 use Rattle.std.specs.Prelude.{◌≡◌, ◌≢◌, ℕ, ◌+◌, ◌-◌, ◌*◌, ◌<◌, ◌≤◌, ◌^◌, ◌==◌, nat_eq, Bool, false, if◌then◌else◌, List, [], ◌∷◌, ◌++◌, map, find, fold, All, Contains, Option, IfSome, option_map, option_and_then, slice_get}
 use Rattle.std.specs.List.{IsDistinct}
 use Rattle.std.specs.List.Sorted.{IsNonDecreasingBy}
@@ -9,8 +9,7 @@ use Rattle.qos_order.specs.declared.weights.Weight.{Weight}
 use Rattle.qos_order.specs.declared.seat.Seat.{Seat}
 use Rattle.qos_order.specs.Account.{Fits, IsBalanced, IsWeight, Visit, granted, new_account, visited}
 
--- a wheel: the connections that were listed, with their weights and accounts, and the numbers of those that are on it,
--- from the first to the last
+-- a wheel: the listed connections with their weights and accounts, and the numbers of those on the wheel, in order
 pub record WheelState : Type 0 where
   pub listed : List Seat
   pub order : List ℕ
@@ -19,11 +18,11 @@ pub record WheelState : Type 0 where
 abbrev pub numbers_of : List Seat → List ℕ
 numbers_of seats = map (λ s. s.conn) seats
 
--- what is listed under a number
+-- the listed connection with a number
 abbrev pub seat_of : WheelState → ℕ → Option Seat
 seat_of wheel conn = find (λ s. s.conn == conn) wheel.listed
 
--- the account of a connection, none where it was never listed
+-- the account of a connection; none if it was never listed
 abbrev pub account_of : WheelState → ℕ → Option Account
 account_of wheel conn = option_map (λ s. s.account) (seat_of wheel conn)
 
@@ -35,11 +34,12 @@ opened weight = record { conn = weight.conn; weight = weight.weight; account = n
 abbrev pub first_seat : WheelState → Option Seat
 first_seat wheel = option_and_then (seat_of wheel) (slice_get wheel.order 0)
 
--- how many rounds its visit is granted, 0 where the wheel is empty
+-- the rounds granted to its visit; 0 if the wheel is empty
 abbrev pub first_grant : WheelState → ℕ
 first_grant wheel = option_map_or (λ s. granted s.weight s.account.kept) (first_seat wheel) 0
 
--- no connection is listed or on the wheel twice, those on it are listed, and each account is one of its weight
+-- no connection is listed or on the wheel twice, all on the wheel are listed, and each account is balanced for its
+-- weight
 pub record IsWheel (wheel : WheelState) : Type 0 where
   pub listed_once : IsDistinct nat_eq (numbers_of wheel.listed)
   pub on_once : IsDistinct nat_eq wheel.order
@@ -47,7 +47,7 @@ pub record IsWheel (wheel : WheelState) : Type 0 where
   pub weights : All (λ s. IsWeight s.weight) wheel.listed
   pub balanced : All (λ s. IsBalanced s.weight s.account) wheel.listed
 
--- the listed connections stand by number
+-- the listed connections are ordered by number
 abbrev pub SeatsAscend : List Seat → Type 0
 SeatsAscend seats = IsNonDecreasingBy (λ s. s.conn) seats
 
@@ -68,7 +68,7 @@ seat_visited visit seat = record {
 abbrev pub listed_after : ℕ → Visit → List Seat → List Seat
 listed_after conn visit seats = map (λ s. if s.conn == conn then seat_visited visit s else s) seats
 
--- the wheel after a turn; an empty wheel stays
+-- the wheel after a turn; an empty wheel doesn't change
 abbrev pub turned_from : List ℕ → WheelState → Turn → WheelState
 turned_from [] wheel turn = wheel
 turned_from (first ∷ others) wheel turn = record {
@@ -83,12 +83,12 @@ turned wheel turn = turned_from wheel.order wheel turn
 abbrev pub wheel_after : WheelState → List Turn → WheelState
 wheel_after wheel turns = fold turned wheel turns
 
--- a turn of a wheel that isn't empty, whose visit fits the grant of the first connection
+-- a turn of a wheel that isn't empty, whose visit is within the grant of the first connection
 pub record IsTurn (wheel : WheelState) (turn : Turn) : Type 0 where
   pub some : wheel.order ≢ []
   pub fits : Fits (first_grant wheel) turn.visit
 
--- each turn is one of the wheel as the turns before it leave it
+-- each turn is one of the wheel that the turns before it leave
 abbrev pub AreTurns : WheelState → List Turn → Type 0
 AreTurns wheel [] = Unit {0}
 AreTurns wheel (turn ∷ turns) = IsTurn wheel turn × AreTurns (turned wheel turn) turns
@@ -98,18 +98,18 @@ abbrev pub TurnsBalance : Type 0
 TurnsBalance = (wheel : WheelState) (turns : List Turn) → IsWheel wheel → AreTurns wheel turns
     → IsWheel (wheel_after wheel turns)
 
--- no connection on the wheel has rounds kept
+-- no connection on the wheel has kept rounds
 abbrev pub NothingKept : WheelState → Type 0
 NothingKept wheel = All (λ conn. IfSome (account_of wheel conn) (λ a. a.kept ≡ 0)) wheel.order
 
--- a turn that gives the whole grant of the first connection, which stays on the wheel; its account isn't at its end
+-- a turn that gives the whole grant of the first connection, which stays on the wheel; its account is below its limit
 pub record IsWhole (wheel : WheelState) (turn : Turn) : Type 0 where
   pub fitting : IsTurn wheel turn
   pub given : turn.visit.ending ≡ Given
   pub stays : turn.leaves ≡ false
   pub counts : IfSome (first_seat wheel) (λ s. s.account.visits < 2 ^ 40)
 
--- each of the turns is such a one
+-- each of the turns gives its whole grant
 abbrev pub AreWhole : WheelState → List Turn → Type 0
 AreWhole wheel [] = Unit {0}
 AreWhole wheel (turn ∷ turns) = IsWhole wheel turn × AreWhole (turned wheel turn) turns
@@ -129,15 +129,15 @@ rounds_in wheel turns conn =
     option_map_or (λ a. a.rounds) (account_of (wheel_after wheel turns) conn) 0
     - option_map_or (λ a. a.rounds) (account_of wheel conn) 0
 
--- in a stretch that begins with nothing kept, in which none leaves, no account is at its end and every ending is Given,
--- two connections on the wheel differ by one visit at most
+-- if no rounds are kept at first and each turn gives its whole grant, the visits of two connections differ by at most
+-- one
 abbrev pub VisitsAreEven : Type 0
 VisitsAreEven = (wheel : WheelState) (turns : List Turn) (conn other : ℕ) → IsWheel wheel → NothingKept wheel
     → AreWhole wheel turns
     → Contains wheel.order conn → Contains wheel.order other
     → visits_in wheel turns conn ≤ visits_in wheel turns other + 1
 
--- and their rounds are as their weights, but for one visit
+-- under the same conditions, their rounds are in proportion to their weights, up to one visit
 abbrev pub SharesAreEven : Type 0
 SharesAreEven = (wheel : WheelState) (turns : List Turn) (conn other : ℕ) → IsWheel wheel → NothingKept wheel
     → AreWhole wheel turns

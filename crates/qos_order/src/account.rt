@@ -1,4 +1,4 @@
-//! The account of one connection: what its visits granted, and what came of it.
+//! The account of one connection: the rounds that its visits were granted, given, kept and dropped.
 
 ghost use Rattle.std.specs.Prelude.{◌≡◌, ◌≤◌, ℕ};
 ghost use Rattle.qos_order.specs.Account.{IsWeight, granted};
@@ -8,26 +8,26 @@ ghost use Rattle.qos_order.specs.Account.{IsWeight, granted};
 pub enum Ending {
     /// All rounds of the grant were given.
     Given,
-    /// The connection had nothing to do, so the rest of the grant is dropped.
+    /// The connection had nothing to do, so the remaining rounds of the grant are dropped.
     Idle,
-    /// The connection may have no round now, so the rest of the grant is kept.
+    /// The connection may have no round now, so the remaining rounds of the grant are kept.
     Shut,
 }
 
-/// What the visits of one connection came to.
+/// The sums over all visits of one connection.
 #[derive(Clone, Copy, PartialEq, Eq)]
 pub struct Account {
-    /// The visits, 0 to 2^40.
+    /// The number of visits, 0 to 2^40.
     pub visits: u64,
-    /// The rounds that were given.
+    /// The rounds given.
     pub rounds: u64,
-    /// The rounds that were left when the connection was shut, at most twice the weight.
+    /// The rounds kept from a grant that ended `Shut`, at most twice the weight.
     pub kept: u64,
-    /// The rounds that were granted, and neither given nor kept.
+    /// The rounds granted but neither given nor kept.
     pub dropped: u64,
 }
 
-// An account at this number of visits doesn't change any more.
+// An account with this number of visits no longer changes.
 const MOST_VISITS: u64 = 1_099_511_627_776;
 
 impl Account {
@@ -47,8 +47,8 @@ impl Account {
         }
     }
 
-    /// Counts one visit of a connection of this weight, the same in all visits of the account: how many
-    /// rounds it was given, and how the visit ended. An account with 2^40 visits stands still.
+    /// Counts one visit: how many rounds the connection was given, and how the visit ended. `weight` is the same in
+    /// all visits of an account. An account with 2^40 visits no longer changes.
     pub fn visit(&mut self, weight: u64, given: u64, ending: Ending)
         requires weight { IsWeight weight }
         requires balanced { IsBalanced weight self.old }
@@ -73,8 +73,8 @@ impl Account {
     }
 }
 
-// How many rounds in a row a connection of this weight gets that kept so many: the weight, and of the
-// kept ones at most as many again.
+// The rounds granted to a connection with this weight and these kept rounds: the weight, plus the kept rounds up to
+// the weight.
 pub(crate) fn granted(weight: u64, kept: u64) -> u64
     requires { IsWeight weight }
     ensures value { result ≡ granted weight kept }

@@ -1,12 +1,11 @@
-//! The weighted order of connections: how many rounds in a row a worker gives each of them, and whose
-//! turn is next.
+//! The weighted order of connections: how many rounds in a row a worker gives each of them, and which one it visits
+//! next.
 //!
-//! A connection of weight 3 gets three rounds where one of weight 1 gets one. What a visit leaves
-//! unused because its connection was shut may be used in the next one, up to the weight; what
-//! it leaves because there was nothing to do is dropped. [`Weighted`] answers grants, an [`Account`]
-//! counts the visits of one connection, and a [`Wheel`] says which connection is visited next. It
-//! stands on `mrpc_base`. The layers above use one contract: over visits that fit their grants, the rounds
-//! given, kept and dropped of a connection are its weight times its visits.
+//! A connection of weight 3 gets three rounds where one of weight 1 gets one. Rounds unused because the connection
+//! was shut carry over to its next visit, up to the weight. Rounds unused because it was idle are dropped.
+//! [`Weighted`] returns grants, an [`Account`] counts the visits of one connection, and a [`Wheel`] orders the
+//! visits. The crate depends on `mrpc_base`. The layers above use one contract: over visits within their grants, the
+//! rounds given, kept and dropped of a connection sum to its weight times its visits.
 #![tactic(auto)]
 
 mod account;

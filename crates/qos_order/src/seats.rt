@@ -12,7 +12,7 @@ use crate::weights::Weight;
 use std::alloc::{AllocError, Global};
 use std::collections::VecDeque;
 
-// Where a connection stands among those that are listed by number.
+// The index of a connection in a list ordered by number.
 pub(crate) fn place_of(seats: &[Seat], conn: u32) -> Option<usize>
     requires once { IsDistinct nat_eq (numbers_of seats.now) }
     requires ascends { SeatsAscend seats.now }

@@ -9,8 +9,7 @@ use crate::weights::{Weight, WeightFault, Weights, by_number};
 use mrpc_base::ReadyOrder;
 use std::marker::Model;
 
-/// The weighted order: it answers how many rounds in a row a connection gets. A connection that isn't
-/// listed has the weight 1.
+/// The weighted order: how many rounds in a row each connection gets. A connection that isn't listed has weight 1.
 #[derive(Drop)]
 pub struct Weighted {
     weights: Vec<Weight>,
@@ -29,7 +28,7 @@ impl Model for Weighted {
 }
 
 impl Weighted {
-    /// The order of these weights. It takes no memory.
+    /// The order by these weights. Doesn't allocate.
     pub fn new(weights: Weights) -> Result<Weighted, WeightFault>
         ensures sound { OnOk result (IsSound weights) }
         ensures weights { IfOk result (λ order. (conn : ℕ) → weight_of order conn ≡ weight_of weights conn) }
@@ -39,7 +38,7 @@ impl Weighted {
         Ok(Weighted { weights })
     }
 
-    /// The weight of a connection, 1 to 100; 1 where it isn't listed.
+    /// The weight of a connection, 1 to 100; 1 if it isn't listed.
     pub fn weight(&self, conn: u32) -> u64
         ensures value { result ≡ weight_of self.now conn }
         ensures range { IsWeight result }
@@ -57,8 +56,8 @@ impl ReadyOrder for Weighted {
 
     ghost grant_of = { λ order conn kept. granted (weight_of order conn) kept };
 
-    /// How many rounds in a row a connection gets that kept so many: its weight, and of the kept ones
-    /// at most as many again.
+    /// The rounds in a row for a connection with these kept rounds: its weight, plus the kept rounds up to the
+    /// weight.
     fn grant(&self, conn: u32, kept: u64) -> u64
         ensures { result ≡ granted (weight_of self.now conn) kept }
     {

@@ -1,4 +1,4 @@
-//! Weights of connections, as they are listed.
+//! Lists of connections' weights.
 
 ghost use Rattle.std.specs.Prelude.{◌≡◌, ◌≤◌, ◌↔◌, OnOk, IfOk, IfErr, IfNone, IfSome, IsTrue, All, Contains, length, take, slice_get, option_map};
 ghost use Rattle.qos_order.specs.Account.{IsWeight};
@@ -13,12 +13,12 @@ use thiserror::Error;
 pub struct Weight {
     /// The connection's number.
     pub conn: u32,
-    /// The rounds that each of its visits grants, 1 to 100.
+    /// The rounds granted by each of its visits, 1 to 100.
     pub weight: u64,
 }
 
-/// Why a list of weights isn't taken. The first entry at fault counts, and at one entry the weight
-/// comes before the number.
+/// Why a list of weights is rejected: its first faulty entry. If an entry has both faults, `Range` comes before
+/// `Twice`.
 #[derive(Clone, Copy, Debug, PartialEq, Eq, Error)]
 pub enum WeightFault {
     /// The weight of this connection isn't 1 to 100.
@@ -27,13 +27,13 @@ pub enum WeightFault {
         /// The connection's number.
         conn: u32,
     },
-    /// This connection stands a second time.
+    /// This connection is listed twice.
     #[error("connection {conn} stands twice")]
     Twice {
         /// The connection's number.
         conn: u32,
     },
-    /// No memory was found.
+    /// Out of memory.
     #[error("out of memory")]
     Memory,
 }
@@ -54,14 +54,14 @@ impl Model for Weights {
 }
 
 impl Weights {
-    /// The list that the vector has. It takes no memory.
+    /// The list of the vector's items. Doesn't allocate.
     pub fn from_vec(items: Vec<Weight>) -> Weights
         ensures { result ≡ items.items }
     {
         Weights { items }
     }
 
-    /// The vector of the weights. It takes no memory.
+    /// The vector of the weights. Doesn't allocate.
     pub fn into_vec(self) -> Vec<Weight>
         ensures { result.items ≡ self }
     {
@@ -69,7 +69,7 @@ impl Weights {
     }
 }
 
-// The weights by ascending number, or their first fault. It takes no memory.
+// The weights in ascending order of number, or their first fault. Doesn't allocate.
 pub(crate) fn by_number(weights: Weights) -> Result<Vec<Weight>, WeightFault>
     ensures sound { OnOk result (IsSound weights) }
     ensures same { IfOk result (λ sorted. IsPermutation weights sorted.items) }
@@ -81,7 +81,7 @@ pub(crate) fn by_number(weights: Weights) -> Result<Vec<Weight>, WeightFault>
     Ok(entries)
 }
 
-// Sorts the entries by number where they are sound; else tells their first fault.
+// Sorts the entries by number if they are valid; else returns their first fault.
 fn sort(entries: &mut [Weight]) -> Result<(), WeightFault>
     ensures sound { OnOk result (IsSound entries.old) }
     ensures same { OnOk result (IsPermutation entries.old entries.new) }
@@ -99,7 +99,7 @@ fn sort(entries: &mut [Weight]) -> Result<(), WeightFault>
     }
 }
 
-// How many entries come before the first one whose weight isn't 1 to 100.
+// The number of entries before the first one whose weight isn't 1 to 100.
 fn ranged_len(entries: &[Weight]) -> usize
     ensures within { result ≤ length entries.now }
     ensures ranged { All (λ w. IsWeight w.weight) (take result entries.now) }
@@ -113,7 +113,7 @@ fn ranged_len(entries: &[Weight]) -> usize
     entries.len()
 }
 
-// The connection of the entry at a place; none past the end.
+// The connection of the entry at an index; `None` past the end.
 fn conn_at(entries: &[Weight], place: usize) -> Option<u32>
     ensures { result ≡ option_map (λ w. w.conn) (slice_get entries.now place) }
 {
@@ -123,9 +123,8 @@ fn conn_at(entries: &[Weight], place: usize) -> Option<u32>
     }
 }
 
-// Sorts entries by number where no connection stands twice; else tells the first one that does. Each
-// half is sorted by itself, and what the second half has in common with the first is searched for, so
-// the time is n log^2 n and no memory is taken.
+// Sorts entries by number if no connection is listed twice; else returns the first one that is. Sorts each half, then
+// searches the second half for connections of the first, so it takes n log^2 n time and doesn't allocate.
 fn sort_distinct(entries: &mut [Weight]) -> Option<u32>
     requires { All (λ w. IsWeight w.weight) entries.old }
     ensures sound { IfNone result (IsSound entries.old) }
@@ -153,8 +152,7 @@ fn sort_distinct(entries: &mut [Weight]) -> Option<u32>
     None
 }
 
-// How many entries of `back` come before the first one whose connection stands in `front`, too, which
-// is sorted.
+// The number of entries of `back` before the first one whose connection is also in `front`, which is sorted.
 fn apart_len(front: &[Weight], back: &[Weight]) -> usize
     requires { Ascends front.now }
     ensures within { result ≤ length back.now }
@@ -169,7 +167,7 @@ fn apart_len(front: &[Weight], back: &[Weight]) -> usize
     back.len()
 }
 
-// Whether a connection stands in sorted entries.
+// Whether sorted entries contain a connection.
 fn has_conn(entries: &[Weight], conn: u32) -> bool
     requires { Ascends entries.now }
     ensures { IsTrue result ↔ Contains (conns_of entries.now) conn }

@@ -1,4 +1,4 @@
-//! The wheel: whose turn is next.
+//! The wheel: which connection is visited next.
 
 ghost use Rattle.std.specs.Prelude.{◌≡◌, ◌<◌, ◌++◌, if◌then◌else◌, drop, length, take};
 
@@ -10,12 +10,12 @@ use std::alloc::Global;
 use std::collections::VecDeque;
 use std::marker::Model;
 
-/// A list of connections with accounts. Each visit is of the first, which then goes last or leaves.
+/// A queue of connections with accounts. Each visit is of the first one, which then goes last or leaves.
 #[derive(Drop)]
 pub struct Wheel {
-    // The listed connections, by number.
+    // The listed connections, ordered by number.
     seats: Vec<Seat>,
-    // The numbers of those that are on the wheel.
+    // The numbers of the connections on the wheel.
     order: VecDeque<u32>,
 }
 
@@ -35,8 +35,8 @@ impl Wheel {
     ghost use Rattle.qos_order.specs.Weights.{IsFirstFault, IsSound, conns_of, entry_of};
     ghost use Rattle.qos_order.specs.Wheel.{IsTurn, IsWheel, account_of, first_grant, opened, seat_of, turned};
 
-    /// The wheel of these connections, in the order of their list, with accounts of zeros. `Memory`
-    /// comes only where the list has no fault.
+    /// A wheel of these connections, in the order of their list, with zeroed accounts. `Memory` comes only if the
+    /// list has no fault.
     pub fn new(alloc: Global, weights: Weights) -> Result<Wheel, WeightFault>
         ensures sound { OnOk result (IsSound weights) }
         ensures order { IfOk result (λ wheel. wheel.order ≡ conns_of weights) }
@@ -58,14 +58,14 @@ impl Wheel {
         }
     }
 
-    /// The connection that is visited next; none where the wheel is empty.
+    /// The connection to visit next; `None` if the wheel is empty.
     pub fn first(&self) -> Option<u32>
         ensures { result ≡ slice_get self.now.order 0 }
     {
         self.order.front().copied()
     }
 
-    /// How many rounds in a row the next visit is granted; 0 where the wheel is empty.
+    /// The rounds in a row granted to the next visit; 0 if the wheel is empty.
     pub fn first_grant(&self) -> u64
         ensures { result ≡ first_grant self.now }
     {
@@ -81,8 +81,8 @@ impl Wheel {
         }
     }
 
-    /// Counts a visit of the first connection: how many rounds it was given, how the visit ended, and
-    /// whether it leaves the wheel. Else it goes last.
+    /// Counts a visit of the first connection: the rounds it was given, and how the visit ended. The connection then
+    /// leaves the wheel if `leaves` is set, else goes last.
     pub fn visit(&mut self, given: u64, ending: Ending, leaves: bool)
         requires { IsTurn self.old (record { visit = record { given = given; ending = ending }; leaves = leaves }) }
         ensures turned { self.new ≡ turned self.old (record {
@@ -98,7 +98,7 @@ impl Wheel {
         turn(&mut self.order, leaves);
     }
 
-    /// The account of a connection, on the wheel or not; none where it was never listed.
+    /// The account of a connection, on the wheel or not; `None` if it was never listed.
     pub fn account(&self, conn: u32) -> Option<&Account>
         ensures account { option_copied result ≡ account_of self.now conn }
         ensures wheel { IsWheel self.now }
@@ -110,7 +110,7 @@ impl Wheel {
     }
 }
 
-// The first leaves, or goes last.
+// Removes the first connection, and appends it unless it leaves.
 fn turn(order: &mut VecDeque<u32>, leaves: bool)
     requires { 0 < length order.old.items }
     ensures { order.new.items ≡ (if leaves then drop 1 order.old.items

@@ -1,4 +1,4 @@
--- A frame has one fate.
+-- A frame has exactly one fate.
 use Rattle.std.proofs.Common.{◌≡◌, ℕ, ◌-◌, ◌<◌, ◌≤◌, ◌⊎◌, List, length, Option, Some, None, Bool, true, false, inl}
 use Rattle.std.proofs.Common.{inr, refl, sym, ap, subst, ◌∙◌, arith, ⊎_elim}
 use Rattle.std.proofs.lemmas.Bool.{cases_lt, cases_eq}
@@ -16,7 +16,7 @@ use Rattle.receive_core.specs.Fates.{Fate, drops, arrives, IsFate, is_hello, has
 use Rattle.receive_core.specs.Fates.{is_too_large, arrived, IsCall, Allows, HasFate, HasOneFate, call_of, message_of_frame}
 use Rattle.receive_core.specs.Fates.{block_words}
 
--- what is known of meanings and faults
+-- facts about meanings and faults
 abbrev pub MeansOnce : Type 0
 MeansOnce = (T : Table) (msg : ℕ) (bytes : List ℕ) (t u : Node) → Means T msg bytes t → Means T msg bytes u → t ≡ u
 
@@ -32,7 +32,7 @@ abbrev pub EitherOne : Type 0
 EitherOne = (T : Table) (msg : ℕ) (bytes : List ℕ) → ((t : Node) × Means T msg bytes t)
     ⊎ ((reason : DecodeReason) × (place : ℕ) × IsFirstFault T msg bytes reason place)
 
--- ---- some fate
+-- ---- at least one fate
 
 -- a call is denied or allowed
 judged : (policy : Option AccessPolicy) (call : Call)
@@ -70,9 +70,9 @@ has_fate either T policy conn words f =
     (cases_lt f.method (length T.methods)))
     (cases_eq f.kind 3)
 
--- ---- no other
+-- ---- at most one fate
 
--- one policy doesn't allow what it denies
+-- a policy doesn't allow what it denies
 denied_allowed : (policy : Option AccessPolicy) (p : AccessPolicy) (call : Call) → policy ≡ Some p → (verdict p call).allow ≡ false → Allows policy call → ⊥
 denied_allowed policy p call is denied allows =
     let allowed : (verdict p call).allow ≡ true = subst (λ (q : Option AccessPolicy). Allows q call) is allows in

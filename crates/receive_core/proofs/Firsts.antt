@@ -1,4 +1,4 @@
--- The first frame of what was fed.
+-- The first frame of the fed bytes.
 use Rattle.std.proofs.Common.{◌≡◌, ℕ, ◌+◌, ◌≤◌, List, [], ◌∷◌, ◌++◌, length, Option, Some, None, Result, Ok, Err, Bor}
 use Rattle.std.proofs.Common.{IfSome, inl, inr, sym, ap, subst, ◌∙◌, arith, append_assoc, length-append}
 use Rattle.std.specs.Prelude.{◌⊎◌, OnOk, IfErr, IsErrOf, slice_get}
@@ -13,7 +13,7 @@ use Rattle.receive_core.specs.Opening.{IsOpened}
 use Rattle.receive_core.specs.Turns.{IsFirst, IsSplit}
 use Rattle.receive_core.specs.declared.opened.Opened.{Opened}
 
--- the frame in front of the others
+-- the frame before the others
 pub first_is : (fed : Fed) (frames : List Frame) (rest : List ℕ) (f : Frame) → Splits fed.place fed.bytes frames rest → slice_get frames 0 ≡ Some f → IsFirst fed f
 first_is fed [] rest f s e = (let wrong : None ≡ Some f = e in absurd cc)
 first_is fed (g ∷ frames) rest f s e =
@@ -25,12 +25,12 @@ first_is fed (g ∷ frames) rest f s e =
       place = s.places.0;
     })
 
--- what is known of the bytes of frames
+-- facts about the bytes of frames
 abbrev pub OneFrame : Type 0
 OneFrame = (f g : Frame) (more others : List ℕ) → IsFrame f → IsFrame g → bytes_of f ++ more ≡ bytes_of g ++ others → f.place ≡ g.place
     → (f ≡ g) × (more ≡ others)
 
--- what is left behind a frame splits, too
+-- the remainder after a frame also splits
 pub left_splits : OneFrame → (old : Fed) (f : Frame) (new : Fed) → IsSplit old → Gives old f new → IsSplit new
 left_splits once old f new is g = behind is.0 is.1 is.2
   where
@@ -56,7 +56,7 @@ pub first_found : (fed : Fed) (r : Option (Bor Frame)) → IsSplit fed
 first_found fed None is found = tt
 first_found fed (Some f) is found = first_is fed is.0 is.1 f.now is.2 (found is.0 is.1 is.2)
 
--- ---- the first frame stays first, however the stream goes on
+-- ---- the first frame stays first, whatever is fed after it
 
 goes_first : (old : Fed) (piece : List ℕ) (new : Fed) (f : Frame) → GoesOn old piece new → IsFirst old f → IsFirst new f
 goes_first old piece new f on first = record {
@@ -95,7 +95,7 @@ fed_first stays once old piece new (Err fault) ok (inl none) memory f first =
     subst (λ (fed : Fed). IsFirst fed f) (sym (memory (ap Err none))) first
 fed_first stays once old piece new (Err fault) ok (inr stop) memory f first = stops_first stays once old piece fault new f stop first
 
--- what was read of the first frame stays so
+-- a decoded call is still that of the first frame
 pub stays_ready : (T : Table) (conn : ℕ) (old new : Fed) (opened : Option Opened) → ((f : Frame) → IsFirst old f → IsFirst new f)
     → IfSome opened (λ o. (f : Frame) × IsFirst old f × IsOpened T conn f o)
     → IfSome opened (λ o. (f : Frame) × IsFirst new f × IsOpened T conn f o)

@@ -1,4 +1,4 @@
--- How the life of a receiver goes on.
+-- How the trace of a receiver is extended.
 use Rattle.std.proofs.Common.{◌≡◌, ℕ, ◌+◌, ◌*◌, ◌-◌, ◌<◌, ◌≤◌, List, [], ◌∷◌, ◌++◌, length, Option, Some, None}
 use Rattle.std.proofs.Common.{Result, Ok, Err, inl, inr, refl, sym, ap, subst, ◌∙◌, arith, append_assoc, append-nil}
 use Rattle.std.proofs.Common.{length-append, get_or}
@@ -26,7 +26,7 @@ use Rattle.receive_core.specs.declared.arrival.Arrival.TheVariants.{None as NoFr
 use Rattle.receive_core.proofs.Firsts.{OneFrame, taken_total}
 use Rattle.receive_core.proofs.Ordered.{JoinPlaces, JoinSizes, JoinSplits, begins_so, goes_on_so, stops_so, takes_so}
 
--- what is known of frames and streams
+-- facts about frames and streams
 pub record Known : Type 0 where
   pub stays : FaultStays
   pub once : SplitsOnce
@@ -39,9 +39,9 @@ pub record Known : Type 0 where
 from_zero : (n : ℕ) → n ≡ 0 + n
 from_zero n = omega arith
 
--- ---- what was taken, and what is kept
+-- ---- the taken frames and the kept bytes
 
--- what was taken, and what waits, are the whole frames of the stream
+-- the taken frames and those that wait are the whole frames of the stream
 all_of : Known → (stream : List ℕ) (frames waiting : List Frame) (kept : Fed) (fault : Option FeedFault)
     → HasTaken stream frames kept → Reads kept.place kept.bytes waiting fault → Reads 0 stream (frames ++ waiting) fault
 all_of known stream frames waiting kept fault (goes_on each places whole place) r =
@@ -67,7 +67,7 @@ all_of known stream frames waiting kept fault (has_stopped later rest tail was s
           (subst (λ (ws : List Frame). HasFault (0 + length (joined ws)) tail (Some was)) list here);
     }
 
--- what is kept behind a frame that was given
+-- what is kept after a frame was taken
 left_reads : OneFrame → (old : Fed) (f : Frame) (new : Fed) (fault : Option FeedFault) (waiting : List Frame) → Reads old.place old.bytes waiting fault → Gives old f new
     → (next : List Frame) × Reads new.place new.bytes next fault
 left_reads once old f new fault [] r g = absurd (r.splits.partial f new.bytes g.frame (sym r.splits.whole ∙ g.first))
@@ -110,7 +110,7 @@ begins nothing clean T r none sound next ready =
       blocks = omega (arith, next);
     }
 
--- a receiver of which only the heap and what was read of the first frame have changed
+-- a receiver in which only the heap and the decoded call have changed
 pub lives_still : (T : Table) (life : Life) (old new : Receiving) → Lives T life old → new.conn ≡ old.conn
     → new.fed ≡ old.fed → new.heap.words ≡ old.heap.words → new.heap.next ≡ old.heap.next
     → IsSound new.heap → IsReady T new → Lives T life new
@@ -196,7 +196,7 @@ goes_wrong known T life old new piece fault lives small stop conn heap ready =
       blocks = omega (arith, blocks, next);
     }
 
--- the first frame was given, and stands behind the others that were taken
+-- the first frame was taken, and comes after the others that were taken
 gives_on : Known → (T : Table) (life next : Life) (old new : Receiving) (f : Frame) → Lives T life old → Gives old.fed f new.fed
     → next.stream ≡ life.stream → next.fault ≡ life.fault → frames_of life ++ f ∷ [] ≡ frames_of next
     → All (HasItsFate T new.conn new.heap.words) next.fates → IsSound new.heap → new.heap.next ≤ length next.fates + 1 → IsReady T new → Lives T next new
@@ -266,7 +266,7 @@ small_block T policy conn words f t (arrived call u means allows fits is) =
 no_more : (life : Life) → life ≡ fated life []
 no_more life = λ i. record { stream = life.stream; fault = life.fault; hello = life.hello; fates = sym (append-nil life.fates) i }
 
--- what a turn adds to a life
+-- what a turn adds to a trace
 abbrev pub Adds : Table → Option AccessPolicy → Life → Receiving → List (ℕ × ℕ) → List (ℕ × ℕ) → Arrival → Type 0
 Adds T policy life new stores after a = (more : List Fated) × Tells policy a more × (after ≡ stores ++ flat_map stores_of more) × Lives T (fated life more) new
 
@@ -361,7 +361,7 @@ fault_life known T life old new piece (Ok u) lives small stops conn heap ready =
 fault_life known T life old new piece (Err fault) lives small (inl none) conn heap ready = inl none
 fault_life known T life old new piece (Err fault) lives small (inr stop) conn heap ready = inr (goes_wrong known T life old new piece fault lives small stop conn heap ready)
 
--- ---- laws of a life
+-- ---- laws of traces
 
 none_wait : (place : ℕ) (bytes : List ℕ) (waiting : List Frame) (fault : Option FeedFault) → Reads place bytes waiting fault → IsPartial bytes → waiting ≡ []
 none_wait place bytes [] fault r partial = refl
@@ -374,7 +374,7 @@ takes_each T life r lives partial =
     subst (λ (fs : List Frame). Reads 0 life.stream fs life.fault) (append-nil (frames_of life))
     (subst (λ (ws : List Frame). Reads 0 life.stream (frames_of life ++ ws) life.fault) none lives.all)
 
--- how long frames are
+-- the size of frames
 abbrev pub FrameSize : Type 0
 FrameSize = (f : Frame) → length (bytes_of f) ≡ 16 + length f.payload
 

@@ -1,4 +1,4 @@
--- Frames are taken in the order in which they stand.
+-- Frames are taken in the order of the stream.
 use Rattle.std.proofs.Common.{◌≡◌, ℕ, ◌+◌, List, [], ◌∷◌, ◌++◌, length, Some, None, refl, sym, ap, subst, ◌∙◌, arith, append_assoc, length-append}
 use Rattle.std.specs.Prelude.{All}
 use Rattle.std.proofs.lemmas.List.{append-nil}
@@ -11,7 +11,7 @@ use Rattle.frame_transport.specs.declared.fault.FeedFault.{FeedFault}
 use Rattle.receive_core.specs.Order.{HasTaken, goes_on, has_stopped, BeginsSo, GoesOnSo, StopsSo, TakesSo, AreFirst}
 use Rattle.receive_core.proofs.Firsts.{OneFrame}
 
--- what is known of frames one behind another
+-- facts about frames in sequence
 abbrev pub JoinPlaces : Type 0
 JoinPlaces = (place : ℕ) (frames others : List Frame) → StandFrom place frames → StandFrom (place + length (joined frames)) others
     → StandFrom place (frames ++ others)
@@ -29,7 +29,7 @@ from_zero n = omega arith
 pub begins_so : BeginsSo
 begins_so = goes_on (All-nil IsFrame) tt refl refl
 
--- a fault stays where more comes behind it
+-- a fault is unchanged when more follows it
 at_fault : FaultStays → (place : ℕ) (stream more : List ℕ) (frames : List Frame) (rest : List ℕ) (fault : FeedFault)
     → Splits place stream frames rest → IsFaultAt (place + length (joined frames)) rest fault → Ends place (stream ++ more) (Some fault)
 at_fault stays place stream more frames rest fault s at =
@@ -66,7 +66,7 @@ stops_first stays sizes splits stream frames old piece fault new each places who
     (subst (λ (bs : List ℕ). Splits 0 bs (frames ++ kept.frames) (kept.rest ++ stop.dropped)) same all)
     (subst (λ (p : ℕ). IsFaultAt p (kept.rest ++ stop.dropped) fault) size later.1)
 
--- and behind it
+-- and after it
 stops_again : FaultStays → SplitsOnce → EndsOnce → (stream : List ℕ) (frames : List Frame) (old : Fed) (piece : List ℕ) (fault : FeedFault) (new : Fed)
     → (later : List Frame) (rest tail : List ℕ) (was : FeedFault) → Splits old.place old.bytes later rest → IsFaultAt (old.place + length (joined later)) rest was
     → Splits 0 stream (frames ++ later) tail → IsFaultAt (length (joined (frames ++ later))) tail was → StopsAt old piece fault new
@@ -127,7 +127,7 @@ takes_so once join stream frames old f new (goes_on each places whole place) g =
 takes_so once join stream frames old f new (has_stopped later rest tail fault s at all end) g =
     taken_of_stopped once stream frames old f new later rest tail fault s at all end g
 
--- frames at the front of a stream are the first of all its frames
+-- frames at the start of a stream are a prefix of all its frames
 front : OneFrame → (place : ℕ) (frames whole : List Frame) (bytes rest : List ℕ) → All IsFrame frames → StandFrom place frames
     → All IsFrame whole → StandFrom place whole → IsPartial rest → joined frames ++ bytes ≡ joined whole ++ rest
     → (more : List Frame) × (whole ≡ frames ++ more)

@@ -1,4 +1,5 @@
--- Fates of small frames, as terms. A table has a message M with a field a, and the method Get of the service S on it.
+-- Worked by hand: fates of small frames, as terms. The table has a message M with a field a, and a method Get of
+-- the service S that uses it.
 use Rattle.std.proofs.Common.{◌≡◌, ℕ, [], ◌∷◌, codes, None, refl, arith}
 use Rattle.mrpc_table.specs.Node.{no_fields, field, one, many, no_items, item, number}
 use Rattle.mrpc_table.specs.declared.table.Kind.TheVariants.{Uint64}
@@ -19,7 +20,7 @@ table label = record {
 abbrev frame : ℕ → ℕ → ℕ → Frame
 frame kind method n = record { kind = kind; version = 1; method = method; conn = 1; number = n; payload = []; place = 0 }
 
--- ---- what a frame is judged as
+-- ---- the number with which a frame is judged
 
 request : judged_number (frame 1 0 7) ≡ 0
 request = refl

@@ -1,4 +1,4 @@
--- What was taken in.
+-- The frame that was placed.
 use Rattle.std.specs.Prelude.{All}
 use Rattle.std.proofs.Common.{◌≡◌, ℕ, ◌+◌, ◌<◌, ◌≤◌, List, [], ◌∷◌, ◌++◌, sym, ap, subst, ◌∙◌, arith}
 use Rattle.std.proofs.lemmas.List.Elements.{All-weaker}
@@ -18,11 +18,11 @@ use Rattle.graph_place.specs.Stored.{StandsIn, StandWithin}
 use Rattle.receive_core.specs.Turns.{IsPlaced}
 use Rattle.receive_core.specs.declared.opened.Opened.{Opened}
 
--- the message of an opened call is that of its frame
+-- the message of a decoded call is that of its frame
 pub message_is : (T : Table) (conn : ℕ) (f : Frame) (o : Opened) → IsOpened T conn f o → message_at T o.call.method o.call.number ≡ message_of_frame T f
 message_is T conn f o is = ap (λ (c : Call). message_at T c.method c.number) is.call
 
--- a number of words that is small is the number itself
+-- a small number of words isn't capped
 pub uncapped : (n words : ℕ) → words ≡ capped n → words ≤ 65536 → words ≡ n
 uncapped n words is small = omega (arith, is, small)
 
@@ -62,14 +62,14 @@ placed_is T msg tree old new stores after block placed at words is cap inside sm
       stored = stored;
     }
 
--- the message of a call whose block lies in the heap lies there
+-- the message of a call whose block is in the heap is in the heap
 pub fits_in : (T : Table) (conn : ℕ) (f : Frame) (o : Opened) (at words : ℕ) → IsOpened T conn f o → at + o.words ≤ words → words ≤ 65536
     → at + tree_words T (message_of_frame T f) o.call.tree ≤ words
 fits_in T conn f o at words is inside small =
     let exact : o.words ≡ block_words T (message_of_frame T f) o.call.tree = uncapped (block_words T (message_of_frame T f) o.call.tree) o.words is.words (omega (arith, inside, small)) in
     omega (arith, exact, inside)
 
--- and so do its words
+-- and so are its words
 pub inside_heap : (T : Table) (H msg : ℕ) (t : Node) (at span size : ℕ) (placed : PlacedWords) → StandsIn T H msg t at span placed → 1 ≤ at → at + span ≤ size
     → All (λ word. (1 ≤ word.0) × (word.0 < size)) placed.words
 inside_heap T H msg t at span size placed stands from within =

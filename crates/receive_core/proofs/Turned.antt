@@ -1,4 +1,4 @@
--- From what a call of a frame is judged to what a turn tells.
+-- From the verdict on a frame's call to the result of a turn.
 use Rattle.std.proofs.Common.{◌≡◌, ℕ, ◌<◌, ◌≤◌, List, false, Option, Some, None, Result, Ok, Err, refl, sym, ap, subst, ◌∙◌, arith, ⊎_elim}
 use Rattle.std.specs.Prelude.{All, IfOk}
 use Rattle.mrpc_table.specs.Node.{Node}
@@ -23,7 +23,7 @@ use Rattle.receive_core.proofs.Taken.{uncapped}
 
 -- ---- fates
 
--- a call that is refused is dropped for that cause
+-- a refused call is dropped for that cause
 pub refused_fate : (T : Table) (policy : Option AccessPolicy) (conn words : ℕ) (f : Frame) (o : Opened) (why : DropCause) → 1 ≤ words → words ≤ 65536
     → IsOpened T conn f o → IsRefusal policy words o (Some why) → IsFate T policy conn words f (drops why)
 refused_fate T policy conn words f o why some small is refusal =
@@ -36,7 +36,7 @@ refused_fate T policy conn words f o why some small is refusal =
     (ap drops (large.2 ∙ ap (λ (n : ℕ). Oversize n words) is.words)))
     refusal
 
--- and one that isn't arrives
+-- and a call that isn't refused arrives
 pub allowed_fate : (T : Table) (policy : Option AccessPolicy) (conn words : ℕ) (f : Frame) (o : Opened) → words ≤ 65536
     → IsOpened T conn f o → IsRefusal policy words o None → IsFate T policy conn words f (arrives o.call.tree)
 allowed_fate T policy conn words f o small is allowed =
@@ -87,7 +87,7 @@ taken_turns T policy old new stores after f o (Arrived kind method number block 
   placed = takes.3;
 }
 
--- what holds of all that was taken in
+-- what holds of each frame that was placed
 pub ok_taken : (T : Table) (policy : Option AccessPolicy) (old new : Receiving) (stores after : List (ℕ × ℕ)) (f : Frame) (o : Opened) (r : Result Arrival Memory)
     → old.heap.words ≤ 65536 → IsFirst old.fed f → IsOpened T old.conn f o → IsRefusal policy old.heap.words o None
     → IfOk r (λ a. (g : Frame) → IsFirst old.fed g → IsOpened T old.conn g o → TakesCall T old new g o stores after a)
@@ -96,7 +96,7 @@ ok_taken T policy old new stores after f o (Ok a) small first is allowed takes =
     taken_turns T policy old new stores after f o a (allowed_fate T policy old.conn old.heap.words f o small is allowed) is.normal (takes f first is)
 ok_taken T policy old new stores after f o (Err e) small first is allowed takes = tt
 
--- ---- what was read of the first frame counts for nothing in a turn
+-- ---- a turn doesn't depend on whether the first frame was decoded before
 
 fate_from : (T : Table) (policy : Option AccessPolicy) (old mid : Receiving) (f : Frame) (fate : Fate) → HasStayed old mid
     → IsFate T policy mid.conn mid.heap.words f fate → IsFate T policy old.conn old.heap.words f fate

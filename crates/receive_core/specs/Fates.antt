@@ -1,4 +1,4 @@
--- What becomes of a received frame (this project's own).
+-- The fates of received frames (this project's own).
 use Rattle.std.specs.Prelude.{◌≡◌, ◌≢◌, ℕ, ◌-◌, ◌<◌, ◌≤◌, ◌==◌, if◌then◌else◌, false, true, max, length, Option, Some, None}
 use Rattle.mrpc_table.specs.Node.{Node}
 use Rattle.mrpc_table.specs.Calls.{message_at}
@@ -15,20 +15,20 @@ use Rattle.mrpc_table.specs.declared.call.Call.{Call}
 use Rattle.receive_core.specs.declared.arrival.DropCause.{DropCause}
 use Rattle.receive_core.specs.declared.arrival.DropCause.TheVariants.{Hello, NoMethod, Decode, Denied, Oversize}
 
--- The number by which the call of a frame is judged. A request has the number 0, and a reply that of the request which
--- it answers; an answer to none is judged as one to the first.
+-- The number with which the call of a frame is judged: 0 for a request, and for a reply the number of the
+-- request that it answers. A reply to request 0 is judged as one to request 1.
 abbrev pub judged_number : Frame → ℕ
 judged_number f = if f.kind == 2 then max 1 f.number else 0
 
--- the message of a frame's payload, by its place in the table
+-- the message of a frame's payload, by its index in the table
 abbrev pub message_of_frame : Table → Frame → ℕ
 message_of_frame T f = message_at T f.method (judged_number f)
 
--- the call that came on a connection, as policies judge it
+-- the call that arrived on a connection, as policies see it
 abbrev pub call_of : ℕ → Frame → Node → Call
 call_of conn f t = record { conn = conn; seq = f.number; method = f.method; number = judged_number f; tree = t }
 
--- the words of the block in which a message is placed: that of a message of no words has one
+-- the size of a message's block in words; a message of no words has a block of one
 abbrev pub block_words : Table → ℕ → Node → ℕ
 block_words T msg t = max 1 (tree_words T msg t)
 
@@ -47,8 +47,8 @@ pub data Fate : Type 0 where
   drops : DropCause → Fate
   arrives : Node → Fate
 
--- What becomes of a frame on a connection, under a table, a policy, and a heap of so many words, whose place 0 holds
--- nothing. The causes are judged in this order, and the policy before the size.
+-- The fate of a frame on a connection, under a table, a policy, and a heap of `words` words, whose word 0 is
+-- reserved. The causes are checked in this order, the policy before the size.
 pub data IsFate (T : Table) (policy : Option AccessPolicy) (conn words : ℕ) (f : Frame) (fate : Fate) : Type 0 where
   is_hello : f.kind ≡ HELLO → fate ≡ drops Hello → IsFate T policy conn words f fate
   has_no_method : f.kind ≢ HELLO → length T.methods ≤ f.method → fate ≡ drops NoMethod
@@ -72,7 +72,7 @@ abbrev pub HasFate : Type 0
 HasFate = (T : Table) (policy : Option AccessPolicy) (conn words : ℕ) (f : Frame)
     → (fate : Fate) × IsFate T policy conn words f fate
 
--- and no other
+-- and at most one
 abbrev pub HasOneFate : Type 0
 HasOneFate = (T : Table) (policy : Option AccessPolicy) (conn words : ℕ) (f : Frame) (fate other : Fate)
     → IsFate T policy conn words f fate → IsFate T policy conn words f other → fate ≡ other

@@ -1,4 +1,4 @@
--- The life of a receiver: what was fed to it, and what became of the frames in it.
+-- The trace of a receiver: what was fed to it, and the fates of the frames.
 use Rattle.std.specs.Prelude.{◌≡◌, ℕ, ◌+◌, ◌*◌, ◌-◌, ◌<◌, ◌≤◌, List, [], ◌∷◌, ◌++◌, length, map, All, Option, Some, None}
 use Rattle.std.specs.List.{flat_map}
 use Rattle.mrpc_table.specs.Node.{Node}
@@ -21,8 +21,8 @@ use Rattle.receive_core.specs.declared.arrival.Arrival.{Arrival}
 use Rattle.receive_core.specs.declared.arrival.Arrival.TheVariants.{None as NoFrame, Arrived, Dropped, Waiting}
 use Rattle.receive_core.specs.declared.arrival.DropCause.{DropCause}
 
--- A frame that had its fate, with the policy under which it was judged: it was dropped for a cause, or its message was
--- placed in a block, and stands in words of the heap.
+-- A frame with its fate and the policy under which it was judged. It was dropped for a cause, or its message was
+-- placed in a block of the heap.
 pub data Fated : Type 0 where
   was_dropped : Frame → Option AccessPolicy → DropCause → Fated
   was_placed : Frame → Option AccessPolicy → Node → Block → PlacedWords → Fated
@@ -36,7 +36,7 @@ abbrev pub stores_of : Fated → List (ℕ × ℕ)
 stores_of (was_dropped f policy why) = []
 stores_of (was_placed f policy t block placed) = placed.words
 
--- a frame arrived, and its message stands in its block
+-- a frame arrived, and its message is in its block
 pub record HasArrived (T : Table) (policy : Option AccessPolicy) (conn words : ℕ) (f : Frame) (t : Node)
     (block : Block) (placed : PlacedWords) : Type 0 where
   pub fate : IsFate T policy conn words f (arrives t)
@@ -44,39 +44,39 @@ pub record HasArrived (T : Table) (policy : Option AccessPolicy) (conn words : �
   pub stands : StandsIn T words (message_of_frame T f) t block.at block.words placed
   pub inside : block.words ≤ words - 1
 
--- it is the frame's own fate, on a connection and a heap of so many words
+-- the frame has this fate on a connection and a heap of `words` words
 abbrev pub HasItsFate : Table → ℕ → ℕ → Fated → Type 0
 HasItsFate T conn words (was_dropped f policy why) = IsFate T policy conn words f (drops why)
 HasItsFate T conn words (was_placed f policy t block placed) = HasArrived T policy conn words f t block placed
 
--- a stream from a place on is these whole frames, and behind them it has this first fault, or none so far
+-- a stream from an offset on has these whole frames, and after them this first fault, or none so far
 pub record Reads (place : ℕ) (stream : List ℕ) (frames : List Frame) (fault : Option FeedFault) : Type 0 where
   pub rest : List ℕ
   pub splits : Splits place stream frames rest
   pub first : HasFault (place + length (joined frames)) rest fault
 
--- what a receiver has lived through
+-- the trace of a receiver
 pub record Life : Type 0 where
   -- the bytes that were fed, and their first fault, or none so far
   pub stream : List ℕ
   pub fault : Option FeedFault
-  -- the hello in front, where it was taken as such
+  -- the hello before all other frames, if it was taken as such
   pub hello : Option Frame
-  -- the frames behind it that had their fates, in order
+  -- the frames after it that had their fates, in order
   pub fates : List Fated
 
 abbrev pub hello_in : Option Frame → List Frame
 hello_in None = []
 hello_in (Some f) = f ∷ []
 
--- the frames that were taken of the stream, in order
+-- the frames that were taken from the stream, in order
 abbrev pub frames_of : Life → List Frame
 frames_of life = hello_in life.hello ++ map frame_of life.fates
 
--- A receiver has lived so. The frames that were taken, and behind them those that wait, are the whole frames of its
--- stream, in order and each once, and the bytes behind the taken ones are kept up to the first fault or further. Each
--- frame behind the hello has its fate. Held blocks and holes are a partition of the places of the heap from 1 on, and no
--- more blocks were given than there were fates.
+-- The receiver has this trace. The taken frames, followed by those that wait, are the whole frames of its
+-- stream, in order and each once. The bytes after the taken frames are kept, up to the first fault or further.
+-- Each frame after the hello has its fate. Held blocks and holes partition the places of the heap from 1 on, and
+-- at most one block was allocated for each fate.
 pub record Lives (T : Table) (life : Life) (r : Receiving) : Type 0 where
   pub waiting : List Frame
   pub all : Reads 0 life.stream (frames_of life ++ waiting) life.fault
@@ -89,7 +89,7 @@ pub record Lives (T : Table) (life : Life) (r : Receiving) : Type 0 where
   pub sound : IsSound r.heap
   pub blocks : r.heap.next ≤ length life.fates + 1
 
--- at first nothing has come
+-- the trace before anything arrived
 abbrev pub no_life : Life
 no_life = record { stream = []; fault = None; hello = None; fates = [] }
 
@@ -106,11 +106,11 @@ abbrev pub fated : Life → List Fated → Life
 fated life more =
     record { stream = life.stream; fault = life.fault; hello = life.hello; fates = life.fates ++ more }
 
--- what an answer tells of a frame
+-- the result of a turn has the kind, method and number of this frame
 abbrev pub IsTold : Frame → ℕ → ℕ → ℕ → Type 0
 IsTold f kind method number = (f.kind ≡ kind) × (f.method ≡ method) × (f.number ≡ number)
 
--- the frames to which a turn under a policy gave their fates: that of its answer, or none
+-- the frames that had their fates in a turn under a policy: the one of its result, or none
 abbrev pub Tells : Option AccessPolicy → Arrival → List Fated → Type 0
 Tells policy NoFrame more = more ≡ []
 Tells policy (Waiting need largest) more = more ≡ []
@@ -119,18 +119,18 @@ Tells policy (Dropped kind method number why) more = (f : Frame) × IsTold f kin
 Tells policy (Arrived kind method number block tree) more = (f : Frame) × IsTold f kind method number
     × (placed : PlacedWords) × (more ≡ was_placed f policy tree block placed ∷ [])
 
--- where no whole frame waits, each whole frame of the stream was taken
+-- if no whole frame waits, each whole frame of the stream was taken
 abbrev pub TakesEach : Type 0
 TakesEach = (T : Table) (life : Life) (r : Receiving) → Lives T life r → IsPartial r.fed.bytes
     → Reads 0 life.stream (frames_of life) life.fault
 
--- and while there is no fault, the stream is shorter than a hello, the frames that had their fates, and one more would
--- be, each of the largest size
+-- and without a fault so far, the stream is shorter than a hello, the frames with fates and one more, each of
+-- the maximum size
 abbrev pub StreamIsShort : Type 0
 StreamIsShort = (T : Table) (life : Life) (r : Receiving) → Lives T life r → IsPartial r.fed.bytes
     → life.fault ≡ None → length life.stream < (length life.fates + 2) * (HEADER_LEN + MAX_PAYLOAD)
 
--- For each fate at most the words of the heap behind its first were stored.
+-- For each fate, at most the words of the heap without word 0 were stored.
 abbrev pub StoresAreFew : Type 0
 StoresAreFew = (T : Table) (life : Life) (r : Receiving) → Lives T life r
     → length (flat_map stores_of life.fates) ≤ length life.fates * (r.heap.words - 1)

@@ -1,4 +1,4 @@
--- How the fate of a frame is found: its call is read, and then it is refused or not.
+-- How the fate of a frame is found: its call is decoded, and then it is accepted or refused.
 use Rattle.std.specs.Prelude.{◌≡◌, ℕ, ◌-◌, ◌<◌, ◌≤◌, ◌⊎◌, false, Option, Some, None}
 use Rattle.mrpc_table.specs.Normal.{IsNormal}
 use Rattle.mrpc_table.specs.declared.table.Table.{Table}
@@ -13,7 +13,7 @@ use Rattle.receive_core.specs.declared.opened.Opened.{Opened}
 use Rattle.receive_core.specs.declared.opened.Reading.{Reading}
 use Rattle.receive_core.specs.declared.opened.Reading.TheVariants.{Call as Reads, Dropped}
 
--- a frame was read as the call that it is, with the words of its block
+-- a frame was decoded as its call, with the words of its block
 pub record IsOpened (T : Table) (conn : ℕ) (f : Frame) (o : Opened) : Type 0 where
   pub is_call : IsCall T f
   pub means : Means T (message_of_frame T f) f.payload o.call.tree
@@ -21,13 +21,13 @@ pub record IsOpened (T : Table) (conn : ℕ) (f : Frame) (o : Opened) : Type 0 w
   pub call : o.call ≡ call_of conn f o.call.tree
   pub words : o.words ≡ capped (block_words T (message_of_frame T f) o.call.tree)
 
--- the code's own: what a frame is read as: its call, or the cause for which it is dropped under each policy and on each
+-- the code's own: a decoded frame: its call, or the cause for which it is dropped under each policy and on each
 -- heap
 abbrev pub IsReading : Table → ℕ → Frame → Reading → Type 0
 IsReading T conn f (Reads o) = IsOpened T conn f o
 IsReading T conn f (Dropped why) = (policy : Option AccessPolicy) (words : ℕ) → IsFate T policy conn words f (drops why)
 
--- the code's own: why a call is refused on a heap of so many words, or that it isn't
+-- the code's own: why a call is refused on a heap of `words` words, or that it isn't
 abbrev pub IsRefusal : Option AccessPolicy → ℕ → Opened → Option DropCause → Type 0
 IsRefusal policy words o None = Allows policy o.call × (o.words ≤ words - 1)
 IsRefusal policy words o (Some why) = ((p : AccessPolicy) × (policy ≡ Some p)

@@ -1,4 +1,4 @@
--- What a connection's receiver holds, and what a turn makes of it.
+-- The state of a connection's receiver, and what a turn does to it.
 use Rattle.std.specs.Prelude.{◌≡◌, ℕ, ◌+◌, ◌<◌, List, [], ◌∷◌, ◌++◌, All, Option, IfSome}
 use Rattle.mrpc_table.specs.Node.{Node}
 use Rattle.mrpc_table.specs.Normal.{IsNormal}
@@ -18,30 +18,30 @@ use Rattle.receive_core.specs.declared.arrival.Arrival.TheVariants.{None as NoFr
 use Rattle.receive_core.specs.declared.arrival.DropCause.{DropCause}
 use Rattle.receive_core.specs.declared.opened.Opened.{Opened}
 
--- A receiver: its connection, what was fed and lies in no frame that was taken, the held blocks and the holes of its
--- heap, and the call of the first frame where it was read already.
+-- A receiver: its connection, the bytes that were fed and are in no taken frame, the held blocks and holes of
+-- its heap, and the call of the first frame if it was decoded already.
 pub record Receiving : Type 0 where
   pub conn : ℕ
   pub fed : Fed
   pub heap : Layout
   pub opened : Option Opened
 
--- the first whole frame of what was fed
+-- the first whole frame of the fed bytes
 pub record IsFirst (fed : Fed) (f : Frame) : Type 0 where
   pub rest : List ℕ
   pub frame : IsFrame f
   pub bytes : fed.bytes ≡ bytes_of f ++ rest
   pub place : f.place ≡ fed.place
 
--- what was fed is whole frames and a rest
+-- the fed bytes are whole frames and a remainder
 abbrev pub IsSplit : Fed → Type 0
 IsSplit fed = (frames : List Frame) × (rest : List ℕ) × Splits fed.place fed.bytes frames rest
 
--- what was read already is the first frame, under this table
+-- the call that was decoded already is that of the first frame, under this table
 abbrev pub IsReady : Table → Receiving → Type 0
 IsReady T r = IfSome r.opened (λ o. (f : Frame) × IsFirst r.fed f × IsOpened T r.conn f o)
 
--- The first frame is dropped: its fate says why, and it is gone.
+-- The first frame is dropped for the cause of its fate.
 pub record DropsFirst (T : Table) (policy : Option AccessPolicy) (old new : Receiving) (kind method number : ℕ)
     (why : DropCause) : Type 0 where
   pub frame : Frame
@@ -50,7 +50,7 @@ pub record DropsFirst (T : Table) (policy : Option AccessPolicy) (old new : Rece
   pub fate : IsFate T policy old.conn old.heap.words frame (drops why)
   pub heap : new.heap ≡ old.heap
 
--- The first frame waits: it may arrive, no hole has the words of its block, and it stays first.
+-- The first frame waits: its fate is to arrive, but no hole has the words of its block, so it stays first.
 pub record LetsWait (T : Table) (policy : Option AccessPolicy) (old new : Receiving) (need largest : ℕ) : Type 0 where
   pub frame : Frame
   pub first : IsFirst old.fed frame
@@ -62,7 +62,8 @@ pub record LetsWait (T : Table) (policy : Option AccessPolicy) (old new : Receiv
   pub stays : new.fed ≡ old.fed
   pub heap : new.heap ≡ old.heap
 
--- A message was placed: its block is the front of the first hole that fits, it stands there, and its words were stored.
+-- A message was placed: its block is the start of the first hole that fits, the message is in it, and its words
+-- were stored.
 pub record IsPlaced (T : Table) (msg : ℕ) (tree : Node) (old new : Layout) (stores after : List (ℕ × ℕ))
     (block : Block) : Type 0 where
   pub words : block.words ≡ block_words T msg tree
@@ -85,7 +86,7 @@ pub record TakesIn (T : Table) (policy : Option AccessPolicy) (old new : Receivi
   pub normal : IsNormal T (message_of_frame T frame) tree
   pub placed : IsPlaced T (message_of_frame T frame) tree old.heap new.heap stores after block
 
--- what a turn answers, and what it makes of the receiver and of the stores to its heap
+-- the result of a turn, and what it does to the receiver and to the stores of its heap
 abbrev pub Turns : Table → Option AccessPolicy → Receiving → Receiving → List (ℕ × ℕ) → List (ℕ × ℕ) → Arrival → Type 0
 Turns T policy old new stores after NoFrame = IsPartial old.fed.bytes × (new ≡ old) × (after ≡ stores)
 Turns T policy old new stores after (Dropped kind method number why) =
@@ -94,14 +95,14 @@ Turns T policy old new stores after (Waiting need largest) = LetsWait T policy o
 Turns T policy old new stores after (Arrived kind method number block tree) =
     TakesIn T policy old new stores after kind method number block tree
 
--- the code's own: the call of the first frame was taken in
+-- the code's own: the call of the first frame was placed
 abbrev pub TakesCall : Table → Receiving → Receiving → Frame → Opened → List (ℕ × ℕ) → List (ℕ × ℕ) → Arrival → Type 0
 TakesCall T old new f o stores after (Arrived kind method number block tree) = Gives old.fed f new.fed
     × ((f.kind ≡ kind) × (f.method ≡ method) × (f.number ≡ number)) × (tree ≡ o.call.tree)
     × IsPlaced T (message_of_frame T f) tree old.heap new.heap stores after block
 TakesCall T old new f o stores after _ = ⊥
 
--- all is as it was, but for what was read of the first frame
+-- nothing has changed, except that the call of the first frame may be decoded
 pub record HasStayed (old new : Receiving) : Type 0 where
   pub conn : new.conn ≡ old.conn
   pub fed : new.fed ≡ old.fed

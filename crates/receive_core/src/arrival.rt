@@ -1,31 +1,31 @@
-//! What a turn answers.
+//! The results of a turn.
 
 use mrpc_table::Tree;
 use receive_heap::Block;
 use wire_decode::DecodeReason;
 
-/// Why a frame is dropped. The first cause that holds is the one, in this order.
+/// Why a frame is dropped. If several causes hold, the first in this order counts.
 #[derive(Clone, Copy, PartialEq, Eq)]
 pub enum DropCause {
-    /// It is a hello, which says nothing once a connection is open.
+    /// It is a hello, which has no meaning once a connection is open.
     Hello,
-    /// The table has no method of its index.
+    /// The table has no method with its index.
     NoMethod,
-    /// Its payload isn't a message of its method, for the first fault in its bytes.
+    /// Its payload isn't a message of its method; this is the first fault in its bytes.
     Decode {
         reason: DecodeReason,
-        /// The place of the fault in the payload, from 0.
+        /// The offset of the fault in the payload, from 0.
         place: usize,
     },
-    /// The policy denies its call by the rule at a place; the number of rules stands for the default.
+    /// The policy denies its call by the rule at an index; the number of rules means the default.
     Denied {
         rule: u32,
     },
-    /// Its message takes more words than the heap has behind its first.
+    /// Its message needs more words than the heap has, not counting word 0.
     Oversize {
-        /// The words that it takes; 2^64 - 1 stands for any larger number.
+        /// The words that it needs; 2^64 - 1 means that many or more.
         need: u64,
-        /// The words of the heap.
+        /// The size of the heap in words.
         words: u64,
     },
 }
@@ -35,7 +35,7 @@ pub enum DropCause {
 pub enum Arrival {
     /// No whole frame waits.
     None,
-    /// Its message was placed in a block of the heap, where it stays until the block is taken back.
+    /// Its message was placed in a block of the heap, where it stays until the block is reclaimed.
     Arrived {
         kind: u8,
         method: u16,
@@ -43,17 +43,17 @@ pub enum Arrival {
         block: Block,
         tree: Tree,
     },
-    /// It is gone.
+    /// It was dropped.
     Dropped {
         kind: u8,
         method: u16,
         number: u32,
         why: DropCause,
     },
-    /// No hole of the heap has the words that its message needs. It stays first.
+    /// No hole of the heap is large enough for its message. It stays the first frame.
     Waiting {
         need: u64,
-        /// The words of the largest hole, 0 where there is none.
+        /// The words of the largest hole, 0 if there is none.
         largest: u64,
     },
 }

@@ -27,14 +27,14 @@ use receive_heap::{Extents, NotHeld};
 use std::alloc::Global;
 use std::marker::Model;
 
-/// The receiver of a connection. A clause sees it as the data of `specs/Turns.antt`.
+/// The receiver of a connection. Contracts see it as `Receiving` of `specs/Turns.antt`.
 #[derive(Drop)]
 pub struct Inbound {
     alloc: Global,
     conn: u32,
     feed: Feed,
     extents: Extents,
-    // The call of the first frame, where it was read and waits for a hole.
+    // The call of the first frame, if it was decoded and waits for a hole.
     opened: Option<Opened>,
 }
 
@@ -56,7 +56,7 @@ impl Model for Inbound {
 }
 
 impl Inbound {
-    /// The receiver of a connection, counted from 1, with a heap of so many words, 4 to 65536.
+    /// The receiver of a connection, counted from 1, with a heap of `words` words, 4 to 65536.
     pub fn open(alloc: Global, conn: u32, words: u64) -> Result<Inbound, Memory>
         requires least { MIN_HEAP ≤ words }
         requires most { words ≤ MAX_HEAP }
@@ -81,17 +81,16 @@ impl Inbound {
         })
     }
 
-    /// Takes the next piece of the stream, of which fewer than 2^63 bytes may come. It answers the first fault of the
-    /// stream so far, as [`Feed::feed`] does; the frames in front of it still get their fates. `Memory` leaves the
-    /// receiver as it was.
+    /// Feeds the next piece of the stream, which must stay shorter than 2^63 bytes. Returns the first fault of the
+    /// stream so far, like [`Feed::feed`]; frames before the fault still get their fates. `Memory` changes nothing.
     pub fn bytes(&mut self, piece: &[u8]) -> Result<(), FeedFault>
         requires { total self.old.fed + length piece.now < 2 ^ 63 }
 
-        // The stream goes on, and there is no fault in it so far.
+        // The piece extends the stream, and there is no fault so far.
         ensures ok { OnOk result (GoesOn self.old.fed piece.now self.new.fed) }
         ensures clean { OnOk result (Ends self.old.fed.place (self.old.fed.bytes ++ piece.now) None) }
 
-        // A fault is the first one of the stream with the piece.
+        // A fault is the first one of the stream including the piece.
         ensures fault { IfErr result (λ fault. (fault ≡ FeedFault.Memory)
             ⊎ Ends self.old.fed.place (self.old.fed.bytes ++ piece.now) (Some fault)) }
         ensures stops { IfErr result (λ fault. (fault ≡ FeedFault.Memory)
@@ -100,7 +99,7 @@ impl Inbound {
         ensures again { (fault : TheFault) → Ends self.old.fed.place self.old.fed.bytes (Some fault)
             → result ≡ Err fault }
 
-        // The receiver lives on, with the piece behind its stream.
+        // Its trace is extended: the piece is appended to the stream.
         ensures life { (T : TheTable) (life : TheLife) → Lives T life self.old
             → OnOk result (Lives T (fed life piece.now None) self.new) }
         ensures life_at_fault { (T : TheTable) (life : TheLife) → Lives T life self.old
@@ -118,7 +117,7 @@ impl Inbound {
         self.feed.feed(piece)
     }
 
-    /// The first whole frame that waits, or None where none does. It takes no memory.
+    /// The first whole frame that waits, or `None`. Never allocates.
     pub fn first(&self) -> Option<&Frame>
         ensures some { IfSome result (λ frame. IsFirst self.now.fed frame.now) }
         ensures none { IfNone result (IsPartial self.now.fed.bytes) }
@@ -126,8 +125,8 @@ impl Inbound {
         first_of(&self.feed)
     }
 
-    /// Takes the first whole frame where it is a hello, which then has no fate; it opens a connection as the first frame
-    /// of its stream. None where the first whole frame is another one, or none waits. It takes no memory.
+    /// Takes the first whole frame if it is a hello, which then has no fate; as the first frame of the stream it
+    /// opens the connection. Returns `None` if the first whole frame is another one, or none waits. Never allocates.
     pub fn take_hello(&mut self) -> Option<Frame>
         ensures hello { IfSome result (λ frame. frame.kind ≡ HELLO) }
         ensures taken { IfSome result (λ frame. Gives self.old.fed frame self.new.fed) }
@@ -139,7 +138,7 @@ impl Inbound {
         ensures total { total self.new.fed ≡ total self.old.fed }
         ensures ready { (T : TheTable) → IsReady T self.old → IsReady T self.new }
 
-        // The receiver lives on, where no frame had its fate before.
+        // Its trace is extended, if no frame had a fate before.
         ensures life { IfSome result (λ frame. (T : TheTable) (life : TheLife) → Lives T life self.old
             → life.hello ≡ None → life.fates ≡ [] → Lives T (greeted life frame) self.new) }
     {
@@ -154,10 +153,11 @@ impl Inbound {
         Some(self.take_first())
     }
 
-    /// Gives the first whole frame its fate, under a table and a policy, and tells it. A message that arrives is placed
-    /// in the heap, which is this receiver's alone and has as many words as [`Inbound::open`] was told.
+    /// Handles the first whole frame under a table and a policy, and returns what became of it. A message that
+    /// arrives is placed in the heap, which must be this receiver's alone and have the size passed to
+    /// [`Inbound::open`].
     ///
-    /// The only error is `Memory`. It leaves the frame first and the heap as it was.
+    /// The only error is `Memory`. The frame stays first and the heap is unchanged.
     pub fn turn<H: Stores>(
         &mut self,
         table: &Table,
@@ -174,7 +174,7 @@ impl Inbound {
             (H.stores heap.old) (H.stores heap.new)) }
         ensures none { (result ≡ Ok Arrival.None) ↔ IsPartial self.old.fed.bytes }
 
-        // The receiver lives on, and its heap with it.
+        // Its trace is extended, and so are the stores to its heap.
         ensures life { (life : TheLife) → Lives table.now life self.old → IfOk result (λ arrival. (more : List Fated)
             × Tells (option_copied policy.entry) arrival more
             × (H.stores heap.new ≡ H.stores heap.old ++ flat_map stores_of more)
@@ -202,7 +202,7 @@ impl Inbound {
         arrival
     }
 
-    /// Takes a block back by its number, as [`Extents::reclaim`] does. It takes no memory.
+    /// Reclaims a block by its number, like [`Extents::reclaim`]. Never allocates.
     pub fn reclaim(&mut self, block: u64) -> Result<(), NotHeld>
         ensures held { OnOk result (IsWithout block self.old.heap.held self.new.heap.held) }
         ensures size { self.new.heap.words ≡ self.old.heap.words }
@@ -215,7 +215,7 @@ impl Inbound {
         ensures fed { self.new.fed ≡ self.old.fed }
         ensures ready { (T : TheTable) → IsReady T self.old → IsReady T self.new }
 
-        // The receiver lives on.
+        // Its trace is unchanged.
         ensures life { (T : TheTable) (life : TheLife) → Lives T life self.old → Lives T life self.new }
     {
         let taken_back = self.extents.reclaim(block);
@@ -223,8 +223,8 @@ impl Inbound {
         taken_back
     }
 
-    /// The kind, the method and the number of the whole frame behind `i` others that have no fate yet, or None where no
-    /// more wait. It takes no memory.
+    /// The kind, method and number of the whole frame after `i` others without a fate, or `None` if no more wait.
+    /// Never allocates.
     pub fn waiting(&self, i: u64) -> Option<(u8, u16, u32)>
         ensures some { IfSome result (λ shown. (frames : List TheFrame) (rest : List ℕ)
             → Splits self.now.fed.place self.now.fed.bytes frames rest
@@ -236,7 +236,7 @@ impl Inbound {
         Some((frame.kind, frame.method, frame.number))
     }
 
-    /// How many bytes were fed that lie in no whole frame. It takes no memory.
+    /// How many of the fed bytes are in no whole frame. Never allocates.
     pub fn left_over(&self) -> u64
         ensures { (frames : List TheFrame) (rest : List ℕ) → Splits self.now.fed.place self.now.fed.bytes frames rest
             → result ≡ length rest + self.now.fed.behind }
@@ -244,21 +244,21 @@ impl Inbound {
         self.feed.left_over()
     }
 
-    /// How many bytes were fed. It takes no memory.
+    /// How many bytes were fed. Never allocates.
     pub fn fed(&self) -> u64
         ensures { result ≡ total self.now.fed }
     {
         self.feed.fed()
     }
 
-    // What the heap is in each receiver; it does nothing.
+    // A law; it does nothing. The invariant of the heap.
     fn partition(&self)
         ensures { IsSound self.now.heap }
     {
         self.extents.partition();
     }
 
-    // What a turn does.
+    // The body of `turn`.
     fn answer<H: Stores>(
         &mut self,
         table: &Table,
@@ -290,7 +290,7 @@ impl Inbound {
         }
     }
 
-    // What the first frame is read as, or None where no whole frame waits. Its call is read once: it is kept while it
+    // The first frame as decoded, or `None` if no whole frame waits. Its call is decoded once: it is kept while it
     // waits, and taken here.
     fn read_first(&mut self, table: &Table) -> Result<Option<Reading>, Memory>
         requires valid { IsValid table.now }
@@ -313,7 +313,7 @@ impl Inbound {
         Ok(Some(read_frame(self.alloc, self.conn, frame, table)?))
     }
 
-    // Gives the first frame, whose call was read, its fate.
+    // Handles the first frame, whose call was decoded.
     fn judge_first<H: Stores>(
         &mut self,
         opened: Opened,
@@ -349,7 +349,7 @@ impl Inbound {
         }
     }
 
-    // Takes the first frame, which is there.
+    // Takes the first frame, which must exist.
     fn take_first(&mut self) -> Frame
         requires { (f : TheFrame) × IsFirst self.old.fed f }
         ensures frame { (f : TheFrame) → IsFirst self.old.fed f → (result ≡ f) × Gives self.old.fed f self.new.fed }
@@ -399,8 +399,8 @@ impl Inbound {
         }
     }
 
-    // Places the call of the first frame in a block that begins at the first place of a hole. All memory is taken
-    // before the first word is stored and before the frame goes.
+    // Places the call of the first frame in a block that starts at the first place of a hole. Allocates everything
+    // before it stores the first word and takes the frame.
     fn take_in<H: Stores>(
         &mut self,
         opened: Opened,
@@ -450,7 +450,7 @@ impl Inbound {
     }
 }
 
-// The first whole frame of a feed, where one waits.
+// The first whole frame of a feed, if one waits.
 fn first_of(feed: &Feed) -> Option<&Frame>
     requires { IsSplit feed.now }
     ensures some { IfSome result (λ frame. IsFirst feed.now frame.now) }

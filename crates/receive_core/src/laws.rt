@@ -1,4 +1,4 @@
-//! What holds of all frames.
+//! Laws of all frames.
 
 ghost use Rattle.receive_core.specs.Fates.{HasFate, HasOneFate};
 ghost use Rattle.receive_core.specs.Life.{TakesEach, StreamIsShort, StoresAreFew};
@@ -7,7 +7,7 @@ ghost use Rattle.receive_core.specs.Order.{BeginsSo, GoesOnSo, StopsSo, TakesSo,
 use frame_transport::{frames_join, one_frame, one_split};
 use wire_decode::{meaning_or_fault, one_fault, one_meaning};
 
-/// A frame has one fate under a table, a policy and a heap. The call does nothing.
+/// A law; it does nothing. A frame has exactly one fate under a table, a policy and a heap.
 pub fn one_fate()
     ensures some { HasFate }
     ensures one { HasOneFate }
@@ -17,9 +17,9 @@ pub fn one_fate()
     one_meaning();
 }
 
-/// Over the life of a connection the frames that had their fates are the first of its stream, in order and once,
-/// however it was cut: so it is at the opening, and it stays so at each piece of [`crate::Inbound::bytes`] and at each
-/// frame that [`crate::Inbound::turn`] takes. The call does nothing.
+/// A law; it does nothing. Over the trace of a connection, the frames with fates are a prefix of the stream's
+/// frames, in order and once, however the stream was cut into pieces. It holds initially, and each piece of
+/// [`crate::Inbound::bytes`] and each frame that [`crate::Inbound::turn`] takes preserve it.
 pub fn frames_in_order()
     ensures begins { BeginsSo }
     ensures goes_on { GoesOnSo }
@@ -32,10 +32,10 @@ pub fn frames_in_order()
     one_split();
 }
 
-/// What the life of a receiver tells the layer above, whatever pieces and turns it had. Where no whole frame waits, each
-/// whole frame of the stream had its fate, but for a hello that was taken, and a stream without a fault is shorter than
-/// a hello, these frames and one more, each of the largest size. For each fate at most the words of the heap behind its
-/// first were stored. The call does nothing.
+/// A law; it does nothing. What the trace of a receiver implies for the layer above, after any pieces and turns.
+/// If no whole frame waits, each whole frame of the stream had its fate, except a hello that was taken. A stream
+/// without a fault is then shorter than a hello, these frames and one more, each of the maximum size. For each
+/// fate, at most the words of the heap without word 0 were stored.
 pub fn life_of_receiver()
     ensures each { TakesEach }
     ensures short { StreamIsShort }

@@ -1,4 +1,4 @@
-//! The call of a frame, which is read once.
+//! The call of a frame, which is decoded once.
 
 ghost use Rattle.std.specs.Prelude.{◌≡◌, ◌≤◌, IfOk};
 ghost use Rattle.std.specs.Option.{option_copied};
@@ -19,17 +19,17 @@ use wire_decode::{DecodeFault, decode};
 #[derive(Drop)]
 pub(crate) struct Opened {
     pub call: Call,
-    // 2^64 - 1 stands for any larger number.
+    // 2^64 - 1 means that many or more.
     pub words: u64,
 }
 
-// What a frame is read as.
+// A decoded frame.
 pub(crate) enum Reading {
     Call(Opened),
     Dropped(DropCause),
 }
 
-// The number by which the call of a frame is judged.
+// The number with which the call of a frame is judged.
 fn judged_number(frame: &Frame) -> u32
     ensures { result ≡ judged_number frame.now }
 {
@@ -39,7 +39,7 @@ fn judged_number(frame: &Frame) -> u32
     }
 }
 
-// Reads a frame that came on a connection.
+// Decodes a frame that arrived on a connection.
 pub(crate) fn read_frame(
     alloc: Global,
     conn: u32,
@@ -75,7 +75,7 @@ pub(crate) fn read_frame(
     }
 }
 
-// Why the call of a frame doesn't arrive, where the policy denies it or a heap of so many words is too small.
+// Why the call of a frame doesn't arrive: the policy denies it, or a heap of `words` words is too small.
 pub(crate) fn refusal(
     opened: &Opened,
     table: &Table,

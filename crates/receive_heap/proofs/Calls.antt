@@ -1,4 +1,4 @@
--- What the two calls keep.
+-- The two calls preserve the invariant.
 use Rattle.std.proofs.Common.{◌≡◌, ◌<◌, ◌≤◌, ◌+◌, ℕ, cond, List, [], ◌∷◌, ◌++◌, Some, length, length-append, arith}
 use Rattle.std.proofs.Common.{refl, sym, ◌∙◌, ap, subst, map, get_or}
 use Rattle.std.specs.List.{sum_by}

@@ -1,4 +1,4 @@
--- A span among the holes: joined with the holes that it touches, and set among the others.
+-- A span among the holes: merged with the holes that it touches, and inserted among the others.
 use Rattle.std.proofs.Common.{◌≡◌, ◌≢◌, ◌<◌, ◌≤◌, ◌+◌, ◌-◌, ℕ, suc, ◌⊎◌, true, nat_lt, List, ◌∷◌, All, get_or, length}
 use Rattle.std.proofs.Common.{take, drop, arith, sym, ◌∙◌, ap, subst, ⊎_elim}
 use Rattle.std.specs.List.{AllWithin, insert, remove}
@@ -37,7 +37,7 @@ holes_removed holes i lt are = record {
 pub same_hole : (holes : List Span) (i : ℕ) (a b : Span) → i < length holes → a ≡ get_or holes i a → b ≡ get_or holes i b → a ≡ b
 same_hole holes i a b lt is was = is ∙ get_or_default holes i a b lt ∙ sym was
 
--- ---- the hole behind
+-- ---- the next hole
 
 pub clear_joined : (holes : List Span) (i : ℕ) (s h : Span) → AreHoles holes → i < length holes → h ≡ get_or holes i h → h.at ≡ s.at + s.words
     → IsClearBehind (remove holes i) i (record { at = s.at; words = s.words + h.words })
@@ -78,7 +78,7 @@ clear_apart holes i s h are stands lt is differs k d le klt =
     subst (λ x. s.at + s.words < x.at) (is ∙ get_or_default holes i h d lt ∙ ap (λ j. get_or holes j d) e) c)
     (cases_lt i k)
 
--- ---- the hole before
+-- ---- the previous hole
 
 pub clear_joined_before : (holes : List Span) (i : ℕ) (s h : Span) → AreHoles holes → 0 < i → i - 1 < length holes → h ≡ get_or holes (i - 1) h
     → IsClearBefore (remove holes (i - 1)) (i - 1) (record { at = h.at; words = h.words + s.words })
@@ -121,7 +121,7 @@ clear_apart_before holes i s h are stands some lt is differs k d klt =
 
 -- ---- the span among the holes
 
--- what stands at a place of the list with the span: a hole before it, the span, or a hole behind it
+-- what is at an index of the list with the span: an earlier hole, the span, or a later hole
 pub holes_inserted : (holes : List Span) (i : ℕ) (s : Span) → AreHoles holes → Stands holes i s → IsClearBehind holes i s → IsClearBefore holes i s → AreHoles (insert holes i s)
 holes_inserted holes i s are stands behind before = record {
   apart = λ j k d less klt.
@@ -170,7 +170,7 @@ holes_inserted holes i s are stands behind before = record {
   small = all_insert (λ hole. hole.at + hole.words ≤ MAX_HEAP) holes i s stands.small are.small;
 }
 
--- a span that meets no hole stands behind those that begin before it
+-- a span that overlaps no hole is after those that start before it
 pub stands_between : (holes : List Span) (i : ℕ) (s : Span) → AreHoles holes → 1 ≤ s.words → s.at + s.words ≤ MAX_HEAP → MeetsNone holes s
     → i ≤ length holes → AllWithin (λ hole. hole.at < s.at) holes 0 i → AllWithin (λ hole. s.at ≤ hole.at) holes i (length holes) → Stands holes i s
 stands_between holes i s are some small none within low high = record {

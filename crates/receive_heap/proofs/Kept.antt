@@ -1,4 +1,4 @@
--- The map of held blocks, and the partition through a call.
+-- The map of held blocks, and the partition after a call.
 use Rattle.std.proofs.Common.{◌≡◌, ◌≢◌, ◌<◌, ◌≤◌, ◌+◌, ◌⊎◌, ℕ, zero, suc, Bool, true, false, cond, List, [], ◌∷◌}
 use Rattle.std.proofs.Common.{◌++◌, All, Some, None, map, length, get_or, take, drop, arith, refl, sym, ◌∙◌, ap}
 use Rattle.std.proofs.Common.{subst, ⊎_elim}
@@ -17,7 +17,7 @@ use Rattle.receive_heap.specs.Parts.{IsEntry, FitsAt}
 behind : (number next : ℕ) → number < next → nat_cmp next number ≡ Greater
 behind number next lt = grind (arith, nat_tests)
 
--- an entry whose key is past all others goes last
+-- an entry whose key is greater than all others is appended
 pub insert_entry-last : (entries : List (ℕ × Block)) (next : ℕ) (block : Block) → All (IsEntry next) entries
     → insert_entry nat_cmp entries next block ≡ entries ++ (next, block) ∷ []
 insert_entry-last [] next block known = refl
@@ -26,7 +26,7 @@ insert_entry-last (e ∷ entries) next block known =
     ap (λ order. match_ordering order ((next, block) ∷ e ∷ entries) ((e.0, block) ∷ entries) (e ∷ insert_entry nat_cmp entries next block)) (behind e.0 next head.2)
     ∙ ap (λ rest. e ∷ rest) (insert_entry-last entries next block (All-tail (IsEntry next) e entries known))
 
--- ---- the entry of a number
+-- ---- the entry with a number
 
 at_own : (number key : ℕ) → number ≡ key → is_at (nat_cmp number) key ≡ true
 at_own number key is = grind (arith, nat_tests)
@@ -170,7 +170,7 @@ fits_some holes words index fits all =
     let d : Span = record { at = 0; words = 0 } in
     omega (arith, fits.there d, All-get_or (λ hole. hole.words < words) holes index d fits.within all)
 
--- the first hole that fits is one
+-- the first hole that fits is unique
 one_first : (words : ℕ) (xs ys : List Span) (x y : Span) (more others : List Span) → xs ++ x ∷ more ≡ ys ++ y ∷ others
     → All (λ hole. hole.words < words) xs → All (λ hole. hole.words < words) ys → words ≤ x.words → words ≤ y.words → x ≡ y
 one_first words [] [] x y more others e xs ys hx hy = cc
@@ -188,7 +188,7 @@ pub one_fit : (holes : List Span) (words at other : ℕ) → IsFirstFit holes wo
 one_fit holes words at other a b =
     a.at_front ∙ ap (λ (h : Span). h.at) (one_first words a.before b.before a.hole b.hole a.after b.after (sym a.is ∙ b.is) a.too_small b.too_small a.fits b.fits) ∙ sym b.at_front
 
--- where a hole fits, not all are too small
+-- if a hole fits, not all are too small
 pub fit_some : (holes : List Span) (words at : ℕ) → IsFirstFit holes words at → All (λ hole. hole.words < words) holes → ⊥
 fit_some holes words at fit all =
     omega (arith, fit.fits, All-middle fit.before fit.hole fit.after (subst (All (λ hole. hole.words < words)) fit.is all))
@@ -199,7 +199,7 @@ fit_some holes words at fit all =
 
 -- ---- the places
 
--- two heaps whose places have as many owners
+-- two heaps whose places have equally many owners
 pub partition_kept : (old new : Layout) → old.words ≡ new.words → ((place : ℕ) → owners_of new place ≡ owners_of old place) → IsPartition old → IsPartition new
 partition_kept old new same owners is = record {
   inside = λ place from below. owners place ∙ is.inside place from (omega (arith, same, below));

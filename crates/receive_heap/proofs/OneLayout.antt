@@ -1,4 +1,4 @@
--- Holes that stand apart are determined by the places that they have.
+-- Disjoint holes are determined by their places.
 use Rattle.std.proofs.Common.{◌≡◌, ℕ, suc, ◌+◌, ◌<◌, ◌≤◌, List, [], ◌∷◌, All, refl, sym, ap, arith, ⊎_elim, inl, inr}
 use Rattle.std.proofs.lemmas.Bool.{cases_lt}
 use Rattle.std.proofs.lemmas.Bool.Decides.{nat_tests}
@@ -43,7 +43,7 @@ apart_tail x xs apart i j d le lt = apart (suc i) (suc j) d (omega (arith, le)) 
 weaker : (low high : ℕ) (xs : List Span) → low ≤ high → All (λ hole. high < hole.at) xs → All (λ hole. low < hole.at) xs
 weaker low high xs le all k d lt = let h = all k d lt in omega (arith, h, le)
 
--- all holes begin behind a place that is before the first of them
+-- if a place is before the first hole, all holes start after it
 all_behind : (x : Span) (xs : List Span) (place : ℕ) → AreApart (x ∷ xs) → place < x.at → holes_at (x ∷ xs) place ≡ 0
 all_behind x xs place apart before =
     let here = not_yet x place before in
@@ -51,7 +51,7 @@ all_behind x xs place apart before =
     let sum = counted x xs place in
     omega (arith, here, rest, sum)
 
--- right behind the first hole there is none
+-- right after the first hole there is none
 none_right_behind : (x : Span) (xs : List Span) → AreApart (x ∷ xs) → holes_at (x ∷ xs) (x.at + x.words) ≡ 0
 none_right_behind x xs apart =
     let here = has_not x (x.at + x.words) (omega arith) in
@@ -116,7 +116,7 @@ one_list (x ∷ xs) (y ∷ ys) a b p q same =
     (same_tail x y xs ys head same) in
     (λ i. head i ∷ tail i)
 
--- each place has one owner, so where the held blocks are the same, the holes have the same places
+-- each place has one owner, so with the same held blocks the holes have the same places
 same_places : (one other : Layout) → IsSound one → IsSound other → one.words ≡ other.words → one.held ≡ other.held → SamePlaces one.holes other.holes
 same_places one other a b words held place =
     let blocks : count_by (λ (block : Block). has_place block.at block.words place) one.held ≡ count_by (λ (block : Block). has_place block.at block.words place) other.held =

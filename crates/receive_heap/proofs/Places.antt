@@ -1,4 +1,4 @@
--- What the partition says of one hole and one held block.
+-- What the partition implies for one hole and one held block.
 use Rattle.std.proofs.Common.{◌≡◌, ◌<◌, ◌≤◌, ◌+◌, ◌-◌, ℕ, Bool, cond, List, All, Some, get_or, length, arith, ap, subst, ⊎_elim, inl, inr}
 use Rattle.std.specs.Prelude.{unwrap_or, option_map}
 use Rattle.std.specs.List.{sum_by}
@@ -35,7 +35,7 @@ hole_within layout is some i d lt =
     (λ (le : h.at + h.words ≤ layout.words). le)
     (cases_lt layout.words (h.at + h.words))
 
--- a hole begins behind the first place
+-- a hole starts after the first place
 pub hole_behind : (layout : Layout) → IsPartition layout → All (λ hole. 1 ≤ hole.words) layout.holes → (i : ℕ) (d : Span) → i < length layout.holes
     → 1 ≤ (get_or layout.holes i d).at
 hole_behind layout is some i d lt =
@@ -64,7 +64,7 @@ pub taken : (f : Block → ℕ) (test : ℕ → Bool) (entries : List (ℕ × Bl
 taken f test entries block found =
     subst (λ r. sum_by f (values_of (remove_entry test entries)) + unwrap_or (option_map f r) 0 ≡ sum_by f (values_of entries)) found (sum_by-remove_entry f test entries)
 
--- a place has one owner at most
+-- a place has at most one owner
 at_most_one : (layout : Layout) → IsPartition layout → (place : ℕ) → owners_of layout place ≤ 1
 at_most_one layout is place =
     ⊎_elim

@@ -1,4 +1,4 @@
--- How blocks and holes lie in a heap of words (this project's own).
+-- The layout of blocks and holes in a heap of words (this project's own).
 use Rattle.std.specs.Prelude.{◌≡◌, ℕ, ◌+◌, ◌<◌, ◌≤◌, ◌⊎◌, ◌&&◌, Bool, nat_le, nat_lt, List, ◌∷◌, ◌++◌, All, map, Result, Ok, Err}
 use Rattle.std.specs.List.{Any, AllPairs, count_by}
 use Rattle.std.specs.List.Sorted.{IsStrictlyIncreasing}
@@ -14,7 +14,7 @@ pub record Layout : Type 0 where
   pub held : List Block
   pub next : ℕ
 
--- whether the places from `at` on, so many, have this one among them
+-- whether a place is one of the `words` places from `at` on
 abbrev pub has_place : ℕ → ℕ → ℕ → Bool
 has_place at words place = nat_le at place && nat_lt place (at + words)
 
@@ -23,16 +23,16 @@ abbrev pub owners_of : Layout → ℕ → ℕ
 owners_of layout place = count_by (λ hole. has_place hole.at hole.words place) layout.holes
     + count_by (λ block. has_place block.at block.words place) layout.held
 
--- each place from 1 on is in one hole or one held block, and they have no other place
+-- each place from 1 on is in exactly one hole or held block, and they have no other place
 pub record IsPartition (layout : Layout) : Type 0 where
   pub inside : (place : ℕ) → 1 ≤ place → place < layout.words → owners_of layout place ≡ 1
   pub outside : (place : ℕ) → (place < 1) ⊎ (layout.words ≤ place) → owners_of layout place ≡ 0
 
--- the holes stand by place, and no two touch
+-- the holes are ordered by place, and no two touch
 abbrev pub AreApart : List Span → Type 0
 AreApart holes = AllPairs (λ hole later. hole.at + hole.words < later.at) holes
 
--- the first hole with so many words begins at this place
+-- the first hole with at least this many words starts at this place
 pub record IsFirstFit (holes : List Span) (words at : ℕ) : Type 0 where
   pub before : List Span
   pub hole : Span
@@ -42,23 +42,23 @@ pub record IsFirstFit (holes : List Span) (words at : ℕ) : Type 0 where
   pub fits : words ≤ hole.words
   pub at_front : at ≡ hole.at
 
--- no hole has more words, and a hole has as many, or it is 0
+-- no hole has more words, and some hole has this many, or it is 0
 pub record IsLargest (holes : List Span) (words : ℕ) : Type 0 where
   pub most : All (λ hole. hole.words ≤ words) holes
   pub reached : Any (λ hole. hole.words ≡ words) holes ⊎ (words ≡ 0)
 
--- an answer that no hole is large enough
+-- the error that no hole is large enough
 abbrev pub IsNoHole : Result Block TakeFault → Type 0
 IsNoHole (Ok _) = ⊥
 IsNoHole (Err (NoHole _ _)) = Unit {0}
 IsNoHole (Err Memory) = ⊥
 
--- what such an answer says: the words that were asked for, and those of the largest hole
+-- the fields of that error: the requested words, and those of the largest hole
 abbrev pub SaysLargest : List Span → ℕ → TakeFault → Type 0
 SaysLargest holes words (NoHole need largest) = (need ≡ words) × IsLargest holes largest
 SaysLargest holes words Memory = Unit {0}
 
--- one list of blocks is the other without the block of this number
+-- the new list of blocks is the old one without the block of this number
 pub record IsWithout (number : ℕ) (old new : List Block) : Type 0 where
   pub before : List Block
   pub block : Block
@@ -67,8 +67,8 @@ pub record IsWithout (number : ℕ) (old new : List Block) : Type 0 where
   pub has : block.number ≡ number
   pub is : new ≡ before ++ after
 
--- what holds of each heap: held blocks and holes are a partition of the places, no two holes touch, and
--- the numbers of the held blocks rise and are below the next
+-- the invariant of a heap: held blocks and holes partition the places, no two holes touch, and the numbers of
+-- the held blocks increase and are below the next one
 pub record IsSound (layout : Layout) : Type 0 where
   pub partition : IsPartition layout
   pub apart : AreApart layout.holes
@@ -77,7 +77,7 @@ pub record IsSound (layout : Layout) : Type 0 where
   pub numbers : IsStrictlyIncreasing (map (λ block. block.number) layout.held)
   pub numbered : All (λ block. (1 ≤ block.number) × (block.number < layout.next)) layout.held
 
--- so the held blocks of a heap determine its holes
+-- the held blocks of a heap determine its holes
 abbrev pub HeldDetermineHoles : Type 0
 HeldDetermineHoles = (one other : Layout) → IsSound one → IsSound other → one.words ≡ other.words
     → one.held ≡ other.held → one.holes ≡ other.holes

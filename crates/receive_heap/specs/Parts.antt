@@ -1,4 +1,4 @@
--- The code's own: how the lists of holes and of held blocks are kept.
+-- The code's own: the invariant of the lists of holes and of held blocks.
 use Rattle.std.specs.Prelude.{◌≡◌, ℕ, ◌+◌, ◌<◌, ◌≤◌, ◌⊎◌, cond, List, All, length, slice_index_or}
 use Rattle.std.specs.List.{AllWithin, count_by}
 use Rattle.mrpc_table.specs.declared.limits.TheConstants.{MAX_HEAP}
@@ -10,23 +10,23 @@ use Rattle.receive_heap.specs.Layout.{Layout, AreApart, has_place, IsPartition}
 abbrev pub holes_at : List Span → ℕ → ℕ
 holes_at holes place = count_by (λ hole. has_place hole.at hole.words place) holes
 
--- 1 where the span has the place, else 0
+-- 1 if the span has the place, else 0
 abbrev pub one_at : Span → ℕ → ℕ
 one_at span place = cond (has_place span.at span.words place) 1 0
 
--- holes that are kept: by place and apart, none empty, none past the heap
+-- the invariant of the holes: ordered by place and apart, none empty, none past the heap
 pub record AreHoles (holes : List Span) : Type 0 where
   pub apart : AreApart holes
   pub some : All (λ hole. 1 ≤ hole.words) holes
   pub small : All (λ hole. hole.at + hole.words ≤ MAX_HEAP) holes
 
--- the hole at an index is the first with so many words
+-- the hole at an index is the first with at least this many words
 pub record FitsAt (holes : List Span) (words index : ℕ) : Type 0 where
   pub within : index < length holes
   pub before : AllWithin (λ hole. hole.words < words) holes 0 index
   pub there : (d : Span) → words ≤ (slice_index_or holes index d).words
 
--- a span that isn't empty stands behind the holes before an index and before the others
+-- a nonempty span is after the holes before an index, and before the others
 pub record Stands (holes : List Span) (index : ℕ) (span : Span) : Type 0 where
   pub within : index ≤ length holes
   pub words : 1 ≤ span.words
@@ -35,30 +35,30 @@ pub record Stands (holes : List Span) (index : ℕ) (span : Span) : Type 0 where
       → (slice_index_or holes k d).at + (slice_index_or holes k d).words ≤ span.at
   pub behind : (k : ℕ) (d : Span) → index ≤ k → k < length holes → span.at + span.words ≤ (slice_index_or holes k d).at
 
--- it touches no hole behind it
+-- it touches no later hole
 abbrev pub IsClearBehind : List Span → ℕ → Span → Type 0
 IsClearBehind holes index span = (k : ℕ) (d : Span) → index ≤ k → k < length holes
     → span.at + span.words < (slice_index_or holes k d).at
 
--- it touches no hole before it
+-- it touches no earlier hole
 abbrev pub IsClearBefore : List Span → ℕ → Span → Type 0
 IsClearBefore holes index span = (k : ℕ) (d : Span) → k < index
     → (slice_index_or holes k d).at + (slice_index_or holes k d).words < span.at
 
--- a span and holes have the same places as others
+-- a span and holes have the same places as another span and other holes
 abbrev pub HaveSamePlaces : List Span → Span → List Span → Span → Type 0
 HaveSamePlaces holes span others other = (place : ℕ)
     → holes_at holes place + one_at span place ≡ holes_at others place + one_at other place
 
--- it meets no hole
+-- it overlaps no hole
 abbrev pub MeetsNone : List Span → Span → Type 0
 MeetsNone holes span = All (λ hole. (hole.at + hole.words ≤ span.at) ⊎ (span.at + span.words ≤ hole.at)) holes
 
--- what is known of each entry of the map of held blocks
+-- the invariant of an entry of the map of held blocks
 abbrev pub IsEntry : ℕ → ℕ × Block → Type 0
 IsEntry next entry = (entry.1.number ≡ entry.0) × (1 ≤ entry.0) × (entry.0 < next) × (1 ≤ entry.1.words)
 
--- what is kept of the parts of a heap
+-- the invariant of a heap's parts
 pub record Keeps (layout : Layout) (entries : List (ℕ × Block)) (capacity : ℕ) : Type 0 where
   pub words : layout.words ≤ MAX_HEAP
   pub next : 1 ≤ layout.next
@@ -66,10 +66,10 @@ pub record Keeps (layout : Layout) (entries : List (ℕ × Block)) (capacity : �
   pub apart : AreApart layout.holes
   pub some : All (λ hole. 1 ≤ hole.words) layout.holes
   pub known : All (IsEntry layout.next) entries
-  -- there is room for one hole more for each held block
+  -- there is capacity for one more hole for each held block
   pub room : length layout.holes + length entries ≤ capacity
 
--- so many words of the front of the hole at an index
+-- a span of this many words from the start of the hole at an index
 abbrev pub front_of : List Span → ℕ → ℕ → Span
 front_of holes index words = record {
   at = (slice_index_or holes index (record { at = 0; words = 0 })).at;

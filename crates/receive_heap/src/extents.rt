@@ -15,26 +15,26 @@ use thiserror::Error;
 /// A block of words that is held.
 #[derive(Clone, Copy, PartialEq, Eq)]
 pub struct Block {
-    /// Its number: the first block that is taken has 1, and each later one the next.
+    /// Its number: the first block that is allocated has 1, and each later one the next.
     pub number: u64,
     /// Its first place.
     pub at: u64,
-    /// How many words it has.
+    /// Its size in words.
     pub words: u64,
 }
 
-/// Why no block is taken.
+/// Why no block is allocated.
 #[derive(Clone, Copy, Debug, PartialEq, Eq, Error)]
 pub enum TakeFault {
-    /// No hole has that many words.
+    /// No hole is large enough.
     #[error("no hole has {need} words, the largest has {largest}")]
     NoHole {
-        /// The words that were asked for.
+        /// The requested words.
         need: u64,
-        /// The words of the largest hole, 0 where there is none.
+        /// The words of the largest hole, 0 if there is none.
         largest: u64,
     },
-    /// No memory was found.
+    /// Out of memory.
     #[error("out of memory")]
     Memory,
 }
@@ -43,16 +43,15 @@ pub enum TakeFault {
 #[derive(Clone, Copy, Debug, PartialEq, Eq, Error)]
 #[error("no held block has the number {number}")]
 pub struct NotHeld {
-    /// The number that was asked for.
+    /// The requested number.
     pub number: u64,
 }
 
-/// The places of a heap, as held blocks and holes. A clause sees it as the data of
-/// `specs/Layout.antt`.
+/// The places of a heap, as held blocks and holes. Contracts see it as a `Layout` of `specs/Layout.antt`.
 #[derive(Drop)]
 pub struct Extents {
     words: u64,
-    // By place. There is room for one more for each block that is held.
+    // By place. There is capacity for one more for each held block.
     holes: Vec<Span>,
     // By number.
     held: BTreeMap<u64, Block>,
@@ -84,7 +83,7 @@ impl Model for Extents {
 }
 
 impl Extents {
-    /// The places of a heap of so many words, 4 to 65536. Those from 1 on are one hole.
+    /// The places of a heap of `words` words, 4 to 65536. Those from 1 on are one hole.
     pub fn open(alloc: Global, words: u64) -> Result<Extents, Memory>
         requires least { MIN_HEAP ≤ words }
         requires most { words ≤ MAX_HEAP }
@@ -106,7 +105,7 @@ impl Extents {
         })
     }
 
-    /// The first place of the block of so many words that would be taken, or None where no hole has as many.
+    /// The first place of the block of this size that would be allocated, or `None` if no hole is large enough.
     pub fn fit(&self, words: u64) -> Option<u64>
         ensures some { IfSome result (IsFirstFit self.now.holes words) }
         ensures inside { IfSome result (λ at. (1 ≤ at) × (at + words ≤ self.now.words)) }
@@ -117,14 +116,14 @@ impl Extents {
         Some(self.holes[index].at)
     }
 
-    /// The words of the largest hole, 0 where there is none.
+    /// The words of the largest hole, 0 if there is none.
     pub fn largest(&self) -> u64
         ensures { IsLargest self.now.holes result }
     {
         largest(&self.holes)
     }
 
-    /// Takes a block of so many words, at least 1, from the front of the first hole that has as many.
+    /// Allocates a block of at least 1 word, from the start of the first hole that is large enough.
     pub fn take(&mut self, words: u64) -> Result<Block, TakeFault>
         requires some { 1 ≤ words }
         requires numbers { self.old.next < 2 ^ 64 - 1 }
@@ -135,7 +134,7 @@ impl Extents {
         ensures next { OnOk result (self.new.next ≡ self.old.next + 1) }
         ensures size { self.new.words ≡ self.old.words }
 
-        // Where a hole has that many words, running out of memory is the one fault.
+        // If a hole is large enough, the only error is `Memory`.
         ensures no_hole { IsNoHole result ↔ All (λ hole. hole.words < words) self.old.holes }
         ensures largest { IfErr result (SaysLargest self.old.holes words) }
         ensures err { OnErr result (self.new ≡ self.old) }
@@ -162,8 +161,8 @@ impl Extents {
         Ok(block)
     }
 
-    /// Takes a block back by its number; its places are a hole from then on, one with the holes that
-    /// it touches. It takes no memory. It finds its block by search, and moves the holes behind it.
+    /// Reclaims a block by its number. Its places become a hole, merged with the holes that it touches. Never
+    /// allocates. Finds the block by search, and moves the holes after it.
     pub fn reclaim(&mut self, block: u64) -> Result<(), NotHeld>
         ensures held { OnOk result (IsWithout block self.old.held self.new.held) }
         ensures size { self.new.words ≡ self.old.words }
@@ -185,8 +184,8 @@ impl Extents {
         Ok(())
     }
 
-    /// A law; it does nothing. Held blocks and holes are a partition of the places from 1 on, no two
-    /// holes touch, and held blocks have numbers of their own, below the next.
+    /// A law; it does nothing. Held blocks and holes partition the places from 1 on, no two holes touch, and held
+    /// blocks have distinct numbers below the next one.
     pub fn partition(&self)
         ensures { IsSound self.now }
     {

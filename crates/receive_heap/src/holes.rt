@@ -9,23 +9,23 @@ ghost use Rattle.receive_heap.specs.Parts.{AreHoles, FitsAt, Stands, IsClearBehi
 
 use std::alloc::Global;
 
-/// A row of places that are all free or all one block's.
+/// A range of places that are all free or all of one block.
 #[derive(Clone, Copy)]
 pub struct Span {
     /// The first place.
     pub at: u64,
-    /// How many places.
+    /// The number of places.
     pub words: u64,
 }
 
-// The index of the first hole with so many words.
+// The index of the first hole with at least this many words.
 pub(crate) fn first_fit(holes: &[Span], words: u64) -> Option<usize>
     ensures { MatchOption result (All (λ hole. hole.words < words) holes.now) (FitsAt holes.now words) }
 {
     holes.iter().position(|hole| words <= hole.words)
 }
 
-// The words of a hole that no other has more of, 0 without holes.
+// The words of the largest hole, 0 if there is none.
 pub(crate) fn largest(holes: &[Span]) -> u64
     ensures { IsLargest holes.now result }
 {
@@ -38,7 +38,7 @@ pub(crate) fn largest(holes: &[Span]) -> u64
     most
 }
 
-// Takes so many words from the front of a hole.
+// Removes words from the start of a hole.
 pub(crate) fn cut(holes: &mut Vec<Span>, index: usize, words: u64)
     requires holes { AreHoles holes.old.items }
     requires some { 1 ≤ words }
@@ -60,7 +60,7 @@ pub(crate) fn cut(holes: &mut Vec<Span>, index: usize, words: u64)
     }
 }
 
-// Makes a span a hole, one with the holes that it touches.
+// Makes a span a hole, merged with the holes that it touches.
 #[tactic(auto, using(crate::proofs::Joins::stands_between, crate::proofs::Joins::holes_inserted))]
 pub(crate) fn free(holes: &mut Vec<Span>, span: Span)
     requires holes { AreHoles holes.old.items }
@@ -82,7 +82,7 @@ pub(crate) fn free(holes: &mut Vec<Span>, span: Span)
     }
 }
 
-// How many holes begin before a place.
+// How many holes start before a place.
 fn index_of(holes: &[Span], at: u64) -> usize
     requires { AreHoles holes.now }
     ensures within { result ≤ length holes.now }
@@ -92,7 +92,7 @@ fn index_of(holes: &[Span], at: u64) -> usize
     holes.partition_point(|hole| hole.at < at)
 }
 
-// The span with the hole behind it, which leaves the list, where they touch.
+// The span, merged with the next hole if they touch; that hole leaves the list.
 fn join_behind(holes: &mut Vec<Span>, index: usize, span: Span) -> Span
     requires holes { AreHoles holes.old.items }
     requires stands { Stands holes.old.items index span }
@@ -113,7 +113,7 @@ fn join_behind(holes: &mut Vec<Span>, index: usize, span: Span) -> Span
     span
 }
 
-// The span with the hole before it, which leaves the list, where they touch; and its index.
+// The span, merged with the previous hole if they touch, which leaves the list; and the span's index.
 fn join_before(holes: &mut Vec<Span>, index: usize, span: Span) -> (usize, Span)
     requires holes { AreHoles holes.old.items }
     requires stands { Stands holes.old.items index span }

@@ -1,10 +1,10 @@
 //! The places of a receive heap: held blocks and holes.
 //!
-//! An [`Extents`] gives out blocks of words by number and takes them back. The held blocks and the
-//! holes are a partition of the places from 1 on, and no two holes touch; a block is the front of the
-//! first hole with enough words. It stands on `mrpc_table`, for its answer that no memory was found.
-//! The layer above uses one contract: what `take` and `reclaim` do to the list of held blocks, and the
-//! laws [`Extents::partition`] and [`held_determine_holes`], which say what the holes are.
+//! An [`Extents`] allocates blocks of words by number and reclaims them. The held blocks and the holes partition
+//! the places from 1 on, and no two holes touch. A block is allocated at the start of the first hole that is
+//! large enough. The crate uses `mrpc_table` for its out-of-memory error. The layer above uses one contract: what
+//! `take` and `reclaim` do to the list of held blocks, and the laws [`Extents::partition`] and
+//! [`held_determine_holes`], which determine the holes.
 #![tactic(auto)]
 
 mod extents;

@@ -1,4 +1,4 @@
--- What turns and sendings of a drain add to a course.
+-- What turns and sends of a drain add to a connection's trace.
 use Rattle.std.proofs.Common.{◌≡◌, ℕ, ◌+◌, List, [], ◌∷◌, ◌++◌, map, reverse, refl, sym, ap, ◌∙◌, append_assoc}
 use Rattle.std.proofs.lemmas.List.{reverse-append}
 use Rattle.engine_core.specs.Chains.{Entry}
@@ -15,7 +15,7 @@ use Rattle.call_history.specs.declared.happening.Happening.{Happening}
 use Rattle.call_history.specs.declared.happening.Happening.TheVariants.{Charged, Counted, Drawn, Redacted, Refused, Sent}
 use Rattle.call_history.specs.declared.happening.Taken.{Taken}
 
--- a course has more behind it, and its link goes as before
+-- events were added, and the link is as before
 pub record AddsTo (old new : Course) : Type 0 where
   pub more : List Happening
   pub past : new.past ≡ more ++ old.past
@@ -84,7 +84,7 @@ pub begins-add : (u : Under) (old new : Course) → BeginsToDrain u old new → 
 begins-add u old new begins =
     adds-then old begins.between new (passes-add u 0 old begins.between begins.passes) (sends-add u begins.between new begins.sent)
 
--- sendings, and one behind them, and others
+-- sends, one more after them, and then others
 pub sends-behind : (u : Under) (old mid after end : Course) (seq bytes : ℕ) → SendsSome u old mid → Comes u mid (sends seq bytes) after → SendsSome u after end
     → SendsSome u old end
 sends-behind u old mid after end seq bytes (none c) comes rest = one c after end seq bytes comes rest

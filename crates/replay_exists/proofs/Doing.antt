@@ -1,4 +1,4 @@
--- Each line does something on its connection, or nothing; and where it sends, each of its sendings may fail.
+-- Each line has an effect on its connection, or none; and if it sends, each of its sends can fail.
 use Rattle.std.proofs.Common.{◌≡◌, inl, inr, ℕ, ◌+◌, ◌<◌, ◌≤◌, ◌^◌, true, false, List, [], ◌∷◌, ◌++◌, length, refl, sym, ap, ◌∙◌, subst, arith}
 use Rattle.std.specs.Prelude.{Option, Some, None, option_map, slice_get}
 use Rattle.std.proofs.lemmas.Bool.{cases_lt}
@@ -39,13 +39,13 @@ use Rattle.replay_exists.proofs.Turning.{Stands, TurnLaws, chain-turned, entries
 
 -- ---- open connections
 
--- what holds of a connection whose link goes, beside its course
+-- properties of a connection whose link is up, apart from its state
 pub record IsOpen (o : Opened) : Type 0 where
   pub going : o.course.ended ≡ false
   pub stores : AreSmall o.stores
   pub races : AreSmallRaces o.races
 
--- a line on its connection fails behind so many sendings of all connections
+-- a line on its connection fails after this many sends of all connections
 pub record FailsOn (s : Script) (l : Line) (one : Opened) (h : History) (n : ℕ) : Type 0 where
   pub tried : Call
   pub other : Opened
@@ -54,7 +54,7 @@ pub record FailsOn (s : Script) (l : Line) (one : Opened) (h : History) (n : ℕ
   pub grows : Grows one.conn h one.course.past history other.course.past
   pub count : length (frames s.table history) ≡ n
 
--- what a line does on its connection
+-- the effect of a line on its connection
 pub record DoesOn (s : Script) (l : Line) (one : Opened) (h : History) : Type 0 where
   pub other : Opened
   pub history : History
@@ -65,7 +65,7 @@ pub record DoesOn (s : Script) (l : Line) (one : Opened) (h : History) : Type 0 
   pub same_chain : chain other.course.past ≡ done (op_in s.declared.policies l) (chain one.course.past)
   pub tries : (n : ℕ) → length (frames s.table h) ≤ n → n < length (frames s.table history) → FailsOn s l one h n
 
--- where nothing is sent, nothing fails
+-- if nothing is sent, nothing fails
 none-fails : (s : Script) (l : Line) (one : Opened) (h i : History) → length (frames s.table i) ≡ length (frames s.table h) → (n : ℕ)
     → length (frames s.table h) ≤ n → n < length (frames s.table i) → FailsOn s l one h n
 none-fails s l one h i same n from below = absurd (omega arith)
@@ -274,9 +274,9 @@ module _ (laws : TurnLaws) (graphs : GraphLaws) (s : Script) (one : Opened) (h :
         tries = none-fails s (line.Turn one.conn at) one h t.history t.still;
       }
 
-  -- ---- sendings
+  -- ---- sends
 
-  -- a call that is ready may fail
+  -- the send of a ready call can fail
   fails-at : (l : Line) (at : Course) (i : History) (n : ℕ) → GetsTo s l one at → Grows one.conn h one.course.past i at.past → Stands u i at
       → (seq bytes : ℕ) → IsReady u at seq bytes → length (frames s.table i) ≡ n → FailsOn s l one h n
   fails-at l at i n gets grows there seq bytes ready count =
@@ -337,7 +337,7 @@ module _ (laws : TurnLaws) (graphs : GraphLaws) (s : Script) (one : Opened) (h :
 
   -- ---- each line
 
-  -- what a script gives for a line of the connection
+  -- what a script guarantees for a line of the connection
   pub record Given (l : Line) : Type 0 where
     pub valid : IsValid s.table
     pub least : 1 ≤ s.loads

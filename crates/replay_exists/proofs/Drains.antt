@@ -1,5 +1,5 @@
--- A drain goes on until nothing can go on: with each turn calls come nearer to the end of the chain, and where fields are
--- cleared, calls have fewer parts. Each sending of it may fail.
+-- A drain runs until no call can advance. Each turn brings calls nearer to the end of the chain, and a clear removes
+-- parts of them. Each of its sends can fail.
 use Rattle.std.proofs.Common.{◌≡◌, inl, inr, ℕ, zero, suc, ◌+◌, ◌-◌, ◌<◌, ◌≤◌, ◌==◌, not, [], ◌∷◌, ◌++◌, length, refl}
 use Rattle.std.proofs.Common.{sym, ap, ◌∙◌, subst, arith}
 use Rattle.std.specs.Prelude.{Option, Some, None}
@@ -26,7 +26,7 @@ use Rattle.replay_exists.proofs.Turning.{Stands, TurnLaws, Turned, chain-turned,
 abbrev pub sent_by : Under → History → ℕ
 sent_by u h = length (frames u.table h)
 
--- a connection has come to another course, and nothing was sent
+-- a connection reached another state, and nothing was sent
 pub record ComesTo (u : Under) (h : History) (c : Course) (h' : History) (c' : Course) : Type 0 where
   pub grows : Grows u.conn h c.past h' c'.past
   pub stands : Stands u h' c'
@@ -51,7 +51,7 @@ turn-comes u h c position t =
 
 -- ---- the turns of one entry
 
--- how many parts are left behind turns that end so
+-- how many parts remain after turns that end so
 abbrev IsLess : ℕ → ℕ → Ending → Type 0
 IsLess new old at_rest = new ≤ old
 IsLess new old again = new < old
@@ -73,7 +73,7 @@ module _ (laws : TurnLaws) (u : Under) where
   TurnsFrom position fuel = (h : History) (c : Course) → Stands u h c → position < length (entries_of c)
       → distance (length (entries_of c)) c.row ≤ fuel → TurnsOn u position h c
 
-  -- the entry is done with a call, and goes on with the next
+  -- the entry is done with a call, and continues with the next
   turns-next : (position fuel : ℕ) (h : History) (c : Course) (t : Turned u h c position) → IsDone t.outcome → position < length (entries_of c)
       → distance (length (entries_of c)) c.row ≤ suc fuel → TurnsFrom position fuel → TurnsOn u position h c
   turns-next position fuel h c t done low few others =
@@ -92,7 +92,7 @@ module _ (laws : TurnLaws) (u : Under) where
         less = less-le (parts u.conn mid) (parts u.conn c) (parts u.conn rest.course) rest.ending (done-parts u.conn t.entry t.seq t.outcome c done) rest.less;
       }
 
-  -- an entry that holds a call is at rest, and one that clears fields begins again
+  -- an entry that holds a call is done, and one that clears fields starts again
   turn-by : (position fuel : ℕ) (h : History) (c : Course) → Stands u h c → (t : Turned u h c position) (outcome : Outcome) → t.outcome ≡ outcome
       → position < length (entries_of c) → distance (length (entries_of c)) c.row ≤ suc fuel → TurnsFrom position fuel → TurnsOn u position h c
   turn-by position fuel h c stands t (outcomes.Passed n) is low few others =
@@ -213,9 +213,9 @@ module _ (laws : TurnLaws) (u : Under) where
       let long : length (entries_of c) ≡ 0 + length (entries_of c) = omega arith in
       passes-from weight (passes-below weight) (length (entries_of c)) 0 h c stands few long
 
-  -- ---- sendings
+  -- ---- sends
 
-  -- a call is ready behind so many sendings
+  -- a call is ready after this many sends
   pub record IsReadyAt (old : Course) (h : History) (n : ℕ) : Type 0 where
     pub history : History
     pub course : Course
@@ -238,7 +238,7 @@ module _ (laws : TurnLaws) (u : Under) where
     pub more : sent_by u h ≤ sent_by u history
     pub tries : (n : ℕ) → sent_by u h ≤ n → n < sent_by u history → IsReadyAt c h n
 
-  -- the first call that is ready leaves
+  -- the first ready call leaves
   pub record Leaves (h : History) (c : Course) : Type 0 where
     pub seq : ℕ
     pub bytes : ℕ
@@ -359,7 +359,7 @@ module _ (laws : TurnLaws) (u : Under) where
 
   -- ---- a drain
 
-  -- a call is ready behind so many sendings of a drain
+  -- a call is ready after this many sends of a drain
   pub record DrainTries (old : Course) (h : History) (n : ℕ) : Type 0 where
     pub history : History
     pub course : Course

@@ -1,4 +1,4 @@
--- A script has one end, and one for each place at which a sending of it may fail.
+-- A script has one end, and one for each point at which a send of it can fail.
 use Rattle.std.proofs.Common.{◌≡◌, ℕ, ◌<◌, length, sym, ◌∙◌, subst}
 use Rattle.std.specs.Prelude.{All}
 use Rattle.mrpc_table.specs.declared.call.Call.{Call}

@@ -1,4 +1,4 @@
--- A script sends no fewer calls than one of its sendings that fails has before it, and one more.
+-- A script sends at least as many calls as come before one of its sends that fails, and one more.
 use Rattle.std.proofs.Common.{◌≡◌, inl, inr, ℕ, ◌+◌, ◌<◌, ◌≤◌, suc, List, [], ◌∷◌, ◌++◌, length, map, reverse, refl}
 use Rattle.std.proofs.Common.{sym, ap, ◌∙◌, subst, append_assoc, append-nil, arith}
 use Rattle.std.specs.Prelude.{Some}
@@ -35,7 +35,7 @@ use Rattle.replay_exists.proofs.Growing.{GrowthLaws, Grows, grows-then, one-stil
 use Rattle.replay_exists.proofs.Scripts.{Known, Laws, all-at, known-line, known-start, known-through, leads-push}
 use Rattle.replay_exists.proofs.Turning.{Stands}
 
--- ---- the tickets of a front
+-- ---- the tickets of a prefix
 
 counts-front : (a : ℕ) (xs ys : List ℕ) → xs ++ ys ≡ range_with_len a (length (xs ++ ys)) → xs ≡ range_with_len a (length xs)
 counts-front a [] ys is = refl
@@ -58,7 +58,7 @@ front-in-turn h k turn tenant window =
     counts-front 0 (tickets tenant window h) more.0
     (subst (λ ts. ts ≡ range_with_len 0 (length ts)) more.1 (turn tenant window))
 
--- ---- a script of some of the lines
+-- ---- a script with some of the lines
 
 abbrev with_lines : Script → List Line → Script
 with_lines s lines = record { loads = s.loads; table = s.table; declared = s.declared; lines = lines }
@@ -102,7 +102,7 @@ script-in s xs ys script order = record {
   lines = allowed-front s.loads s.declared.policies [] xs ys (subst (AreAllowed s.loads s.declared.policies []) order script.lines);
 }
 
--- ---- a piece of a history
+-- ---- a part of a history
 
 pub record FurtherLaws : Type 0 where
   pub below : Laws
@@ -136,9 +136,9 @@ fails-past u old new (turns_on position seq outcome e is turn makes) = cc
 fails-past u old new (comes_sent seq bytes is going ready makes) = cc
 fails-past u old new (link_failed is makes) = ap (λ (c : Course). c.past) makes
 
--- ---- a line that fails could have gone on
+-- ---- a line that fails could have continued
 
--- a line goes on, with more sendings than this
+-- a line continues, with more sends than this
 record Extends (s : Script) (l : Line) (one : Opened) (h : History) (sent : ℕ) : Type 0 where
   other : Opened
   history : History
@@ -189,7 +189,7 @@ module _ (laws : FurtherLaws) (s : Script) where
         more = omega arith;
       }
 
-  -- what happened up to the sending that fails
+  -- the events up to the send that fails
   record Reached (one : Opened) (at : Course) (before end : State) : Type 0 where
     history : History
     grows : Grows one.conn before.history one.course.past history at.past

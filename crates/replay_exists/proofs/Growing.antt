@@ -1,4 +1,4 @@
--- What happens on one connection, one thing after another, behind a history of all.
+-- Events of one connection, one after another, after a history of all.
 use Rattle.std.proofs.Common.{◌≡◌, inl, ℕ, ◌+◌, ◌≤◌, List, [], ◌∷◌, ◌++◌, length, map, reverse, refl, sym, ap, ◌∙◌}
 use Rattle.std.proofs.Common.{append_assoc, append-nil, length-append, arith}
 use Rattle.std.specs.Prelude.{Some}
@@ -30,12 +30,12 @@ pub record GrowthLaws : Type 0 where
   pub one_more : (conn : ℕ) (h : History) (x : Happened) → x.conn ≡ conn → behind conn (h ++ x ∷ []) ≡ x.what ∷ behind conn h
   pub frames_on : (T : Table) (h : History) (x : Happened) → frames T (h ++ x ∷ []) ≡ frames T h ++ handed_by T x.conn x.what (behind x.conn h)
 
--- this is behind on the connection, and the tickets of all are in turn
+-- this is the trace of the connection, and the tickets of all connections are in turn
 pub record IsHere (conn : ℕ) (h : History) (past : Behind) : Type 0 where
   pub at : past ≡ behind conn h
   pub in_turn : AreInTurn h
 
--- a history goes on by some happenings of the connection
+-- some events of the connection are added to a history
 pub record Grows (conn : ℕ) (h : History) (past : Behind) (h' : History) (past' : Behind) : Type 0 where
   pub piece : List Happening
   pub past_is : past' ≡ reverse piece ++ past
@@ -77,7 +77,7 @@ module _ (laws : GrowthLaws) (conn : ℕ) where
         here = here-more i mid x grows.here tells;
       })
 
-  -- ---- what a turn tells
+  -- ---- the events of a turn
 
   abbrev pub after_note : List ℕ → ℕ → Noted → History → History
   after_note name seq notes.Nothing h = h
@@ -113,7 +113,7 @@ module _ (laws : GrowthLaws) (conn : ℕ) where
   turn-grows h c e seq outcomes.Redacted here is next =
       grows-more h h c.past c.past (Redacted seq e.name e.version) (grows-none conn h c.past here) (λ tenant window. inl refl)
 
-  -- ---- what the end of a link tells
+  -- ---- the events of the end of a link
 
   abbrev pub after_refusals : List Taken → History → History
   after_refusals [] h = h
@@ -134,7 +134,7 @@ module _ (laws : GrowthLaws) (conn : ℕ) where
     abbrev pub sent_in : History → ℕ
     sent_in h = length (frames T h)
 
-    -- what is no sending hands over nothing
+    -- an event that is no send has no frame
     pub one-still : (h : History) (x : Happening) → ((past : Behind) → handed_by T conn x past ≡ []) → sent_in (h ++ on_connection conn x ∷ []) ≡ sent_in h
     one-still h x none =
         ap length (laws.frames_on T h (on_connection conn x) ∙ ap (λ fs. frames T h ++ fs) (none (behind conn h)) ∙ append-nil (frames T h))
@@ -163,7 +163,7 @@ module _ (laws : GrowthLaws) (conn : ℕ) where
         ap length (laws.frames_on T h (on_connection conn (Sent seq bytes)))
         ∙ length-append (frames T h) (handed_by T conn (Sent seq bytes) (behind conn h))
 
--- where more happens, no fewer frames were handed over
+-- more events have no fewer frames
 pub no-fewer : GrowthLaws → (T : Table) (h k : History) → length (frames T h) ≤ length (frames T (h ++ k))
 no-fewer laws T h [] = let same : length (frames T (h ++ [])) ≡ length (frames T h) = ap (λ i. length (frames T i)) (append-nil h) in omega arith
 no-fewer laws T h (x ∷ k) =

@@ -1,4 +1,4 @@
--- The words of a heap fit into 64 bits where the values of its stores and races do.
+-- The words of a heap fit 64 bits if the values of its stores and races do.
 use Rattle.std.proofs.Common.{ℕ, ◌<◌, ◌^◌, ◌==◌, Bool, true, false, cond, List, [], ◌∷◌, ◌++◌, map, nat_le, nat_lt, arith}
 use Rattle.std.specs.Prelude.{filter}
 use Rattle.mrpc_base.specs.Heap.{Race, last_or, races_past, races_up_to, races_with, stores_of, word_after}

@@ -1,4 +1,4 @@
--- What one more line makes of heaps and chains, as a script's lines tell them.
+-- The heaps and chains after one more line of a script.
 use Rattle.std.proofs.Common.{◌≡◌, ◌≢◌, ℕ, ◌==◌, Bool, true, false, cond, List, [], ◌∷◌, ◌++◌, refl, ap, ◌∙◌}
 use Rattle.std.specs.Prelude.{Option, Some, None}
 use Rattle.std.proofs.lemmas.Bool.{eq-eqb, ne_eqb}
@@ -13,7 +13,7 @@ use Rattle.script_text.specs.declared.script.Line.TheVariants as line
 if-same : (b : Bool) (first x y : Option ℕ) → x ≡ y → cond b first x ≡ cond b first y
 if-same b first x y same = ap (cond b first) same
 
--- a line that opens no connection of the number leaves its heap as it is
+-- a line that opens no connection with the number leaves its heap unchanged
 pub heap-same : (before : List Line) (l : Line) (conn : ℕ) → heap_of (l ∷ []) conn ≡ None → heap_of (before ++ l ∷ []) conn ≡ heap_of before conn
 heap-same [] l conn none = none
 heap-same (line.Conn number size ∷ ls) l conn none = if-same (number == conn) (Some size) (heap_of (ls ++ l ∷ []) conn) (heap_of ls conn) (heap-same ls l conn none)
@@ -70,7 +70,7 @@ both-same : (b : Bool) (c : Chain) → cond b c c ≡ c
 both-same true c = refl
 both-same false c = refl
 
--- a line that opens a connection leaves all chains as they are
+-- a line that opens a connection leaves all chains unchanged
 pub chain-opened : (policies : List NamedPolicy) (before : List Line) (number words conn : ℕ)
     → chain_of policies (before ++ line.Conn number words ∷ []) conn ≡ chain_of policies before conn
 chain-opened policies before number words conn =

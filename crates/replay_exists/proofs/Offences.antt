@@ -1,4 +1,4 @@
--- Each word of a role offends or is fine, and of the reasons for which it offends one is first.
+-- Each word of a role is invalid or valid, and an invalid word has a first reason.
 use Rattle.std.proofs.Common.{◌≡◌, ◌≢◌, ◌⊎◌, inl, inr, ℕ, ◌+◌, ◌*◌, ◌/◌, ◌<◌, ◌≤◌, ◌^◌, ◌==◌, Bool, true, false, cond}
 use Rattle.std.proofs.Common.{List, ◌++◌, take, refl, sym, ap, ◌∙◌, subst, arith}
 use Rattle.std.specs.Prelude.{IsTrue, Option, Some, None}
@@ -24,7 +24,7 @@ use Rattle.graph_form.specs.Roles.{run_words, size_words, word_bytes}
 use Rattle.graph_form.specs.Placed.{LiesIn, Offends, IsFine}
 use Rattle.graph_form.specs.Malformed.{OffendsFirst, order_of}
 
--- ---- what holds or doesn't
+-- ---- decidable facts
 
 abbrev pub Holds : Type 0 → Type 0
 Holds P = P ⊎ (P → ⊥)
@@ -224,7 +224,7 @@ module _ (P : Reason → Type 0) where
       (λ never. inl (λ q. never q (to-nine q)))))))))))
       (λ q low p. let least : 1 ≤ order_of q = from-one q in absurd (omega arith))
 
--- a word is fine, or offends first for a reason
+-- a word is valid, or has a first reason
 abbrev pub IsJudged : Table → ℕ → Role → ℕ → Type 0
 IsJudged T H role v = IsFine T H role v ⊎ ((reason : Reason) × OffendsFirst T H role v reason)
 

@@ -1,4 +1,4 @@
--- A turn of an entry comes out in some way, whatever ticket comes next.
+-- A turn of an entry has an outcome, whichever ticket comes next.
 use Rattle.std.proofs.Common.{◌≡◌, ◌≢◌, inl, inr, ℕ, ◌-◌, ◌/◌, min, refl, sym, subst}
 use Rattle.std.specs.Prelude.{List}
 use Rattle.std.proofs.lemmas.Bool.{cases_lt}
@@ -89,7 +89,7 @@ module _ (next : ℕ → ℕ → ℕ) (policy : Policy) (level moment : ℕ) (fo
   pub comes-out : AnswerLaw → Out next policy level moment form past
   comes-out law = let some = law policy level moment form past in by-answer some.0 some.1
 
--- ---- what a redaction tells
+-- ---- redactions
 
 module _ (policy : Policy) (level moment : ℕ) (form : Call) (past : Past) where
   abbrev Clears : Type 0

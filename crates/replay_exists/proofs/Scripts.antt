@@ -1,4 +1,4 @@
--- From each script something follows, whole, and up to each sending that fails.
+-- Something follows from each script, in full and up to each send that fails.
 use Rattle.std.proofs.Common.{◌≡◌, ◌≢◌, ◌⊎◌, inl, inr, ℕ, ◌<◌, ◌≤◌, false, List, [], ◌∷◌, ◌++◌, length, map, refl}
 use Rattle.std.proofs.Common.{sym, ap, ◌∙◌, subst, append_assoc, append-nil, arith}
 use Rattle.std.specs.Prelude.{All, None}
@@ -113,7 +113,7 @@ of-others conn one piece apart =
     All-map (λ (x : Happened). x.conn ≢ conn) (on_connection one) piece
     (all-of (λ (what : Happening). one ≢ conn) (λ what. apart) piece)
 
--- ---- what is known of the state behind some lines
+-- ---- what is known of the state after some lines
 
 module _ (laws : Laws) (s : Script) (script : IsScript s) where
   pub record Known (lines : List Line) (st : State) : Type 0 where
@@ -124,7 +124,7 @@ module _ (laws : Laws) (s : Script) (script : IsScript s) where
     pub in_turn : AreInTurn st.history
     pub tries : (n : ℕ) → n < length (frames s.table st.history) → FailsAfter s n
 
-  -- a state behind some lines, at which no less was sent than at an earlier one
+  -- a state after some lines, with at least as many sends as an earlier one
   pub record Onward (lines : List Line) (st : State) : Type 0 where
     pub end : State
     pub known : Known lines end
@@ -346,7 +346,7 @@ module _ (laws : Laws) (s : Script) (script : IsScript s) where
   known-line lines others (line.Send conn) st order allows known = known-used lines others (line.Send conn) st order allows refl known
   known-line lines others (line.Drain conn) st order allows known = known-used lines others (line.Drain conn) st order allows refl known
 
-  -- behind more lines
+  -- after more lines
   pub known-through : (xs ys lines : List Line) (st : State) → s.lines ≡ lines ++ (xs ++ ys) → AreAllowed s.loads s.declared.policies lines (xs ++ ys)
       → Known lines st → Onward (lines ++ xs) st
   known-through [] ys lines st order allowed known =
@@ -362,7 +362,7 @@ module _ (laws : Laws) (s : Script) (script : IsScript s) where
         more = omega arith;
       }
 
-  -- ---- the whole script
+  -- ---- the full script
 
   pub record FollowsSomehow : Type 0 where
     pub end : State

@@ -1,4 +1,4 @@
--- A call is taken: its copy is made, or it is malformed, whatever stands in the heap.
+-- A call is accepted: its copy is made, or it is malformed, whatever the heap contains.
 use Rattle.std.proofs.Common.{◌≡◌, ◌≢◌, inl, inr, ℕ, ◌<◌, ◌≤◌, ◌^◌, List, [], length, refl, arith}
 use Rattle.std.proofs.lemmas.Bool.{cases_lt}
 use Rattle.mrpc_table.specs.Calls.{message_at}
@@ -25,7 +25,7 @@ pub record GraphLaws : Type 0 where
   pub normal : (T : Table) (H msg address : ℕ) (P : Placed) → IsValid T → IsSound T H msg address P
       → IsNormal T msg (tree_of T msg P)
 
--- what was taken is sound: a normal tree, or malformed, for lack of a method where the table lacks it
+-- what was copied is valid: a normal tree, or malformed, for a missing method if the table lacks it
 abbrev pub IsSoundCopy : Table → ℕ → ℕ → TookCopy → Type 0
 IsSoundCopy T method number (Copy tree) = (method < length T.methods) × IsNormal T (message_at T method number) tree
 IsSoundCopy T method number (Malformed reason place value) =

@@ -1,4 +1,4 @@
--- An entry has a turn with the first call at its position, whatever stands before it.
+-- An entry has a turn with the first call at its position, whatever the trace.
 use Rattle.std.proofs.Common.{◌≡◌, ◌≢◌, ◌⊎◌, inl, inr, ℕ, ◌+◌, ◌-◌, ◌<◌, ◌≤◌, ◌==◌, Bool, true, false, cond, not}
 use Rattle.std.proofs.Common.{nat_lt, List, ◌∷◌, length, map, refl, sym, ap, ◌∙◌, subst, arith}
 use Rattle.std.specs.Prelude.{Contains, Option, Some, None, option_map, slice_get}
@@ -38,7 +38,7 @@ pub record TurnLaws : Type 0 where
   pub smaller : (clears : List Clear) (call : Call)
       → (cleared clears call ≡ call.tree) ⊎ (weight (cleared clears call) < weight call.tree)
 
--- a connection between two steps, whose link goes, and what all connections tell
+-- a connection between two steps, whose link is up, and the events of all connections
 pub record Stands (u : Under) (h : History) (c : Course) : Type 0 where
   pub course : IsCourse u c
   pub going : c.ended ≡ false
@@ -83,7 +83,7 @@ leaves-nearer end seq position row there low =
     filter-lt (λ (call : ℕ × ℕ). end - call.1) (λ (call : ℕ × ℕ). not (seq == call.0)) row (seq, position) there
     (ap not (eq-eqb seq seq refl)) some
 
--- ---- what turns keep
+-- ---- what turns preserve
 
 chain-noted : (name : List ℕ) (seq : ℕ) (n : Noted) (past : Behind) → chain (note_behind name seq n past) ≡ chain past
 chain-noted name seq notes.Nothing past = refl
@@ -112,7 +112,7 @@ form-noted conn s name seq notes.Counted past = refl
 same-le : (a b : ℕ) → a ≡ b → a ≤ b
 same-le a b is = omega arith
 
--- where forms stay, those of calls that go on or leave have no more parts
+-- if forms are unchanged, those of calls that advance or leave have no more parts
 goes-parts : (conn seq : ℕ) (past new : Behind) (row : Row) → ((s : ℕ) → form conn s new ≡ form conn s past)
     → parts_in conn new (goes_on seq row) ≤ parts_in conn past row
 goes-parts conn seq past new row same =
@@ -205,7 +205,7 @@ pub record Turned (u : Under) (h : History) (c : Course) (position : ℕ) : Type
   pub still : length (frames u.table history) ≡ length (frames u.table h)
 
 module _ (laws : TurnLaws) (u : Under) (h : History) (c : Course) (stands : Stands u h c) where
-  -- the form of a call that stands
+  -- the form of a pending call
   pub form-there : (seq position : ℕ) → IsIn (seq, position) c.row → (call : Call) × (form u.conn seq c.past ≡ Some call)
   form-there seq position there =
       let number : IsIn seq (map (λ call. call.seq) (standing c.past)) =

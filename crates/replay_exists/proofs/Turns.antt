@@ -1,4 +1,4 @@
--- Tickets that are given in turn, once one more thing happens.
+-- Tickets that are drawn in turn, after one more event.
 use Rattle.std.proofs.Common.{◌≡◌, ◌⊎◌, inl, inr, ℕ, zero, suc, ◌+◌, ◌==◌, ◌&&◌, Bool, true, false, cond, List, []}
 use Rattle.std.proofs.Common.{◌∷◌, ◌++◌, length, refl, sym, ap, ◌∙◌, subst, append_assoc, append-nil, length-append}
 use Rattle.std.proofs.Common.{arith}
@@ -36,7 +36,7 @@ range-push a (suc n) m is =
     let later : m ≡ a + 1 + n = omega arith in
     ap (range_with_len a) long ∙ ap (λ ks. a ∷ ks) (range-push (a + 1) n m later)
 
--- none is told, or the next one
+-- none is drawn, or the next one
 abbrev pub IsNoneOrNext : List ℕ → ℕ → Type 0
 IsNoneOrNext xs n = (xs ≡ []) ⊎ (xs ≡ n ∷ [])
 
@@ -55,7 +55,7 @@ counts-push ts xs counts (inr one) =
 abbrev pub next_in : History → ℕ → ℕ → ℕ
 next_in h tenant window = length (tickets tenant window h)
 
--- what happens tells no ticket but the next
+-- the event draws no ticket but the next
 abbrev pub TellsNext : History → Happened → Type 0
 TellsNext h x = (tenant window : ℕ)
     → IsNoneOrNext (drawn_by tenant window x.what (behind x.conn h)) (next_in h tenant window)

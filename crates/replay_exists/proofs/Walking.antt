@@ -1,4 +1,4 @@
--- The loads of a graph, one after another, up to the end, to a word that offends, or to the limit.
+-- The loads of a graph, one after another, up to the end, to an invalid word, or to the limit.
 use Rattle.std.proofs.Common.{◌≡◌, inl, inr, ℕ, zero, suc, ◌+◌, ◌<◌, ◌≤◌, ◌^◌, List, [], ◌∷◌, ◌++◌, length, refl, sym}
 use Rattle.std.proofs.Common.{ap, ◌∙◌, subst, append_assoc, arith}
 use Rattle.mrpc_table.specs.declared.table.Table.{Table}
@@ -79,7 +79,7 @@ walk T H reading small (suc fuel) k (e ∷ rest) =
       ]
     ]
 
--- ---- what a graph comes to
+-- ---- the outcome of a graph
 
 abbrev pub OffenceLaw : Type 0
 OffenceLaw = (T : Table) (H msg address limit : ℕ) (xs : List (ℕ × ℕ)) (e : Role × ℕ) (rest : Expected) (v : ℕ) (reason : Reason)

@@ -1,4 +1,4 @@
--- When a script has one history, with its loads, and one for each place at which a sending of it may fail (this
+-- Each script has exactly one history, with its loads, and one for each point at which a send of it can fail (this
 -- project's own).
 use Rattle.std.specs.Prelude.{◌≡◌, ℕ, All, length}
 use Rattle.mrpc_table.specs.declared.call.Call.{Call}
@@ -8,8 +8,8 @@ use Rattle.call_history.specs.Legal.{IsLegal}
 use Rattle.replay_run.specs.Follows.{Follows, FollowsUntil, State}
 use Rattle.replay_run.specs.Sound.{IsSoundOn}
 
--- One end follows from the script: its history, its loads, and where its calls stand. The history is legal; on each
--- connection the loads are those of its calls, and the calls that stand are at places where they may stand.
+-- One end follows from the script: its history, its loads, and its pending calls. The history is legal. On each
+-- connection the loads are those of its calls, and pending calls are at legal positions.
 pub record HasOneEnd (s : Script) : Type 0 where
   pub end : State
   pub follows : Follows s end
@@ -17,8 +17,8 @@ pub record HasOneEnd (s : Script) : Type 0 where
   pub legal : IsLegal s.table s.loads end.history
   pub sound : All (IsSoundOn s end.history) end.opened
 
--- The same of the script up to a sending that fails behind so many calls that were sent. The call whose sending fails
--- is one, too.
+-- One end follows from the script up to a send that fails after this many sends, with the same properties. The call
+-- whose send fails is unique, too.
 pub record HasOneFailure (s : Script) (sent : ℕ) : Type 0 where
   pub tried : Call
   pub end : State

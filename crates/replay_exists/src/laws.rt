@@ -1,4 +1,4 @@
-//! The laws of what follows from each script. The function does nothing; its clauses hold.
+//! Laws of what follows from each script. The function does nothing; its contract is the law.
 
 ghost use Rattle.std.specs.Prelude.{◌<◌, ℕ, length};
 ghost use Rattle.mrpc_table.specs.declared.call.Call.{Call};
@@ -17,13 +17,13 @@ use graph_form::{loads_end_malformed, malformed_graphs_keep_the_limit, sound_tre
 use policy_redact::gets_smaller;
 use replay_run::{one_follows, what_follows_is_sound};
 
-/// A script has one history with its loads and the calls that stand, never two and never none: whole, and up to a
-/// sending that fails, for each number of calls that were sent before, as long as the whole one sends more.
+/// A script has exactly one history, with its loads and pending calls: in full, and up to a send that fails, for each
+/// number of sends before it that is smaller than the number of sends in full.
 pub fn one_history()
     ensures whole { (s : Script) → IsScript s → HasOneEnd s }
     ensures until { (s : Script) (end : State) (sent : ℕ) → IsScript s → Follows s end
         → sent < length (frames s.table end.history) → HasOneFailure s sent }
-    // A sending that fails is one that the whole history has.
+    // The full history has the send that fails, too.
     ensures places { (s : Script) (tried : Call) (end whole : State) → IsScript s → FollowsUntil s tried end
         → Follows s whole → length (frames s.table end.history) < length (frames s.table whole.history) }
 {

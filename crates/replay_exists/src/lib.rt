@@ -1,10 +1,10 @@
-//! Each script has one history, and one for each place at which a sending of it may fail.
+//! Each script has a history, and one for each point at which a send of it can fail.
 //!
-//! What follows from a script is said line by line (`specs/Follows.antt` of `replay_run`), where a copy is made, a turn
-//! comes out and a drain goes on until nothing can go on. Here it is shown that each such step can be taken from
-//! whatever the lines in front of it lead to: so something follows from every script ([`one_history`]), as no more than
-//! one thing does. The function does nothing; its clauses are the laws. It stands on `replay_run` and on
-//! what that stands on. No layer stands above.
+//! What follows from a script is defined line by line (`specs/Follows.antt` of `replay_run`): a copy is made, a turn
+//! has an outcome, a drain runs until no call advances. This crate proves that each such step exists from every state
+//! that earlier lines lead to. So something follows from every script ([`one_history`]); `replay_run` proves that at
+//! most one thing does. The function does nothing; its contract is the law. The crate depends on `replay_run` and its
+//! dependencies. No layer is above it.
 #![tactic(auto)]
 
 mod laws;

@@ -1,4 +1,4 @@
--- What an event adds to what is behind, and what of it stays as it is.
+-- What a transition adds to a trace, and what it preserves.
 use Rattle.std.proofs.Common.{◌≡◌, ℕ, ◌+◌, List, [], ◌∷◌, ◌++◌, refl, sym, ap, ◌∙◌, subst, append_assoc, append-nil}
 use Rattle.std.specs.List.{AllByRecursion}
 use Rattle.mrpc_table.specs.declared.table.Table.{Table}
@@ -22,7 +22,7 @@ use Rattle.call_history.specs.declared.happening.Taken.{Taken}
 use Rattle.call_history.specs.declared.happening.TookCopy.{TookCopy}
 use Rattle.call_history.specs.declared.happening.TookCopy.TheVariants.{Copy, Malformed}
 
--- what turns and failures add
+-- the events of turns and failures
 abbrev pub IsOfTurn : Happening → Type 0
 IsOfTurn (Took call) = ⊥
 IsOfTurn (Away method number addr) = ⊥
@@ -35,7 +35,7 @@ IsOfTurn (Redacted seq name version) = Unit {0}
 IsOfTurn (Sent seq bytes) = ⊥
 IsOfTurn (Refused seq why) = Unit {0}
 
--- what drains add
+-- the events of drains
 abbrev pub IsOfDrain : Happening → Type 0
 IsOfDrain (Took call) = ⊥
 IsOfDrain (Away method number addr) = ⊥
@@ -48,7 +48,7 @@ IsOfDrain (Redacted seq name version) = Unit {0}
 IsOfDrain (Sent seq bytes) = Unit {0}
 IsOfDrain (Refused seq why) = Unit {0}
 
--- what submissions, operators and clocks add
+-- the events of submissions, operators and clocks
 abbrev pub IsOfChange : Happening → Type 0
 IsOfChange (Took call) = Unit {0}
 IsOfChange (Away method number addr) = Unit {0}
@@ -61,7 +61,7 @@ IsOfChange (Redacted seq name version) = ⊥
 IsOfChange (Sent seq bytes) = ⊥
 IsOfChange (Refused seq why) = Unit {0}
 
--- happenings of a kind came on top of what was behind
+-- events of a kind were added to a trace
 pub record Adds (P : Happening → Type 0) (old new : Behind) : Type 0 where
   pub more : List Happening
   pub each : AllByRecursion P more
@@ -176,7 +176,7 @@ module _ (tenant window : ℕ) where
   tickets-kept-by_change (Sent seq bytes) past holds = absurd holds
   tickets-kept-by_change (Refused seq why) past holds = append-nil (tickets_behind tenant window past)
 
--- ---- events
+-- ---- transitions
 
 note-adds : (name : List ℕ) (seq : ℕ) (n : Noted) (past : Behind) → Adds IsOfTurn past (note_behind name seq n past)
 note-adds name seq notes.Nothing past = adds-nothing IsOfTurn past
@@ -198,7 +198,7 @@ refused-adds (call ∷ calls) past =
     let x : Happening = Refused call.seq cause.Transport in
     adds-more IsOfTurn past (x ∷ past) (refused_for_link calls (x ∷ past)) (adds-one IsOfTurn x past tt) (refused-adds calls (x ∷ past))
 
--- the same by a copy of which nothing is known
+-- an accepted call with a copy of which nothing is known
 abbrev pub accepted_as : Taken → TookCopy → Course → Course
 accepted_as call copy c = elim copy [
   | Copy tree ↦ record c { past = Took call ∷ c.past; row = c.row ++ (call.seq, 0) ∷ [] }
@@ -213,7 +213,7 @@ accepted-adds call (Malformed reason place value) c = record {
   is = refl;
 }
 
--- what an event may be
+-- turns and failures of the link
 abbrev pub IsTurning : Event → Type 0
 IsTurning (accepts call) = ⊥
 IsTurning (turns_away method number addr) = ⊥

@@ -1,4 +1,4 @@
--- What the arms of a line on its connection come to.
+-- The results of the arms of a line on its connection.
 use Rattle.std.proofs.Common.{◌≡◌, ◌≤◌, ℕ, List, refl, sym, ◌∙◌, subst}
 use Rattle.std.specs.Prelude.{Err, IfErr, Ok, OnOk, Option, Result, Some}
 use Rattle.mrpc_base.specs.Heap.{Heap}
@@ -121,7 +121,7 @@ may-operate s (line.Turn conn at) c is may = absurd is
 may-operate s (line.Send conn) c is may = absurd is
 may-operate s (line.Drain conn) c is may = absurd is
 
--- ---- turns, sendings, drains
+-- ---- turns, sends, drains
 
 pub done-at : (s : Script) (l k : Line) (c d : Connection) (q q' : Counters) (w w' : Option (List ℕ)) → l ≡ k → DoneOn s k c d q q' w w' → DoneOn s l c d q q' w w'
 done-at s l k c d q q' w w' is done = subst (λ (m : Line). DoneOn s m c d q q' w w') (sym is) done

@@ -1,4 +1,4 @@
--- What a sending that fails does on a connection of a run.
+-- The effect of a send that fails on a connection of a run.
 use Rattle.std.proofs.Common.{◌≡◌, ℕ, ◌+◌, ◌<◌, List, [], ◌∷◌, ◌++◌, length, take, refl, sym, ap, ◌∙◌, subst, append-nil}
 use Rattle.std.specs.Prelude.{Option}
 use Rattle.std.specs.Io.KnownBytes.{Appends}
@@ -46,7 +46,7 @@ failing-draws u old new tenant window (is_sent seq bytes is going ready makes) =
 failing-draws u old new tenant window (link_failed is makes) =
     ap (λ (c : Course). tickets_behind tenant window c.past) makes ∙ refused-draws tenant window (standing old.past) old.past
 
--- what is ready on a connection is so in its script
+-- what is ready on a connection is ready in its script
 abbrev ready-of : (s : Script) (c : Connection) (at : Course) (seq bytes : ℕ) → IsOf s c → IsReady (under_in c.calls) at seq bytes → IsReady (under s c.calls.conn) at seq bytes
 ready-of s c at seq bytes of_script ready = record {
   first = ready.first;

@@ -1,4 +1,4 @@
--- What some lines of a script have made of its connections: heaps, chains, and how many calls.
+-- The state of a script's connections after some lines: heaps, chains, and the number of calls.
 use Rattle.std.proofs.Common.{◌≡◌, ◌≢◌, ℕ, ◌+◌, ◌≤◌, Bool, true, false, cond, List, [], ◌∷◌, ◌++◌, ◌⊎◌, inl, inr}
 use Rattle.std.proofs.Common.{length, refl, sym, ap, ◌∙◌, subst, length-append, arith}
 use Rattle.std.specs.Prelude.{Option, Some, None, ◌==◌}
@@ -88,7 +88,7 @@ chain-other policies before l conn other =
     let c : Chain = chain_of policies before conn in
     chain-more policies new_chain before l conn ∙ ap (λ b. cond b (done (op_in policies l) c) c) (ne_eqb (conn_of l) conn other)
 
--- a line that opens a connection leaves its chain as it is
+-- a line that opens a connection leaves its chain unchanged
 pub opened-new : (policies : List NamedPolicy) (before : List Line) (conn words : ℕ)
     → chain_of policies (before ++ line.Conn conn words ∷ []) conn ≡ chain_of policies before conn
 opened-new policies before conn words = chain-own policies before (line.Conn conn words) conn refl
@@ -135,7 +135,7 @@ new-more loads policies before l allows new conn none =
       | inr other ↦ chain-other policies before l conn other ∙ new conn was
     ]
 
--- ---- what a line does to the chain and the calls of its connection
+-- ---- the effect of a line on the chain and the calls of its connection
 
 took-few : (call : Taken) (copy : TookCopy) (c : Course) → length (taken (accepted_as call copy c).past) ≤ length (taken c.past) + 1
 took-few call (Copy tree) c = omega (arith, length-append (taken c.past) (call ∷ []))
@@ -145,7 +145,7 @@ chain-took : (call : Taken) (copy : TookCopy) (c : Course) → chain (accepted_a
 chain-took call (Copy tree) c = refl
 chain-took call (Malformed reason place value) c = refl
 
--- the chain is that of the line's step, if it has one, and at most one call more was accepted
+-- the chain is changed by the line's operation, if it has one, and at most one more call was accepted
 pub record Moves (step : Option Op) (old new : Behind) : Type 0 where
   pub chain_is : chain new ≡ done step (chain old)
   pub few : length (taken new) ≤ length (taken old) + 1
@@ -194,7 +194,7 @@ module _ (s : Script) where
   abbrev step_of : Line → Option Op
   step_of l = op_in s.declared.policies l
 
-  -- a line without a step, which led by one event
+  -- a line without an operation, which leads by one transition
   plain-moves : (l k : Line) (old new : Opened) (c : Course) → l ≡ k → step_of k ≡ None → new ≡ come_to old c → Moves None old.course.past c.past
       → Moves (step_of l) old.course.past new.course.past
   plain-moves l k old new c is none makes moves =

@@ -1,4 +1,4 @@
--- Bytes that are known, over two steps.
+-- Known bytes, over two steps.
 use Rattle.std.proofs.Common.{◌≡◌, ℕ, ◌+◌, ◌≤◌, List, [], ◌∷◌, ◌++◌, length, take, Option, Some, None, sym, ap, ◌∙◌}
 use Rattle.std.proofs.Common.{subst, append_assoc, append-nil, length-append, zero-add, suc-add, arith}
 use Rattle.std.specs.Io.KnownBytes.{Appends}
@@ -18,7 +18,7 @@ pub take-behind : (xs ys : List ℕ) (m : ℕ) → take (length xs + m) (xs ++ y
 take-behind [] ys m = ap (λ n. take n ys) (zero-add m)
 take-behind (x ∷ xs) ys m = ap (λ n. take n (x ∷ (xs ++ ys))) (suc-add (length xs) m) ∙ ap (λ l. x ∷ l) (take-behind xs ys m)
 
--- some text, and then a front of some more
+-- some text, and then a prefix of some more
 pub record TellsBehind (old new : Option (List ℕ)) (xs ys : List ℕ) : Type 0 where
   pub many : ℕ
   pub least : length xs ≤ many

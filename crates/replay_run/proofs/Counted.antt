@@ -1,10 +1,10 @@
--- Which quotas were seen not to have come to their count's end.
+-- Which quotas were checked to be below the end of their count.
 use Rattle.std.proofs.Common.{◌≡◌, ◌≢◌, ◌<◌, ◌≤◌, ◌^◌, ◌-◌, ℕ, refl, arith}
 use Rattle.mrpc_base.specs.Quota.{Counters, drawn_in}
 use Rattle.mrpc_base.specs.declared.tickets.TheConstants.{WINDOWS}
 use Rattle.replay_run.specs.Kept.{HasCounted}
 
--- the windows of a tenant in front of one were seen, and no other was drawn from
+-- the windows of a tenant before this one were checked, and no other was drawn from
 pub record AreCountedTo (tenant window : ℕ) (old new : Counters) : Type 0 where
   pub tenants : new.tenants ≡ old.tenants
   pub others : (other w : ℕ) → other < old.tenants → w < WINDOWS → other ≢ tenant
@@ -20,7 +20,7 @@ counts-none tenant old = record {
   counted = λ w none. absurd (omega arith);
 }
 
--- the quotas of the tenants in front of one were seen, and no other was drawn from
+-- the quotas of the tenants before this one were checked, and no other was drawn from
 pub record AreCountedBelow (tenant : ℕ) (old new : Counters) : Type 0 where
   pub tenants : new.tenants ≡ old.tenants
   pub same : (t w : ℕ) → t < old.tenants → w < WINDOWS → tenant ≤ t → drawn_in new t w ≡ drawn_in old t w

@@ -1,4 +1,4 @@
--- Tickets that are given in turn count up: so do those in front of others, and the last is the number of those before.
+-- Tickets that are drawn in turn count up. So does each prefix, and the last ticket is the number of those before it.
 use Rattle.std.proofs.Common.{◌≡◌, ℕ, suc, ◌+◌, List, [], ◌∷◌, ◌++◌, length, refl, arith}
 use Rattle.std.specs.List.{range_with_len}
 

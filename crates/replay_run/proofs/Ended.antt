@@ -1,4 +1,4 @@
--- What a sending or a drain comes to over the link of the wire, by its answer.
+-- The result of a send or a drain over the link of the wire.
 use Rattle.std.proofs.Common.{◌≡◌, ℕ, ◌↔◌, ◌⊎◌, inl, inr, List, length, refl, sym, ap, ◌∙◌, subst}
 use Rattle.std.proofs.lemmas.List.{length-map}
 use Rattle.std.specs.Prelude.{Option, None}
@@ -26,7 +26,7 @@ use Rattle.replay_run.proofs.Handed.{drain-done, drain-stopped, handed-on, send-
 use Rattle.replay_run.proofs.Ran.{cause-none}
 use Rattle.replay_run.proofs.Sent.{with_calls}
 
--- what holds of what a link found and left holds of its sink before the link and after it
+-- what holds between two states of a sink holds between the sink before its link was made and after the link was closed
 pub over : {W V : Type 0} (of : W → V) (P : V → V → Type 0) (first last : W) (x y : W) → x ≡ first → last ≡ y → P (of x) (of y) → P (of first) (of last)
 over of P first last x y e d p = subst (λ w. P (of first) (of w)) (sym d) (subst (λ w. P (of w) (of y)) e p)
 
@@ -83,7 +83,7 @@ module _ {W : Type 0} (written : W → Option (List ℕ)) (faults : W → ℕ) w
       drain-stopped s c calls (written (sink_of x)) (written (sink_of y)) of_script begins
       (handed-on written faults c.calls calls x y same hands later none)
 
-  -- the count of faults stays while no send fails
+  -- the count of failures is unchanged while no send fails
   pub fault-free : {Failing : Type 0} → (Failing → ⊥) → (x y : ByteLink W) → IsLater written faults x y → failures_of y ≡ 0
       → HasCause Failing (faults (sink_of x)) (faults (sink_of y))
   fault-free none x y later fine = cause-none (faults (sink_of x)) (faults (sink_of y)) none (later.same_faults fine)
@@ -97,7 +97,7 @@ module _ {W : Type 0} (written : W → Option (List ℕ)) (faults : W → ℕ) w
     never_falls = refused.never_falls;
   }
 
-  -- the link that failed in a drain is the first, later on, in front of that failure
+  -- the link that failed in a drain is a later state of the first one, before that failure
   pub drain-cause : {Failing : Type 0} → Failing → (old new : Calls) (x y : ByteLink W) → failures_of x ≡ 0
       → FailsInDrain (IsRefused written faults) frames_of failures_of (IsLater written faults) old new x y
       → HasCause Failing (faults (sink_of x)) (faults (sink_of y))

@@ -1,4 +1,4 @@
--- What follows from a script, whole or up to a sending that fails, is sound.
+-- What follows from a script, in full or up to a send that fails, is legal, and its connections are consistent with it.
 use Rattle.std.proofs.Common.{◌≡◌, ℕ, Bool, true, false, List, [], ◌∷◌, ◌++◌, ◌⊎◌, inl, inr, length, map, refl, sym, ap, ◌∙◌, subst}
 use Rattle.std.specs.Prelude.{Some}
 use Rattle.std.proofs.lemmas.Bool.Decides.{eqb_tells}
@@ -33,7 +33,7 @@ module _ (laws : HistoryLaws) (s : Script) (script : IsScript s) where
       (allowed-front s.loads s.declared.policies [] lines rest (subst (AreAllowed s.loads s.declared.policies []) order script.lines))
       (start-stands laws s) leads
 
-  -- ---- a sending that fails
+  -- ---- a send that fails
 
   gets-opens-none : (l : Line) (old : Opened) (c : Course) → GetsTo s l old c → openings (l ∷ []) ≡ []
   gets-opens-none l old c (by_send is same) = ap (λ k. openings (k ∷ [])) is
@@ -75,7 +75,7 @@ module _ (laws : HistoryLaws) (s : Script) (script : IsScript s) where
     | inr lacks ↦ subst (IsLegalBehind (under s conn)) (sym (stands.quiet conn (subst (Lacks conn) stands.are lacks))) (laws.begins (under s conn)).legal
   ]
 
-  -- a ready call would be sent, and so every entry lets it pass
+  -- a ready call would be sent, so every entry lets it pass
   running : (u : Under) (c : Course) (seq bytes : ℕ) (ended : Bool) → c.ended ≡ ended → IsCourse u c → IsReady u c seq bytes → c.ended ≡ false
   running u c seq bytes false is course ready = is
   running u c seq bytes true is course ready =

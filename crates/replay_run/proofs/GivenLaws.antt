@@ -1,4 +1,4 @@
--- The laws of histories, as the proofs here are handed them.
+-- The laws of histories, as parameters of these proofs.
 use Rattle.std.proofs.Common.{◌≡◌, ◌≢◌, ℕ, [], ◌∷◌, ◌++◌}
 use Rattle.std.specs.Prelude.{All}
 use Rattle.call_history.specs.Draining.{BeginsToDrain, Drains}

@@ -1,4 +1,4 @@
--- What is known behind some lines of a script, with the heaps, the chains and the calls that they made.
+-- What is known after some lines of a script, with the heaps, the chains and the calls after them.
 use Rattle.std.proofs.Common.{◌≡◌, ◌≢◌, ℕ, List, [], ◌∷◌, ◌++◌, refl, sym, ap, ◌∙◌, subst, append-nil, append_assoc, arith}
 use Rattle.std.specs.Prelude.{None}
 use Rattle.std.specs.List.{AllByRecursion}
@@ -13,7 +13,7 @@ use Rattle.replay_run.proofs.GivenLaws.{HistoryLaws}
 use Rattle.replay_run.proofs.Lines.{AreApart, lacks-unopened, unopened}
 use Rattle.replay_run.proofs.Sound.{Stands, middle, numbers, start-stands, step-stands}
 
--- one line more
+-- one more line
 pub leads-more : (s : Script) (lines : List Line) (l : Line) (old mid new : State) → Leads s old lines mid → Step s mid l new → Leads s old (lines ++ l ∷ []) new
 leads-more s [] l old mid new same step = (new, subst (λ st. Step s st l new) same step, refl)
 leads-more s (k ∷ lines) l old mid new leads step = (leads.0, leads.1, leads-more s lines l leads.0 mid new leads.2 step)
@@ -104,7 +104,7 @@ module _ (laws : HistoryLaws) (s : Script) where
       (allowed-front s.loads s.declared.policies [] lines rest (subst (AreAllowed s.loads s.declared.policies []) order script.lines))
       start-known leads
 
-  -- the line behind them may stand there
+  -- the line after them is legal there
   allowed-behind : (before lines : List Line) (l : Line) (rest : List Line)
       → AreAllowed s.loads s.declared.policies before (lines ++ l ∷ rest)
       → Allows s.loads s.declared.policies (before ++ lines) l

@@ -1,4 +1,4 @@
--- What sendings and drains do on a connection of a run, over the link of the wire.
+-- The effect of sends and drains on a connection of a run, over the link of the wire.
 use Rattle.std.proofs.Common.{◌≡◌, ℕ, inl, inr, List, ◌∷◌, length, refl, sym, ap, ◌∙◌, subst, append-nil}
 use Rattle.std.specs.Prelude.{Option, None}
 use Rattle.std.specs.Io.KnownBytes.{Appends}
@@ -24,9 +24,9 @@ use Rattle.replay_run.specs.declared.connection.Connection.{Connection}
 use Rattle.replay_run.proofs.Pieces.{append-cancel}
 use Rattle.replay_run.proofs.Sent.{comes-of, draws-none, draws-of, hands-nothing, keeps-by, moved, under-of, with_calls}
 
--- ---- what the link tells
+-- ---- what the link's state implies
 
--- the frames that the link was handed since are on the wire
+-- the frames that the link was given are on the wire
 pub handed-on : {W : Type 0} (written : W → Option (List ℕ)) (faults : W → ℕ) (old new : Calls) (x y : ByteLink W) → IsSame old new → Hands old new (frames_of x) (frames_of y)
     → IsLater written faults x y → failures_of y ≡ 0 → HandsOn old.table old.conn (course old) (course new) (written (sink_of x)) (written (sink_of y))
 handed-on written faults old new x y same hands later none = record {
@@ -81,7 +81,7 @@ send-nothing s c calls quotas wire of_script rests same none still = record {
   hands = hands-nothing s.table c.calls.conn (course c.calls) (course calls) wire (ap (λ k. frames_behind s.table c.calls.conn (course k).past) still);
 }
 
--- a drain that came to its end
+-- a drain that reached its end
 pub drain-done : (s : Script) (c : Connection) (calls : Calls) (quotas quotas' : Counters) (wire wire' : Option (List ℕ)) → IsOf s c → IsResting c.heap → IsSame c.calls calls
     → Drains (under_in c.calls) (course c.calls) (course calls) → DrawsTickets knows drawn_of have_same_tenants c.calls calls quotas quotas'
     → HandsOn c.calls.table c.calls.conn (course c.calls) (course calls) wire wire' → DoneOn s (line.Drain c.calls.conn) c (with_calls c calls) quotas quotas' wire wire'
@@ -92,7 +92,7 @@ drain-done s c calls quotas quotas' wire wire' of_script rests same drained draw
   hands = handed-of s c (course c.calls) (course calls) wire wire' of_script hands;
 }
 
--- a drain that came so far, for want of memory
+-- a drain that ended early, out of memory
 pub drain-stopped : (s : Script) (c : Connection) (calls : Calls) (wire wire' : Option (List ℕ)) → IsOf s c → BeginsToDrain (under_in c.calls) (course c.calls) (course calls)
     → HandsOn c.calls.table c.calls.conn (course c.calls) (course calls) wire wire' → StoppedOn s (line.Drain c.calls.conn) c wire wire'
 drain-stopped s c calls wire wire' of_script begins hands = record {

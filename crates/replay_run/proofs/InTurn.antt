@@ -1,4 +1,4 @@
--- Where all quotas told their tickets, they gave them in turn; so a run ends as its script says.
+-- If all quotas know their tickets, they drew them in turn; so a run ends as its script says.
 use Rattle.std.proofs.Common.{◌≡◌, ℕ, ◌-◌, ◌<◌, ◌≤◌, ◌^◌, ◌⊎◌, inl, inr, Bool, true, false, cond, nat_lt, List, []}
 use Rattle.std.proofs.Common.{◌∷◌, ◌++◌, length, map, take, refl, sym, ap, ◌∙◌, subst, append-nil, length-append}
 use Rattle.std.proofs.Common.{arith}
@@ -95,7 +95,7 @@ module _ (laws : HistoryLaws) (s : Script) (script : IsScript s) where
     ]
   ]
 
-  -- ---- what the run leaves
+  -- ---- what the run writes
 
   pub run-replays : (cs : List Connection) (quotas : Counters) (out out' last wire wire' : Option (List ℕ)) → After s s.lines cs quotas out out' wire wire' → HaveCounted tenants quotas
       → Appends out' last (all_stands (map opened_of cs)) → Replays s out last wire wire'
@@ -124,7 +124,7 @@ module _ (laws : HistoryLaws) (s : Script) (script : IsScript s) where
         handed = (take b.many (frame_of s.table b.tried), b.many, b.few, refl, b.handed);
       }
 
--- behind a sending that failed, telling the calls that stand may stop
+-- after a send that failed, writing the pending calls can stop
 pub broken-stops : (s : Script) (cs : List Connection) (quotas : Counters) (out out' last wire wire' : Option (List ℕ)) → Broke s cs quotas out out' wire wire'
     → TellsSome out' last (all_stands (map opened_of cs)) → Stops s out last wire wire'
 broken-stops s cs quotas out out' last wire wire' b some =
@@ -142,7 +142,7 @@ broken-stops s cs quotas out out' last wire wire' b some =
       told = tells.told;
     }) b.many b.few b.handed
 
--- ---- what the lines came to
+-- ---- the results of the lines
 
 abbrev IsNoSending : Result (Unit {0}) Stop → Type 0
 IsNoSending result = (result ≡ Err Memory) ⊎ (result ≡ Err Out)
@@ -153,12 +153,12 @@ of-stopped (Err Wire) Done Broken Stopped ran either = absurd (elim (either) [ i
 of-stopped (Err Memory) Done Broken Stopped ran either = ran
 of-stopped (Err Out) Done Broken Stopped ran either = ran
 
--- the calls that stand were told, and the quotas had told their tickets
+-- the pending calls were written, and the quotas knew their tickets
 pub of-done : (result : Result (Unit {0}) Stop) (Lines Counted Ends : Type 0) → OnOk result Lines → OnOk result Counted → (Lines → Counted → Ends) → OnOk result Ends
 of-done (Ok value) Lines Counted Ends lines counted ends = ends lines counted
 of-done (Err stop) Lines Counted Ends lines counted ends = tt
 
--- telling them stopped
+-- writing them stopped
 pub of-untold : (result : Result (Unit {0}) Stop) (Told : Type 0) → OnErr result Told → IsNoSending result → Told
 of-untold (Ok value) Told told either = absurd (elim (either) [ inl e ↦ (cc) | inr e ↦ (cc) ])
 of-untold (Err stop) Told told either = told

@@ -1,4 +1,4 @@
--- The steps of operators on a script's connections are those of its lines: their policies are good.
+-- The operations on a script's connections are those of its lines: their policies are valid.
 use Rattle.std.proofs.Common.{◌≡◌, ℕ, ◌+◌, List, [], ◌∷◌, ◌++◌, sym, subst, arith}
 use Rattle.std.specs.List.{AllByRecursion}
 use Rattle.std.proofs.lemmas.List.Elements.{All-nil}
@@ -21,7 +21,7 @@ use Rattle.replay_run.proofs.Adds.{accepted_as, Adds, IsOfDrain, IsTurning, all-
 use Rattle.replay_run.proofs.Ready.{ArePolicies, IsGoodOption, IsGoodStep, IsModest, IsModestChain, op-good, step-modest}
 
 module _ (tenants : ℕ) where
-  -- a step has a good policy
+  -- an operation has a valid policy
   abbrev pub IsKnown : Happening → Type 0
   IsKnown (Took call) = Unit {0}
   IsKnown (Away method number addr) = Unit {0}
@@ -53,7 +53,7 @@ module _ (tenants : ℕ) where
   adds-known old new a known = subst AreKnown (sym a.is)
       (all-append IsKnown a.more old (all-weaker IsOfDrain IsKnown drain-known a.more a.each) known)
 
-  -- ---- events
+  -- ---- transitions
 
   abbrev IsKnownEvent : Event → Type 0
   IsKnownEvent (accepts call) = Unit {0}
@@ -163,7 +163,7 @@ module _ (tenants : ℕ) where
 
   -- ---- chains
 
-  -- the policies of a chain that such steps make are good
+  -- the policies of a chain that such operations lead to are valid
   pub chain-good : (past : Behind) → AreKnown past → (n : ℕ) × IsModestChain tenants n (chain past)
   chain-good [] known = (0, record { attached = omega arith; entries = All-nil (IsModest tenants 0) })
   chain-good (Took call ∷ past) known = chain-good past known.1

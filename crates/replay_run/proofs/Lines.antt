@@ -1,4 +1,4 @@
--- Which connections some lines open: each once.
+-- Which connections some lines open, each at most once.
 use Rattle.std.proofs.Common.{◌≡◌, ◌≢◌, ℕ, cond, List, [], ◌∷◌, ◌++◌, refl, sym, ap, ◌∙◌}
 use Rattle.std.specs.Prelude.{Option, Some, None}
 use Rattle.std.specs.List.{AllByRecursion}
@@ -10,7 +10,7 @@ use Rattle.script_text.specs.Lines.{heap_of, op_in, Allows, is_open}
 use Rattle.script_text.specs.declared.script.Line.{Line}
 use Rattle.script_text.specs.declared.script.Line.TheVariants.{Conn, Store, Race, Submit, Attach, Detach, Upgrade, Moment, Turn, Send, Drain}
 
--- the numbers of those that they open
+-- the numbers of the connections that they open
 abbrev pub openings : List Line → List ℕ
 openings [] = []
 openings (Conn conn words ∷ lines) = conn ∷ openings lines
@@ -19,7 +19,7 @@ openings (_ ∷ lines) = openings lines
 abbrev pub Lacks : ℕ → List ℕ → Type 0
 Lacks conn numbers = AllByRecursion (λ n. n ≢ conn) numbers
 
--- no two are one number
+-- the numbers are distinct
 abbrev pub AreApart : List ℕ → Type 0
 AreApart [] = Unit {0}
 AreApart (n ∷ ns) = AllByRecursion (λ other. other ≢ n) ns × AreApart ns
@@ -52,7 +52,7 @@ op-opens-none policies (Turn conn at) step is = refl
 op-opens-none policies (Send conn) step is = refl
 op-opens-none policies (Drain conn) step is = refl
 
--- ---- a line may open one that isn't open
+-- ---- a line can open a connection that isn't open
 
 pub lacks-unopened : (lines : List Line) (conn : ℕ) → heap_of lines conn ≡ None → Lacks conn (openings lines)
 lacks-unopened [] conn none = tt

@@ -1,4 +1,4 @@
--- The entry at a place of a chain is the one of its name.
+-- The entry at a position of a chain is the one with its name.
 use Rattle.std.proofs.Common.{◌≡◌, ◌≢◌, ℕ, zero, suc, cond, List, [], ◌∷◌, slice_get, find, Contains, Some, ap, sym, ◌∙◌, subst, arith}
 use Rattle.std.specs.Prelude.{option_map}
 use Rattle.std.specs.Str.{bytes_eq}

@@ -1,4 +1,4 @@
--- What a line of an open connection needs is there.
+-- The preconditions of a line of an open connection hold.
 use Rattle.std.proofs.Common.{◌≡◌, ◌≢◌, ℕ, suc, zero, get_or, length-append, ◌+◌, ◌<◌, ◌≤◌, ◌==◌, ◌^◌, ⊎_elim, Bool}
 use Rattle.std.proofs.Common.{true, false, cond, List, [], ◌∷◌, ◌++◌, length, map, refl, sym, ap, ◌∙◌, subst, arith}
 use Rattle.std.specs.Prelude.{All, Option, Some, None, option_map, position, slice_get}
@@ -84,7 +84,7 @@ some-load (suc load) free = omega arith
 within-chain : (at entries : ℕ) → ((entries ≤ at) → ⊥) → at < entries
 within-chain at entries free = ⊎_elim (λ (within : at < entries). within) (λ (past : entries ≤ at). absurd (free past)) (cases_lt at entries)
 
--- ---- steps
+-- ---- operations
 
 if-policy : (tenants : ℕ) (policies : List NamedPolicy) → ArePolicies tenants policies → (l : Line) (step : Op) → op_in policies l ≡ Some step → IfPolicy step IsPolicy
 if-policy tenants policies good l (Attach at name label policy) is =
@@ -105,7 +105,7 @@ module _ (s : Script) (script : IsScript s) where
       (λ (past : length s.declared.policies ≤ place). let none : slice_get s.declared.policies place ≡ None = slice_get_past s.declared.policies place past in absurd cc)
       (cases_lt place (length s.declared.policies))
 
-  -- the chain of a connection's engines is the one that the lines make
+  -- the chain of a connection's engines is the one that the lines lead to
   engines-chain : (lines : List Line) (c : Connection) → IsConnection c.calls → IsBuilt s lines (opened_of c)
       → chain_in c.calls.chain ≡ chain_of s.declared.policies lines c.calls.conn
   engines-chain lines c sound built = sound.same_chain ∙ built.chain_is
@@ -184,7 +184,7 @@ module _ (s : Script) (script : IsScript s) where
   may-do lines (line.Drain conn) c few on uses allows sound built = tt
 
 module _ (laws : HistoryLaws) (s : Script) where
-  -- what is known of the connection at the place of a line's
+  -- what is known of the connection at the index of a line's connection
   pub record IsReadyFor (l : Line) (c : Connection) (quotas : Counters) : Type 0 where
     pub on : conn_of l ≡ c.calls.conn
     pub ready : IsReady s c

@@ -1,4 +1,4 @@
--- What came on a connection behind a history of all: where its tickets are in turn, the next one is determined.
+-- Events of one connection after a history of all connections: if the tickets are in turn, the next one is determined.
 use Rattle.std.proofs.Common.{◌≡◌, ℕ, ◌==◌, ◌&&◌, Bool, true, false, cond, List, [], ◌∷◌, ◌++◌, length, refl}
 use Rattle.std.proofs.Common.{sym, ap, ◌∙◌, subst, append_assoc, append-nil}
 use Rattle.std.specs.Prelude.{Option, Some}
@@ -13,7 +13,7 @@ use Rattle.call_history.specs.declared.happening.Happening.TheVariants.{Drawn}
 use Rattle.replay_run.proofs.Adds.{Adds}
 use Rattle.replay_run.proofs.Counting.{CountsFrom, counts-end, counts-front}
 
--- what some happenings tell of a tenant's window, on top of others
+-- the tickets of a tenant's window in some events, added to others
 pub record Told (tenant window : ℕ) (old new : Behind) : Type 0 where
   pub more : List ℕ
   pub is : tickets_behind tenant window new ≡ tickets_behind tenant window old ++ more
@@ -42,7 +42,7 @@ draw-told seq name window ticket past tenant per most policy =
     draws-one (window == window) (option_map_or (is_quota_of tenant) (policy_of name past) false) ticket (eq-eqb window window refl)
     (ap (λ (p : Option Policy). option_map_or (is_quota_of tenant) p false) policy ∙ eq-eqb tenant tenant refl)
 
--- `told` are the tickets of all connections in front of what came on this one, behind `base`
+-- `told` are the tickets of all connections before the events of this one, which come after `base`
 module _ (told : (tenant window : ℕ) → List ℕ) (base : Behind) where
   pub record IsInTurn (past : Behind) : Type 0 where
     pub counts : (tenant window : ℕ) (t : Told tenant window base past) → CountsFrom 0 (told tenant window ++ t.more)

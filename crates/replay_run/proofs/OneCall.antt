@@ -1,4 +1,4 @@
--- A submission takes one call, by one list of loads.
+-- A submission is accepted as one call, by one list of loads.
 use Rattle.std.proofs.Common.{◌≡◌, ℕ, ◌<◌, ◌≤◌, [], length, sym, ap, ◌∙◌, subst, arith}
 use Rattle.mrpc_table.specs.Calls.{message_at}
 use Rattle.mrpc_table.specs.declared.table.Table.{Table}
@@ -14,7 +14,7 @@ use Rattle.call_history.specs.declared.happening.TookCopy.TheVariants.{Copy, Mal
 use Rattle.engine_core.specs.declared.call_row.TheConstants.{MAX_CALLS}
 use Rattle.replay_run.proofs.OneLaws.{OneLaws}
 
--- ---- what an acceptance says
+-- ---- what an acceptance implies
 
 pub accepts-may : (u : Under) (old : Course) (call : Taken) (new : Course) → Comes u old (accepts call) new → MayTake u old.past call
 accepts-may u old call new (takes other is going may makes) = let same : other ≡ call = cc in subst (MayTake u old.past) same may
@@ -36,7 +36,7 @@ away-full u old method number addr new (has_turn position s outcome e is turn ma
 away-full u old method number addr new (is_sent s b is going ready makes) = absurd cc
 away-full u old method number addr new (link_failed is makes) = absurd cc
 
--- ---- what is taken
+-- ---- the accepted call
 
 abbrev copy_of : Outcome → TookCopy
 copy_of (copied tree) = Copy tree
@@ -74,7 +74,7 @@ module _ (laws : OneLaws) (T : Table) (H limit : ℕ) (reads : ℕ → ℕ → �
     copy = copy i;
   }
 
-  -- of one method, number and address, behind one past and one number of stores
+  -- with the same method, number and address, after the same trace and the same number of stores
   pub calls-alike : (u : Under) (old : Course) (x y : Taken) (own other : Loads) → MayTake u old.past x
       → MayTake u old.past y → x.method ≡ y.method → x.number ≡ y.number → x.addr ≡ y.addr
       → x.after ≡ y.after → ReadsBy reads 1 own → ReadsBy reads 1 other → IsLoaded T H limit x own → IsLoaded T H limit y other → (own ≡ other) × (x ≡ y)

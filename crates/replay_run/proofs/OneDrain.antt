@@ -1,5 +1,5 @@
--- What one drain of a connection does, another does, up to the shorter of them: each turn comes out alike, where
--- tickets are in turn, and calls are sent in one order.
+-- Two drains of a connection agree up to the end of the shorter one: each turn has the same outcome if tickets are in
+-- turn, and calls are sent in the same order.
 use Rattle.std.proofs.Common.{◌≡◌, ℕ, ◌+◌, ◌<◌, ◌⊎◌, inl, inr, List, length, refl, sym, ap, ◌∙◌, subst, arith}
 use Rattle.std.specs.Prelude.{None, Some}
 use Rattle.mrpc_table.specs.declared.call.Call.{Call}
@@ -30,7 +30,7 @@ no-first call is = absurd cc
 first-number : (a b : ℕ × ℕ) → Some a ≡ Some b → a.0 ≡ b.0
 first-number a b is = let same : a ≡ b = cc in ap (λ (call : ℕ × ℕ). call.0) same
 
--- ---- what is behind a turn
+-- ---- the trace after a turn
 
 -- its note comes first
 note-first : (e : Entry) (seq : ℕ) (outcome : Outcome) (c : Course) → Adds IsAny (note_behind e.name seq (noted_in outcome) c.past) (turned e seq outcome c).past
@@ -39,9 +39,9 @@ note-first e seq (outcomes.Held level cost) c = adds-nothing IsAny c.past
 note-first e seq (outcomes.Refused n why) c = adds-one IsAny _ (note_behind e.name seq n c.past) tt
 note-first e seq outcomes.Redacted c = adds-one IsAny (Redacted seq e.name e.version) c.past tt
 
--- ---- how turns go on
+-- ---- how turns continue
 
--- an entry goes on behind a turn that comes out so
+-- how an entry continues after a turn with this outcome
 abbrev TurnsBehind : Under → ℕ → Outcome → Course → Ending → Course → Type 0
 TurnsBehind u position (outcomes.Passed n) c ending new = Turns u position c ending new
 TurnsBehind u position (outcomes.Held level cost) c ending new = (ending ≡ at_rest) × (new ≡ c)
@@ -75,7 +75,7 @@ turns-by u position old ending new (redacts c seq e turn) =
 turns-by u position old ending new (goes c d other seq outcome e turn done rest) =
     by_turn seq outcome e turn (turns-add u position (turned e seq outcome c) other d rest) (going-on u position outcome (turned e seq outcome c) other d done rest)
 
--- an entry after whose turns those of the next one come, or all begin again
+-- after an entry's turns those of the next one follow, or all start again
 abbrev PassesBehind : Under → ℕ → Ending → Course → Course → Type 0
 PassesBehind u position at_rest c new = Passes u (position + 1) c new
 PassesBehind u position again c new = Passes u 0 c new
@@ -90,7 +90,7 @@ passes-by u position old new (is_over p c end) = no_entry end refl
 passes-by u position old new (next p c between d within these rest) = by_turns at_rest between within these (passes-add u (p + 1) between d rest) rest
 passes-by u position old new (begins_again p c between d within these rest) = by_turns again between within these (passes-add u 0 between d rest) rest
 
--- ---- sendings
+-- ---- sends
 
 pub sends-ready : (u : Under) (old : Course) (seq bytes : ℕ) (new : Course) → Comes u old (sends seq bytes) new → IsReady u old seq bytes
 sends-ready u old seq bytes new (takes call is going may makes) = absurd cc
@@ -127,7 +127,7 @@ pub sends-by : (u : Under) (old new : Course) → SendsSome u old new → SendsB
 sends-by u old new (none c) = no_more refl
 sends-by u old new (one c between d seq bytes comes rest) = by_one between seq bytes comes rest
 
--- where no call is ready, none is sent
+-- if no call is ready, none is sent
 pub none-sent : (u : Under) (old new : Course) → first_at (length (chain old.past).entries) old.row ≡ None → SendsSome u old new → new ≡ old
 none-sent u old new empty some = elim (sends-by u old new some) [
   | no_more same ↦ same
@@ -149,7 +149,7 @@ module _ (laws : OneLaws) (u : Under) where
 
 -- ---- turns
 
--- the call of a turn, how it comes out, and the entry
+-- the call of a turn, its outcome, and the entry
 abbrev pub AllTurn : Type 0
 AllTurn = ℕ × Outcome × Entry
 
@@ -276,7 +276,7 @@ module _ (laws : OneLaws) (u : Under) (told : (tenant window : ℕ) → List ℕ
         )
   ]
 
-  -- one of two drains, as far as they came, is the other and more sendings
+  -- one of two partial drains is the other and more sends
   pub drains-alike : (old x y : Course) → IsCourse u old → Adds IsAny base old.past → BeginsToDrain u old x → BeginsToDrain u old y → TurnsInTurn x.past → TurnsInTurn y.past
       → SendsSome u x y ⊎ SendsSome u y x
   drains-alike old x y course above first second turn-x turn-y =

@@ -1,4 +1,4 @@
--- Two sendings that fail behind as many calls that were sent are one.
+-- Two sends that fail after the same number of sends are the same.
 use Rattle.std.proofs.Common.{◌≡◌, ℕ, ◌+◌, ◌<◌, ◌≤◌, ◌⊎◌, inl, inr, List, [], ◌∷◌, ◌++◌, length, map, reverse}
 use Rattle.std.proofs.Common.{refl, sym, ap, ◌∙◌, subst, append_assoc, append-nil, length-append, arith}
 use Rattle.std.specs.Prelude.{None}
@@ -35,7 +35,7 @@ use Rattle.replay_run.proofs.Pasts.{IsAny}
 use Rattle.replay_run.proofs.Pieces.{frames-further, frames-more}
 use Rattle.replay_run.proofs.Sound.{Stands, behind-own, one-course, sound-at, start-stands}
 
--- ---- how many calls were sent
+-- ---- the number of sent calls
 
 -- on a connection
 abbrev many : Table → ℕ → Behind → ℕ
@@ -64,7 +64,7 @@ no-fewer T conn P old new adds =
     let long : many T conn new ≡ length (frames_behind T conn old ++ hands.more) = ap length hands.is in
     omega (arith, long, length-append (frames_behind T conn old) hands.more)
 
--- a call that is sent is one more
+-- a call that is sent adds one
 sent-past : (u : Under) (old : Course) (seq bytes : ℕ) (new : Course) → Comes u old (sends seq bytes) new → new.past ≡ Sent seq bytes ∷ old.past
 sent-past u old seq bytes new (takes call is going may makes) = absurd cc
 sent-past u old seq bytes new (is_away method number addr is full makes) = absurd cc
@@ -83,7 +83,7 @@ one-more T conn u old seq bytes new comes =
     ap (many T conn) (sent-past u old seq bytes new comes)
     ∙ length-append (frames_behind T conn old.past) (handed_by T conn (Sent seq bytes) old.past)
 
--- calls that are sent are more, unless none is
+-- sends add to the number, unless there are none
 sends-more : (T : Table) (conn : ℕ) (u : Under) (old new : Course) → SendsSome u old new → (new ≡ old) ⊎ (many T conn old.past < many T conn new.past)
 sends-more T conn u old new some = elim (sends-by u old new some) [
   | no_more same ↦ inl same
@@ -97,7 +97,7 @@ sends-more T conn u old new some = elim (sends-by u old new some) [
 at-least : (xs ys zs : List (List ℕ)) → ys ≡ xs ++ zs → length xs ≤ length ys
 at-least xs ys zs is = let long : length ys ≡ length (xs ++ zs) = ap length is in omega (arith, long, length-append xs zs)
 
--- ---- where lines stand
+-- ---- the positions of two lines
 
 data Places (xs ys : List Line) (l k : Line) : Type 0 where
   at_once : xs ≡ ys → l ≡ k → Places xs ys l k
@@ -167,7 +167,7 @@ module _ (laws : OneLaws) (s : Script) (told : (tenant window : ℕ) → List �
         | inr some ↦ absurd (not-ready all.course at seq bytes (sym (none-sent u all.course at all.drained.none_ready some)) all.drained.none_ready ready)
       ]
 
-  -- a whole line sends more calls than one whose sending fails
+  -- a full line sends more calls than one whose send fails
   pub whole-more : (l : Line) (tried : Call) (other whole : Opened) (f : Fails s l one tried other) → Does s l one whole → TurnsInTurn f.at.past → TurnsInTurn whole.course.past
       → count f.at < count whole.course
   whole-more l tried other whole f does turn-at turn-whole = elim (f.gets) [
@@ -202,7 +202,7 @@ module _ (laws : OneLaws) (s : Script) where
   abbrev all : State → ℕ
   all st = length (frames s.table st.history)
 
-  -- what one connection sends is sent by all
+  -- the sends of one connection are sends of all
   goes-count : (before : List Line) (old new : State) (one other : Opened) (c : Course) → Stands h-laws s before old → GoesOn old one other new
       → frames_behind s.table one.conn other.course.past ≡ frames_behind s.table one.conn c.past
       → all new + many s.table one.conn one.course.past ≡ all old + many s.table one.conn c.past
@@ -228,7 +228,7 @@ module _ (laws : OneLaws) (s : Script) where
       let grows = leads-grow laws s old lines new leads in
       at-least (frames s.table old.history) (frames s.table new.history) _ (ap (frames s.table) grows.is ∙ frames-further h-laws s.table old.history grows.more)
 
-  -- a sending that fails, with what is known of it
+  -- a send that fails, with what is known of it
   record Failure (x : State) (lines : List Line) (l : Line) (before : State) (one other : Opened) (tried : Call) : Type 0 where
     stands : Stands h-laws s lines before
     goes : GoesOn before one other x
@@ -257,7 +257,7 @@ module _ (laws : OneLaws) (s : Script) where
     no-opening conn words is (by_send sends_it same) = let wrong : line.Conn conn words ≡ line.Send one.conn = sym is ∙ sends_it in absurd cc
     no-opening conn words is (by_drain drains_it begins) = let wrong : line.Conn conn words ≡ line.Drain one.conn = sym is ∙ drains_it in absurd cc
 
-    -- behind a whole line more calls were sent
+    -- after a full line more calls were sent
     line-more : (next : State) → Step s before l next → AreCounted next.history → all x < all next
     line-more next (opens conn words is makes) counted = absurd (no-opening conn words is f.failing.gets)
     line-more next (goes_on two another on does goes) counted =
@@ -279,7 +279,7 @@ module _ (laws : OneLaws) (s : Script) where
   }
 
   module _ (script : IsScript s) where
-    -- no line whose sending fails stands in front of one that fails behind as many calls
+    -- no line whose send fails comes before one that fails after the same number of sends
     never-sooner : (x y : State) (tried instead : Call) (a : FollowsUntil s tried x) (b : FollowsUntil s instead y)
         (between : List Line) → b.until.lines ≡ a.until.lines ++ a.until.failing ∷ between
         → all x ≡ all y → ⊥

@@ -1,4 +1,4 @@
--- The laws by which what happens is determined, as the proofs here are handed them.
+-- The laws of determinism, as parameters of these proofs.
 use Rattle.std.proofs.Common.{◌≡◌, ℕ, List}
 use Rattle.mrpc_table.specs.declared.table.Table.{Table}
 use Rattle.engine_core.specs.Answers.{note, ticket_in}

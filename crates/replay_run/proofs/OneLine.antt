@@ -1,4 +1,4 @@
--- A line leads an open connection to one other, where the tickets that are drawn on the way are in turn.
+-- A line leads an open connection to one next state, if the tickets that it draws are in turn.
 use Rattle.std.proofs.Common.{◌≡◌, ℕ, ◌<◌, ◌⊎◌, inl, inr, List, [], ◌∷◌, ◌++◌, length, refl, sym, ap, ◌∙◌, subst, arith}
 use Rattle.std.specs.Prelude.{None, Option, Some}
 use Rattle.mrpc_base.specs.Heap.{races_with}
@@ -28,7 +28,7 @@ use Rattle.replay_run.proofs.OneDrain.{AllTurn, drains-alike, no-first, none-sen
 use Rattle.replay_run.proofs.OneLaws.{OneLaws}
 use Rattle.replay_run.proofs.Pasts.{IsAny}
 
--- ---- what a line of each form does
+-- ---- the effect of a line of each form
 
 pub record Submits (s : Script) (method number addr : ℕ) (old new : Opened) : Type 0 where
   pub call : Taken

@@ -1,4 +1,4 @@
--- A script leads to one state, whole and up to a sending that fails behind as many calls that were sent.
+-- A script leads to one state, in full and up to a send that fails after a given number of sends.
 use Rattle.std.proofs.Common.{◌≡◌, ◌≢◌, ℕ, List, [], ◌∷◌, ◌++◌, map}
 use Rattle.std.proofs.Common.{reverse, refl, sym, ap, ◌∙◌, subst, append_assoc, append-nil}
 use Rattle.std.proofs.lemmas.List.{reverse-append, reverse-reverse}
@@ -38,7 +38,7 @@ among : (P : ℕ → Type 0) (front back : List Opened) (o : Opened) → AllByRe
 among P [] back o each = each.0
 among P (x ∷ front) back o each = among P front back o each.1
 
--- connections of one number among others
+-- connections with one number among others
 pub record AreOne (a b : List Opened) (c d : List Opened) (x y : Opened) : Type 0 where
   pub front : a ≡ b
   pub here : x ≡ y
@@ -68,7 +68,7 @@ counted-in-turn h turn tenant window = counts-range 0 (tickets tenant window h) 
 
 -- ---- one step
 
--- what a step adds to what happened
+-- what a step adds to the events
 pub record Grows (old new : History) : Type 0 where
   pub more : History
   pub is : new ≡ old ++ more
@@ -96,7 +96,7 @@ module _ (laws : OneLaws) (s : Script) where
       let rest = leads-grow leads.0 lines new leads.2 in
       record { more = first.more ++ rest.more; is = rest.is ∙ ap (λ h. h ++ rest.more) first.is ∙ append_assoc old.history first.more rest.more }
 
-  -- what went on on one connection has tickets in turn behind those of all before
+  -- the events added on one connection have tickets in turn after those of all before
   pub goes-in-turn : (before : List Line) (old new : State) (one other : Opened) → Stands h-laws s before old → GoesOn old one other new → AreCounted new.history
       → IsInTurn (λ tenant window. tickets tenant window old.history) one.course.past other.course.past
   goes-in-turn before old new one other stands goes counted = record {
@@ -111,7 +111,7 @@ module _ (laws : OneLaws) (s : Script) where
         subst (CountsFrom 0) (ap (tickets tenant window) goes.history ∙ more) (counted tenant window);
   }
 
-  -- which connection goes on
+  -- which connection advances
   pub goes-alike : (before : List Line) (old new last : State) (one other two another : Opened) → Stands h-laws s before old → GoesOn old one other new → GoesOn old two another last
       → one.conn ≡ two.conn → one ≡ two
   goes-alike before old new last one other two another stands first second same =

@@ -1,4 +1,4 @@
--- Turns from one course come out alike, where the tickets that they draw are the next of their windows.
+-- Turns from one state have the same outcome, if the tickets that they draw are the next of their windows.
 use Rattle.std.proofs.Common.{◌≡◌, ◌≢◌, ℕ, min, ◌/◌, refl, sym, ap, ◌∙◌, subst}
 use Rattle.mrpc_table.specs.declared.call.Call.{Call}
 use Rattle.std.specs.Prelude.{None, Some}
@@ -41,7 +41,7 @@ draws-only policy left at form past window ticket (counts is none answer) = cc
 draws-only policy left at form past window ticket (is_clear clears is same answer) = cc
 draws-only policy left at form past window ticket (redacts clears is differs answer) = cc
 
--- of such a call nothing but a draw is answered
+-- such a call has no answer but a draw
 record IsDraw (at per : ℕ) (answer : Answer) : Type 0 where
   ticket : ℕ
   is : answer ≡ note (notes.Drawn (min (at / per) 1023) ticket)
@@ -63,7 +63,7 @@ only-draws policy left at tenant per cap form past answer quota undrawn (counts 
 only-draws policy left at tenant per cap form past answer quota undrawn (is_clear clears is same was) = cc
 only-draws policy left at tenant per cap form past answer quota undrawn (redacts clears is differs was) = cc
 
--- a turn that notes a draw was answered so
+-- a turn that notes a draw had that answer
 turn-draws : (policy : Policy) (left at : ℕ) (form : Call) (past : Past) (outcome : Outcome) (window ticket : ℕ) → ComesOut policy left at form past outcome
     → noted_in outcome ≡ notes.Drawn window ticket → IsUndrawn policy at window past
 turn-draws policy left at form past outcome window ticket (passes answers is) draw = let none : notes.Nothing ≡ notes.Drawn window ticket = sym (ap noted_in is) ∙ draw in cc
@@ -112,7 +112,7 @@ abbrev IsNoDraw : Noted → Type 0
 IsNoDraw (notes.Drawn window ticket) = ⊥
 IsNoDraw _ = Unit {0}
 
--- where one notes no draw, the other notes none
+-- if one notes no draw, the other notes none
 none-draws : (policy : Policy) (left at : ℕ) (form : Call) (past : Past) (a b : Outcome) → ComesOut policy left at form past a → ComesOut policy left at form past b
     → IsNoDraw (noted_in a) → (m : Noted) → noted_in b ≡ m → ticket_in (note m) ≡ None
 none-draws policy left at form past a b first second free (notes.Drawn window ticket) is =
@@ -123,7 +123,7 @@ none-draws policy left at form past a b first second free notes.Nothing is = ref
 none-draws policy left at form past a b first second free (notes.Charged level) is = refl
 none-draws policy left at form past a b first second free notes.Counted is = refl
 
--- two turns draw the same ticket, or none, where two draws of one window have one ticket
+-- two turns draw the same ticket, or none, if two draws of one window have one ticket
 pub same-ticket : (policy : Policy) (left at : ℕ) (form : Call) (past : Past) (a b : Outcome) → ComesOut policy left at form past a → ComesOut policy left at form past b
     → ((tenant per cap window s t : ℕ) → policy ≡ Quota tenant per cap → noted_in a ≡ notes.Drawn window s → noted_in b ≡ notes.Drawn window t → s ≡ t)
     → (n m : Noted) → noted_in a ≡ n → noted_in b ≡ m → ticket_in (note n) ≡ ticket_in (note m)

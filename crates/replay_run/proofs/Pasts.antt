@@ -1,4 +1,4 @@
--- What each line adds to what is behind on its connection, and whether its link goes on.
+-- What each line adds to the trace of its connection, and whether its link is still up.
 use Rattle.std.proofs.Common.{◌≡◌, ℕ, ◌+◌, List, [], ◌∷◌, ◌++◌, drop, length, reverse, refl, sym, ap, ◌∙◌, subst}
 use Rattle.std.proofs.lemmas.List.{reverse-append, reverse-reverse}
 use Rattle.engine_core.specs.Chains.{Entry}
@@ -24,7 +24,7 @@ use Rattle.replay_run.proofs.Adds.{accepted_as, Adds, IsOfChange, IsOfDrain, IsO
 abbrev pub IsAny : Happening → Type 0
 IsAny x = Unit {0}
 
--- happenings came on top, in order
+-- events were added, in order
 pub record IsPiece (old new : Behind) (piece : List Happening) : Type 0 where
   pub is : new ≡ reverse piece ++ old
 
@@ -66,7 +66,7 @@ module _ (s : Script) where
       adds-more IsAny old.course.past failing.at.past new.course.past (gets-adds l old failing.at failing.gets)
       (any-adds IsOfTurn failing.at.past new.course.past (turning-adds (under s old.conn) failing.at fails new.course tt failing.refused))
 
--- ---- the piece that was added
+-- ---- the events that were added
 
 pub piece-added : (P : Happening → Type 0) (old new : Behind) (adds : Adds P old new) → IsPiece old new (reverse adds.more)
 piece-added P old new adds = record { is = adds.is ∙ ap (λ xs. xs ++ old) (sym (reverse-reverse adds.more)) }
@@ -75,7 +75,7 @@ drop-behind : {X : Type 0} (xs ys : List X) → drop (length xs) (xs ++ ys) ≡ 
 drop-behind [] ys = refl
 drop-behind (x ∷ xs) ys = drop-behind xs ys
 
--- in order, it stands behind all that happened before
+-- in order, they come after all earlier events
 pub piece-behind : (before after piece : List Happening) → IsPiece (reverse before) (reverse after) piece → after ≡ before ++ piece
 piece-behind before after piece it =
     sym (reverse-reverse after) ∙ ap reverse it.is ∙ reverse-append (reverse piece) (reverse before)
@@ -84,7 +84,7 @@ piece-behind before after piece it =
 pub piece-dropped : (before after piece : List Happening) → IsPiece (reverse before) (reverse after) piece → drop (length before) after ≡ piece
 piece-dropped before after piece it = ap (drop (length before)) (piece-behind before after piece it) ∙ drop-behind before piece
 
--- ---- a link that goes on
+-- ---- a link that stays up
 
 turned-going : (e : Entry) (seq : ℕ) (outcome : Outcome) (c : Course) → (turned e seq outcome c).ended ≡ c.ended
 turned-going e seq (outcomes.Passed n) c = refl

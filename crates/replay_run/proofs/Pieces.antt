@@ -1,4 +1,4 @@
--- What a piece on one connection adds to what all connections tell: frames, and tickets.
+-- The frames and tickets that events of one connection add to those of all connections.
 use Rattle.std.proofs.Common.{◌≡◌, ℕ, List, [], ◌∷◌, ◌++◌, map, refl, sym, ap, ◌∙◌, append_assoc, append-nil}
 use Rattle.mrpc_table.specs.declared.table.Table.{Table}
 use Rattle.call_history.specs.Behind.{Behind}
@@ -16,7 +16,7 @@ append-cancel [] ys zs is = is
 append-cancel (x ∷ xs) ys zs is = append-cancel xs ys zs cc
 
 module _ (laws : HistoryLaws) (X : Type 0) (by : ℕ → Happening → Behind → List X) where
-  -- what a history tells behind another one, and what is behind on a connection
+  -- what a history adds to one before it; each event adds by the trace of its connection
   abbrev pub told_after : History → History → List X
   told_after before [] = []
   told_after before (x ∷ h) = by x.conn x.what (behind x.conn before) ++ told_after (before ++ x ∷ []) h
@@ -87,7 +87,7 @@ module _ (laws : HistoryLaws) (tenant window : ℕ) where
   tickets-behind conn [] = refl
   tickets-behind conn (x ∷ past) = ap (λ ys. ys ++ drawn_by tenant window x past) (tickets-behind conn past)
 
-  -- those of a history stand in front of what comes behind it
+  -- those of a history come before those of what follows it
   pub tickets-further : (h k : History) → tickets tenant window (h ++ k) ≡ tickets tenant window h ++ told_after laws ℕ drawn_on h k
   tickets-further h k =
       tickets-after [] (h ++ k) ∙ after-append laws ℕ drawn_on [] h k ∙ ap (λ ts. ts ++ told_after laws ℕ drawn_on h k) (sym (tickets-after [] h))

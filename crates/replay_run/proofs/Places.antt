@@ -1,4 +1,4 @@
--- The connection at a place of a run's connections, and another one in its place.
+-- The connection at an index of a run's connections, and its replacement.
 use Rattle.std.proofs.Common.{◌≡◌, ◌≢◌, ℕ, suc, ◌+◌, ◌<◌, ◌≤◌, ◌==◌, Bool, true, false, cond, nat_lt, List, [], ◌∷◌}
 use Rattle.std.proofs.Common.{◌++◌, length, map, take, drop, get_or, refl, sym, ap, ◌∙◌, arith, ⊎_elim}
 use Rattle.std.specs.Prelude.{Option, Some, None, find, position, slice_get, slice_set}
@@ -13,7 +13,7 @@ use Rattle.std.proofs.lemmas.Option.{same_Some, slice_get-get_or, slice_get_past
 use Rattle.replay_run.specs.Kept.{opened_of}
 use Rattle.replay_run.specs.declared.connection.Connection.{Connection}
 
--- what stands in front of it, and behind it
+-- the connections before it and after it
 pub record IsCut (cs : List Connection) (place : ℕ) (c : Connection) : Type 0 where
   pub within : place < length cs
   pub is : c ≡ get_or cs place c
@@ -87,6 +87,6 @@ others conn (c ∷ cs) is =
     let first = none-first (c.calls.conn == conn) c (find (λ (d : Connection). d.calls.conn == conn) cs) is in
     (other-number c.calls.conn conn first.0, others conn cs first.1)
 
--- where none is found, none has the number
+-- if none is found, none has the number
 pub lacks-number : (conn : ℕ) (cs : List Connection) → position (λ c. c.calls.conn == conn) cs ≡ None → AllByRecursion (λ n. n ≢ conn) (map (λ c. c.calls.conn) cs)
 lacks-number conn cs is = others conn cs (find-none conn cs is)

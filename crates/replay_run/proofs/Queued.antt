@@ -1,4 +1,4 @@
--- The calls that stand, as they are told.
+-- The pending calls, in the order of their lines.
 use Rattle.std.proofs.Common.{◌≡◌, ◌≢◌, ℕ, zero, suc, ◌+◌, ◌-◌, ◌<◌, Bool, true, false, List, [], ◌∷◌, ◌++◌, length}
 use Rattle.std.proofs.Common.{map, get_or, Option, Some, None, refl, sym, ap, ◌∙◌, subst, arith}
 use Rattle.std.proofs.lemmas.Bool.{cond-true, cond-false, ne_eqb}
@@ -19,7 +19,7 @@ use Rattle.replay_run.proofs.Written.{TellsRest, rest-more, rest-some, some-in}
 pub rows-long : (row : Row) (calls : List StandingCall) → map (λ call. call.0) row ≡ seqs_of calls → length row ≡ length calls
 rows-long row calls same = sym (length-map row (λ (call : ℕ × ℕ). call.0)) ∙ ap length same ∙ length-map calls (λ (s : StandingCall). s.call.seq)
 
--- the first at which a test passes is found
+-- the first match is found
 find-at : (p : Opened → Bool) (cs : List Connection) (i : ℕ) (c : Connection) → slice_get cs i ≡ Some c → p (opened_of c) ≡ true
     → ((k : ℕ) → k < i → p (opened_of (get_or cs k c)) ≡ false) → find p (map opened_of cs) ≡ Some (opened_of c)
 find-at p [] i c at passes others = cc

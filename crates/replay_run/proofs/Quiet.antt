@@ -1,4 +1,4 @@
--- What a line that neither turns nor sends does on a connection of a run.
+-- The effect of a line that neither turns nor sends on a connection of a run.
 use Rattle.std.proofs.Common.{◌≡◌, ℕ, inl, List, refl, sym, ap, subst}
 use Rattle.std.specs.Prelude.{Err, IfErr, Ok, OnOk, Option, Result}
 use Rattle.mrpc_base.specs.Heap.{Heap}
@@ -87,7 +87,7 @@ module _ (s : Script) where
   unmoved-stop : (l : Line) (c : Connection) (wire : Option (List ℕ)) → StoppedOn s l c wire wire
   unmoved-stop l c wire = record { end = course c.calls; begun = inl refl; hands = hands-nothing s.table c.calls.conn (course c.calls) (course c.calls) wire refl }
 
-  -- the answer of a line that neither turns nor sends
+  -- the result of a line that neither turns nor sends
   pub quiet-ran : (l : Line) (c d : Connection) (quotas : Counters) (wire : Option (List ℕ)) (result : Result (Unit {0}) Stop) (Broken : Type 0) → IsQuiet l
       → OnOk result (Does s l (opened_of c) (opened_of d)) → OnOk result (Keeps c d) → IfErr result (λ stop. stop ≡ Memory)
       → OnRan result (DoneOn s l c d quotas quotas wire wire) Broken (StoppedOn s l c wire wire) ⊥

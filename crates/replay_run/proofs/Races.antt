@@ -1,5 +1,4 @@
--- Races that wait stay in order, and what several loads make of them, one after another, is what the last of them would
--- make alone.
+-- Queued races stay in order, and several loads, one after another, make the same races as the last of them alone.
 use Rattle.std.proofs.Common.{◌≡◌, ◌<◌, ◌≤◌, ◌+◌, ℕ, nat_lt, nat_le, true, false, List, [], ◌∷◌, ◌++◌, All, arith, refl}
 use Rattle.std.proofs.Common.{sym, ap, ◌∙◌, subst, ⊎_elim, append_assoc}
 use Rattle.std.proofs.lemmas.Bool.{cases_lt, cond-true, cond-false}
@@ -25,7 +24,7 @@ past-due number race races due =
     let test : nat_lt number race.load ≡ false = grind (arith, nat_tests) in
     cond-false (nat_lt number race.load) (race ∷ races_past number races) (races_past number races) test
 
--- where all races are of later loads, none is due
+-- if all races are of later loads, none is due
 up_to-none : (number : ℕ) (races : List Race) → All (λ race. number < race.load) races → races_up_to number races ≡ []
 up_to-none number [] later = refl
 up_to-none number (race ∷ races) later =
@@ -42,7 +41,7 @@ past-all number (race ∷ races) later =
     cond-true (nat_lt number race.load) (race ∷ races_past number races) (races_past number races) test
     ∙ ap (λ rest. race ∷ rest) (past-all number races (All-tail (λ r. number < r.load) race races later))
 
--- where the first race is of a load past a number, all are
+-- if the first race is of a load past a number, all are
 all_past : (number : ℕ) (race : Race) (races : List Race) → number < race.load
     → All (λ other. race.load ≤ other.load) races → All (λ other. number < other.load) (race ∷ races)
 all_past number race races past order =
@@ -90,7 +89,7 @@ in_order-past number (race ∷ races) order = ⊎_elim
     (in_order-past number races order.1))
     (cases_lt number race.load)
 
--- those of loads up to a number, and behind them those past it, are all
+-- the races of loads up to a number, followed by those past it, are all
 up_to-then-past : (number : ℕ) (races : List Race) → AreInOrder races
     → races_up_to number races ++ races_past number races ≡ races
 up_to-then-past number [] order = refl
@@ -105,7 +104,7 @@ up_to-then-past number (race ∷ races) order = ⊎_elim
     ∙ ap (λ rest. race ∷ rest) (up_to-then-past number races order.1))
     (cases_lt number race.load)
 
--- what a load makes and then what a later one makes is what the later one would make alone
+-- the races of a load followed by those of a later one are those of the later one alone
 up_to-twice : (number later : ℕ) (races : List Race) → number ≤ later → AreInOrder races
     → races_up_to number races ++ races_up_to later (races_past number races) ≡ races_up_to later races
 up_to-twice number later [] le order = refl
@@ -126,7 +125,7 @@ stores-append races others = map-append (λ (race : Race). (race.place, race.val
 
 -- ---- loads, one after another
 
--- a heap behind so many loads of a submission, which began with these stores and these races
+-- a heap after this many loads of a submission, which started with these stores and these races
 pub record IsBehind (stores : List (ℕ × ℕ)) (races : List Race) (number : ℕ) (heap : Heap) : Type 0 where
   pub in_order : AreInOrder heap.races
   pub begun : heap.begun ≡ number
@@ -164,7 +163,7 @@ behind-load stores races number place value old new behind after =
           ∙ behind.all;
     }
 
--- the value that a load gives is the one that a submission reads there
+-- the value that a load returns is the one that a submission reads there
 read-load : (stores : List (ℕ × ℕ)) (races : List Race) (number place value : ℕ) (old new : Heap)
     → IsBehind stores races number old → AfterLoad old place value new
     → value ≡ read_at stores races (number + 1) place
@@ -173,7 +172,7 @@ read-load stores races number place value old new behind after =
     ∙ ap (λ n. old.stores ++ stores_of (races_up_to n old.races)) (ap (λ n. n + 1) behind.begun)
     ∙ behind.later (number + 1) (omega arith))
 
--- what a heap is behind its loads
+-- the state of a heap after its loads
 pub record Read (stores : List (ℕ × ℕ)) (races : List Race) (number size : ℕ) (own : List (ℕ × ℕ))
     (new : Heap) : Type 0 where
   pub read : ReadsBy (read_at stores races) (number + 1) own

@@ -1,4 +1,4 @@
--- What telling makes of what a line came to.
+-- The result of a line after its events are written.
 use Rattle.std.proofs.Common.{◌≡◌, ◌≢◌, ℕ, false, List, refl, sym, subst, arith}
 use Rattle.std.specs.Prelude.{Err, IfErr, Ok, OnErr, OnOk, Option, Result}
 use Rattle.std.specs.Io.KnownBytes.{Appends}
@@ -25,7 +25,7 @@ module _ (s : Script) (l : Line) (c mid d : Connection) (quotas quotas' : Counte
   done-told (Err Memory) Broken done sound told lines front no_wire = behind_line mid quotas quotas' done front
   done-told (Err Out) Broken done sound told lines front no_wire = behind_line mid quotas quotas' done front
 
-  -- a sending failed, and then telling stopped
+  -- a send failed, and then writing stopped
   pub broken-stopped : (stop : Stop) (Done Broken : Type 0) → BrokenOn s l c mid quotas quotas' wire wire' → TellsSome out out' (untold s.table mid) → stop ≢ Wire
       → OnRan {T = Unit {0}} (Err stop) Done Broken (StopsAt s l c out out' wire wire') (StopsAt s l c out out' wire wire')
   broken-stopped Wire Done Broken broken front no_wire = absurd (no_wire refl)
@@ -37,7 +37,7 @@ cause-none before now none same = record { rose = λ f. absurd (none f); stays =
 
 -- ---- a line of a script
 
--- it stopped for want of memory
+-- it stopped out of memory
 pub ran-stopped : (stop : Stop) (Done Broken Stopped : Type 0) → stop ≡ Memory → Stopped → OnRan {T = Unit {0}} (Err stop) Done Broken Stopped Stopped
 ran-stopped Wire Done Broken Stopped is stopped = cc
 ran-stopped Memory Done Broken Stopped is stopped = stopped

@@ -1,4 +1,4 @@
--- What the lines of a script in front of one make sure of, for the connection of that line.
+-- What the lines of a script before one guarantee for the connection of that line.
 use Rattle.std.proofs.Common.{◌≡◌, ℕ, ◌+◌, ◌<◌, ◌≤◌, ◌==◌, not, Bool, true, false, cond, List, [], ◌∷◌, length, map, take, drop, refl, subst, arith}
 use Rattle.std.specs.Prelude.{Option, Some, None, All, slice_get, option_map}
 use Rattle.std.specs.List.{AllByRecursion}
@@ -13,18 +13,18 @@ use Rattle.script_text.specs.Lines.{op_in, conn_of, chain_behind, chain_of, new_
 use Rattle.script_text.specs.declared.script.Line.{Line}
 use Rattle.script_text.specs.declared.script.Line.TheVariants as line
 
--- ---- the chains that lines make
+-- ---- the chains that lines lead to
 
 -- a policy of a script
 abbrev pub IsGood : (tenants : ℕ) → Policy → Type 0
 IsGood tenants policy = IsPolicy policy × KnowsTenantOf (λ place. place < tenants) policy
 
--- an entry after so many lines
+-- an entry after this many lines
 pub record IsModest (tenants lines : ℕ) (e : Entry) : Type 0 where
   pub version : e.version ≤ lines
   pub good : IsGood tenants e.policy
 
--- a chain after so many lines
+-- a chain after this many lines
 pub record IsModestChain (tenants lines : ℕ) (c : Chain) : Type 0 where
   pub attached : c.attached ≤ lines
   pub entries : All (IsModest tenants lines) c.entries
@@ -72,7 +72,7 @@ step-modest tenants lines (Upgrade name label policy) c good modest =
           (λ e one. upgrade-one tenants lines policy good e (is_named name e) one) c.entries modest.entries);
     }
 
--- the policies of a script's lines are good
+-- the policies of a script's lines are valid
 abbrev pub ArePolicies : (tenants : ℕ) → List NamedPolicy → Type 0
 ArePolicies tenants policies = (place : ℕ) (p : NamedPolicy) → slice_get policies place ≡ Some p → IsGood tenants p.policy
 
@@ -130,9 +130,9 @@ chain-modest tenants policies good ls conn =
     subst (λ n. IsModestChain tenants n (chain_of policies ls conn)) (let same : 0 + length ls ≡ length ls = omega arith in same)
     (behind-modest tenants policies good 0 new_chain ls conn (record { attached = omega arith; entries = All-nil (IsModest tenants 0) }))
 
--- ---- the same of engines
+-- ---- the same for engines
 
--- what holds of each image holds of each
+-- what holds for each image holds for each
 pub All-unmap : {X Y : Type 0} (P : Y → Type 0) (f : X → Y) (xs : List X) → AllByRecursion P (map f xs) → AllByRecursion (λ x. P (f x)) xs
 All-unmap P f [] all = tt
 All-unmap P f (x ∷ xs) all = (all.0, All-unmap P f xs all.1)

@@ -1,4 +1,4 @@
--- The definitions on small scripts that were worked out by hand.
+-- The definitions, evaluated on small scripts that were worked out by hand.
 use Rattle.std.proofs.Common.{◌≡◌, ℕ, ◌+◌, ◌<◌, ◌^◌, true, false, List, [], ◌∷◌, ◌++◌, codes, length, refl, ap, arith}
 use Rattle.std.specs.Prelude.{Contains, Some, None, get_or, map, reverse}
 use Rattle.std.specs.List.{range_with_len}
@@ -47,7 +47,7 @@ use Rattle.connection_text.specs.Standing.{holding, queue_name}
 use Rattle.replay_run.specs.Stands.{stands_on}
 use Rattle.replay_run.specs.Tickets.{tickets, AreInTurn}
 
--- a message with one number, and a method that takes one
+-- a message with one number, and a method that takes it
 abbrev number_field : Field
 number_field = record { number = 1; name = codes "a"; kind = Uint64; label = Plain }
 
@@ -101,7 +101,7 @@ opened = opens 1 16 refl refl
 stored : Does script (line.Store 1 2 7) (new_one 1 16) (at_course [] beginning)
 stored = stores 2 7 refl refl
 
--- races of one load go in order, and that of an earlier load before them
+-- races of one load stay in order, and that of an earlier load comes before them
 abbrev racing : List (ℕ × ℕ × ℕ) → Opened
 racing waiting = record {
   conn = 1;
@@ -140,7 +140,7 @@ free refusal (is_other n l p e is there named differs r) = none-in e there
 operated : Does script (line.Attach 1 0 rl 0) (at_course [] beginning) (at_course [] attached)
 operated = operates_on (Attach 0 rl rl (Rate rate)) attached refl (changes _ refl (record { free = free; makes = chains.attaches 0 rl rl (Rate rate) [] [] refl refl refl refl }) refl) refl
 
--- what happened stands behind, on its connection
+-- the new events come last, on their connection
 stands_behind : GoesOn (record { opened = at_course [] beginning ∷ []; history = [] }) (at_course [] beginning) (at_course [] attached)
     (record { opened = at_course [] attached ∷ []; history = record { conn = 1; what = attaching } ∷ [] })
 stands_behind = record { front = []; back = []; before = refl; after = refl; piece = attaching ∷ []; past = refl; history = refl }
@@ -187,7 +187,7 @@ taken_first =
     submits (seven 1 1) ((2, 7) ∷ []) one_stands refl refl (refl, tt) (loaded 1 1)
     (takes (seven 1 1) refl refl (record { number = refl; few = omega arith; loads = omega arith; copy = (omega arith, normal_number) }) refl) refl
 
--- a race before its first load is seen, and one behind its last isn't
+-- a race before its first load is seen, and one after its last isn't
 abbrev with_races : Opened
 with_races = record {
   conn = 1;
@@ -214,7 +214,7 @@ taken_racing =
     submits (seven 1 1) ((2, 7) ∷ []) (record { past = Took (seven 1 1) ∷ []; row = (1, 0) ∷ []; ended = false }) refl refl (refl, tt) (loaded 1 1)
     (takes (seven 1 1) refl refl (record { number = refl; few = omega arith; loads = omega arith; copy = (omega arith, normal_number) }) refl) refl
 
--- ---- where 64 calls stand, a submission loads nothing, and its races are made
+-- ---- while 64 calls are pending, a submission loads nothing, and its races are made
 
 abbrev many : Course
 many = record {
@@ -231,12 +231,12 @@ away : Does script (line.Submit 1 0 0 2)
     (record { conn = 1; words = 16; stores = (2, 7) ∷ (3, 4) ∷ []; races = []; loads = []; course = away_from })
 away = is_away 0 0 2 away_from refl (turned_away 0 0 2 refl refl refl) refl
 
--- ---- a moment
+-- ---- a timestamp
 
 shown : Does script (line.Moment 1 999) (at_course [] attached) (at_course [] (record attached { past = Moment 999 ∷ attached.past }))
 shown = shows_it 999 _ refl (rises 999 refl (omega arith) refl) refl
 
--- ---- turns and sendings
+-- ---- turns and sends
 
 abbrev rate_entry : Entry
 rate_entry = new_entry rl 1 (Rate rate)
@@ -301,7 +301,7 @@ drained =
     })
     refl
 
--- ---- a sending that fails: the calls that stand are refused
+-- ---- a send that fails: the pending calls are refused
 
 abbrev three : Behind
 three = Took (seven 3 1) ∷ Took (seven 2 1) ∷ Took (seven 1 1) ∷ []
@@ -343,7 +343,7 @@ failed_send = record {
   same = refl;
 }
 
--- ---- how calls that stand are told
+-- ---- the lines of pending calls
 
 -- two of three calls were charged and sent; the third is held at a level of 999
 abbrev held : Course
@@ -359,7 +359,7 @@ told_held = refl
 told_name : queue_name held 0 ≡ rl
 told_name = refl
 
--- a call behind another one isn't held itself
+-- a call after another one isn't held itself
 told_behind : holding (record held { row = (2, 0) ∷ (3, 0) ∷ [] }) (3, 0) ≡ None
 told_behind = refl
 

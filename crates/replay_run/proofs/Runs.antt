@@ -63,7 +63,7 @@ begins s quotas out wire tenants undrawn = (
   },
 )
 
--- all of what happened, and a front of what comes behind it
+-- all events, and a prefix of what comes after them
 tells-front : (s : Script) (before : State) (all more : List ℕ) (out out' : Option (List ℕ)) → all ≡ audit s.table before.history ++ more
     → TellsBehind out out' (audit s.table before.history) more → TellsFront s before all out out'
 tells-front s before all more out out' same tells = record {
@@ -73,13 +73,13 @@ tells-front s before all more out out' same tells = record {
   told = subst (λ t. Appends out out' (take tells.many t)) (sym same) tells.told;
 }
 
--- what happened was told, and nothing else
+-- the events were written, and nothing else
 tells-all : (s : Script) (st : State) (out out' : Option (List ℕ)) → Appends out out' (audit s.table st.history) → TellsFront s st (audit s.table st.history) out out'
 tells-all s st out out' told =
     let happened : List ℕ = audit s.table st.history in
     tells-front s st happened [] out out' (sym (append-nil happened)) (tells-none out out' happened [] told)
 
--- a front of a text is one of a longer text
+-- a prefix of a text is one of a longer text
 tells-more : (s : Script) (before : State) (xs ys : List ℕ) (out out' : Option (List ℕ)) → TellsFront s before xs out out' → TellsFront s before (xs ++ ys) out out'
 tells-more s before xs ys out out' tells = record {
   many = tells.many;
@@ -135,10 +135,10 @@ opens-one s conn words cs c quotas out wire b is fresh =
       },
     )
 
--- ---- what a line of an open connection adds
+-- ---- the effect of a line of an open connection
 
 module _ (laws : HistoryLaws) (s : Script) where
-  -- a piece that came on top on the connection at a place
+  -- events that were added on the connection at an index
   record IsOn (l : Line) (cs : List Connection) (quotas : Counters) (out wire : Option (List ℕ)) (b : Before s l cs quotas out wire) (c : Connection) (new : Course)
       (piece : List Happening) : Type 0 where
     here : (course c.calls).past ≡ behind c.calls.conn b.st.history
@@ -156,7 +156,7 @@ module _ (laws : HistoryLaws) (s : Script) where
         grown = added.is ∙ ap (λ p. reverse piece ++ p) sound.past ∙ sym (behind-own laws s c.calls.conn b.st.history piece);
       }
 
-  -- the state behind it
+  -- the state after it
   abbrev next_state : State → (front : List Opened) (other : Opened) (back : List Opened) (conn : ℕ) → List Happening → State
   next_state st front other back conn piece = record { opened = front ++ other ∷ back; history = st.history ++ map (on_connection conn) piece }
 
@@ -175,7 +175,7 @@ module _ (laws : HistoryLaws) (s : Script) where
       (sym (ap (λ h. joined (frames T h)) same ∙ ap joined more ∙ flat_map-append (λ frame. frame) (frames T b.st.history) hands.more))
       (appends-more b.wire wire wire' (sent s b.st) (joined hands.more) b.ran.handed hands.told)
 
-  -- tickets, where they are told
+  -- tickets, if they are known
   drawn-more : (tenant window : ℕ) (old new : Course) (before after : List ℕ) (d d' : Option (List ℕ))
       → ((more : List ℕ) → tickets_behind tenant window new.past ≡ tickets_behind tenant window old.past ++ more → after ≡ before ++ more)
       → IfSome d (λ now. now ≡ before) → DrawnIn tenant window old new d d' → IfSome d' (λ now. now ≡ after)
@@ -196,7 +196,7 @@ module _ (laws : HistoryLaws) (s : Script) where
       (ap (tickets_behind tenant window) (sym is.grown) ∙ grown ∙ ap (λ p. tickets_behind tenant window p ++ more) is.here))
       (b.ran.holds.drawn tenant window was early) (draws.drawn tenant window was early)
 
-  -- what is told of the piece
+  -- the lines of the added events
   untold-piece : (c mid : Connection) (piece : List Happening) → IsPiece (course c.calls).past (course mid.calls).past piece → mid.told ≡ length c.calls.happenings
       → mid.calls.conn ≡ c.calls.conn → untold s.table mid ≡ audit s.table (map (on_connection c.calls.conn) piece)
   untold-piece c mid piece added told conn =
@@ -204,13 +204,13 @@ module _ (laws : HistoryLaws) (s : Script) where
       ∙ ap (λ n. audit s.table (map (on_connection c.calls.conn) (drop n mid.calls.happenings))) told
       ∙ ap (λ xs. audit s.table (map (on_connection c.calls.conn) xs)) (piece-dropped c.calls.happenings mid.calls.happenings piece added)
 
-  -- the text of what happened so far, and of the piece
+  -- the text of the earlier events, and of the added ones
   audit-more : (h : History) (conn : ℕ) (piece : List Happening)
       → audit s.table (h ++ map (on_connection conn) piece) ≡ audit s.table h
       ++ audit s.table (map (on_connection conn) piece)
   audit-more h conn piece = flat_map-append (audit_line s.table) h (map (on_connection conn) piece)
 
-  -- the line went on to this connection, by this piece
+  -- the line led to this connection, by these events
   goes-on : (l : Line) (cs : List Connection) (quotas : Counters) (out wire : Option (List ℕ))
       (b : Before s l cs quotas out wire) (place : ℕ) (c : Connection) (it : IsCut cs place c) (other : Opened)
       (piece : List Happening) → IsPiece (course c.calls).past other.course.past piece
@@ -288,7 +288,7 @@ module _ (laws : HistoryLaws) (s : Script) where
         },
       )
 
-  -- ---- a line whose sending failed
+  -- ---- a line whose send failed
 
   sent-more : (l : Line) (cs : List Connection) (quotas : Counters) (out wire : Option (List ℕ))
       (b : Before s l cs quotas out wire) (c : Connection) (new : Course) (piece : List Happening)
@@ -368,7 +368,7 @@ module _ (laws : HistoryLaws) (s : Script) where
 
   -- ---- a run that stops
 
-  -- all of what happened before, and a front of the piece's lines
+  -- all earlier events, and a prefix of the added events' lines
   tells-piece : (l : Line) (cs : List Connection) (quotas : Counters) (out out' wire : Option (List ℕ))
       (b : Before s l cs quotas out wire) (c : Connection) (st : State) (piece : List Happening)
       → st.history ≡ b.st.history ++ map (on_connection c.calls.conn) piece → TellsSome out out' (audit s.table (map (on_connection c.calls.conn) piece))

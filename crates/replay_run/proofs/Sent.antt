@@ -1,4 +1,4 @@
--- What turns and sendings do on a connection of a run.
+-- The effect of turns and sends on a connection of a run.
 use Rattle.std.proofs.Common.{◌≡◌, ℕ, ◌↔◌, List, [], refl, sym, ap, ◌∙◌, subst, append-nil}
 use Rattle.std.specs.Prelude.{Option, Some, None}
 use Rattle.mrpc_base.specs.Quota.{Counters}
@@ -23,7 +23,7 @@ use Rattle.replay_run.specs.declared.connection.Connection.{Connection}
 use Rattle.replay_run.proofs.Adds.{IsOfTurn, frames-kept-by_turn, turning-adds, unmoved}
 use Rattle.replay_run.proofs.Bytes.{appends-nothing}
 
--- a connection whose calls went on
+-- a connection whose calls advanced
 abbrev pub with_calls : Connection → Calls → Connection
 with_calls c calls = record c { calls = calls }
 
@@ -47,7 +47,7 @@ under-of s c of_script = (λ i. record { conn = c.calls.conn; table = of_script.
 pub comes-of : (s : Script) (c : Connection) (event : Event) (calls : Calls) → IsOf s c → Steps c.calls event calls → Comes (under s c.calls.conn) (course c.calls) event (course calls)
 comes-of s c event calls of_script step = subst (λ (u : Under). Comes u (course c.calls) event (course calls)) (under-of s c of_script) step
 
--- nothing was handed over
+-- no frame was sent
 pub hands-nothing : (T : Table) (conn : ℕ) (old new : Course) (wire : Option (List ℕ))
     → frames_behind T conn new.past ≡ frames_behind T conn old.past → HandsOn T conn old new wire wire
 hands-nothing T conn old new wire same = record { more = []; frames = same ∙ sym (append-nil (frames_behind T conn old.past)); told = appends-nothing wire }

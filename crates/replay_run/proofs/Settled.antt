@@ -1,4 +1,4 @@
--- Behind a line that drains a connection it is settled.
+-- After a line that drains a connection, the connection is settled.
 use Rattle.std.proofs.Common.{◌≡◌, map, sym, subst}
 use Rattle.std.specs.Prelude.{Some, None}
 use Rattle.script_text.specs.declared.script.Line.TheVariants.{Drain}

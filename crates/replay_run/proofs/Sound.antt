@@ -1,4 +1,4 @@
--- What holds of the connections of a script, line by line.
+-- Properties of a script's connections, line by line.
 use Rattle.std.proofs.Common.{◌≡◌, ◌≢◌, ℕ, cond, List, [], ◌∷◌, ◌++◌, map, reverse, refl, sym, ap, ◌∙◌, subst, append-nil, append_assoc}
 use Rattle.std.specs.Prelude.{Some, None}
 use Rattle.std.specs.List.{AllByRecursion, cons_option}
@@ -24,7 +24,7 @@ use Rattle.replay_run.proofs.Spelled.{event-spells, begins-spell, taking-spells}
 
 -- ---- one connection
 
--- number and heap stay, the course is one, and the loads are those of its calls
+-- number and heap are unchanged, the state is valid, and the loads are those of its calls
 pub record IsNext (s : Script) (old new : Opened) : Type 0 where
   pub conn : new.conn ≡ old.conn
   pub course : IsCourse (under s old.conn) new.course
@@ -70,7 +70,7 @@ module _ (laws : HistoryLaws) (s : Script) where
       come-next old new c makes (laws.whole (under s old.conn) old.course c course drained)
       (begins-spell s.table old.words s.loads (under s old.conn) old.course c old.loads drained.begins spelled)
 
-  -- a course that a line gets to
+  -- a state that a line reaches
   pub record IsReached (old : Opened) (c : Course) : Type 0 where
     pub course : IsCourse (under s old.conn) c
     pub spelled : AreSpelled s.table old.words s.loads c.past old.loads
@@ -95,7 +95,7 @@ module _ (laws : HistoryLaws) (s : Script) where
   does-opens-none l old new (is_sent seq bytes c is comes makes) = ap (λ k. openings (k ∷ [])) is
   does-opens-none l old new (drains c is drained makes) = ap (λ k. openings (k ∷ [])) is
 
-  -- ---- what happens on one connection, in the history of all
+  -- ---- the events of one connection, in the history of all
 
   on-own : (conn : ℕ) (piece : List Happening) → on conn (map (on_connection conn) piece) ≡ piece
   on-own conn [] = refl
@@ -140,7 +140,7 @@ module _ (laws : HistoryLaws) (s : Script) where
   abbrev pub numbers : List Opened → List ℕ
   numbers opened = map (λ o. o.conn) opened
 
-  -- what is known behind some lines of a script
+  -- what is known after some lines of a script
   pub record Stands (before : List Line) (st : State) : Type 0 where
     pub are : numbers st.opened ≡ openings before
     pub apart : AreApart (openings before)
@@ -176,7 +176,7 @@ module _ (laws : HistoryLaws) (s : Script) where
   lacks-middle : (front back : List Opened) (one : Opened) (conn : ℕ) → Lacks conn (numbers (front ++ one ∷ back)) → one.conn ≢ conn
   lacks-middle front back one conn lacks = middle (λ n. n ≢ conn) front back one lacks
 
-  -- one connection goes on
+  -- one connection advances
   pub goes-stand : (before : List Line) (l : Line) (old new : State) (one other : Opened) → openings (l ∷ []) ≡ []
       → Stands before old → GoesOn old one other new → IsNext s one other
       → Stands (before ++ l ∷ []) new

@@ -1,4 +1,4 @@
--- What a line makes of a connection keeps its loads those of its calls.
+-- After a line the loads of a connection are still those of its calls.
 use Rattle.std.proofs.Common.{◌≡◌, ℕ, ◌+◌, List, [], ◌∷◌, ◌++◌, refl, sym, subst}
 use Rattle.mrpc_table.specs.declared.table.Table.{Table}
 use Rattle.engine_core.specs.Chains.{Entry}
@@ -21,7 +21,7 @@ module _ (T : Table) (H limit : ℕ) where
   abbrev pub Spells : Behind → Loads → Type 0
   Spells past loads = AreSpelled T H limit past loads
 
-  -- ---- what loads nothing
+  -- ---- events without loads
 
   note-spells : (name : List ℕ) (seq : ℕ) (n : Noted) (past : Behind) (loads : Loads) → Spells past loads → Spells (note_behind name seq n past) loads
   note-spells name seq notes.Nothing past loads spelled = spelled
@@ -39,7 +39,7 @@ module _ (T : Table) (H limit : ℕ) where
   refused-spells [] past loads spelled = spelled
   refused-spells (call ∷ calls) past loads spelled = refused-spells calls (Refused call.seq cause.Transport ∷ past) loads spelled
 
-  -- an event that accepts no call
+  -- a transition that accepts no call
   pub event-spells : (u : Under) (old : Course) (event : Event) (new : Course) (loads : Loads) → ((call : Taken) → event ≡ accepts call → ⊥) → Comes u old event new
       → Spells old.past loads → Spells new.past loads
   event-spells u old event new loads other (takes call is going may makes) spelled = absurd (other call is)
@@ -80,7 +80,7 @@ module _ (T : Table) (H limit : ℕ) where
 
   -- ---- a call that is accepted
 
-  -- the same by a copy of which nothing is known
+  -- an accepted call with a copy of which nothing is known
   abbrev accepted_as : Taken → TookCopy → Course → Course
   accepted_as call copy c = elim copy [
     | Copy tree ↦ record c { past = Took call ∷ c.past; row = c.row ++ (call.seq, 0) ∷ [] }

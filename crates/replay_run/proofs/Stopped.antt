@@ -1,4 +1,4 @@
--- A step that its chain doesn't refuse has no fault but want of memory.
+-- An operation that its chain accepts fails only out of memory.
 use Rattle.std.proofs.Common.{◌≢◌, refl}
 use Rattle.std.specs.Prelude.{IsSomeAnd}
 use Rattle.engine_core.specs.Chains.{Chain, Refusal, Refuses, full, no_place, no_such, other_kind, taken}

@@ -1,4 +1,4 @@
--- What a submission does on a connection of a run.
+-- The effect of a submission on a connection of a run.
 use Rattle.std.proofs.Common.{◌≡◌, ℕ, ◌≤◌, inl, inr, List, [], ◌++◌, length, refl, sym, ap, ◌∙◌, subst, append-nil}
 use Rattle.mrpc_base.specs.Heap.{Heap, AfterLoad, AfterRoom, stores_of}
 use Rattle.mrpc_table.specs.declared.limits.TheConstants.{MIN_HEAP, MAX_HEAP}
@@ -17,7 +17,7 @@ use Rattle.replay_run.specs.declared.connection.Connection.{Connection}
 use Rattle.replay_run.proofs.Races.{Read, read-submission}
 use Rattle.replay_run.proofs.Sent.{comes-of}
 
--- the heap behind a submission: the races that were left are made
+-- the heap after a submission: the remaining races are made
 pub record IsFinished (mid new : Heap) : Type 0 where
   pub stores : new.stores ≡ mid.stores ++ stores_of mid.races
   pub races : new.races ≡ []

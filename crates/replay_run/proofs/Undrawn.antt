@@ -1,4 +1,4 @@
--- Quotas give tickets to known tenants alone, and in their windows.
+-- Quotas draw tickets for known tenants alone, and in their windows.
 use Rattle.std.proofs.Common.{◌≡◌, ℕ, ◌/◌, ◌<◌, ◌≤◌, ◌==◌, ◌&&◌, ◌⊎◌, inl, inr, min, Bool, true, false, cond, List}
 use Rattle.std.proofs.Common.{[], ◌∷◌, ◌++◌, refl, sym, ap, ◌∙◌, subst, append_assoc, arith}
 use Rattle.std.specs.Prelude.{Option, Some, None, IsSomeAnd, find, option_map}
@@ -89,7 +89,7 @@ policy-other tenants tenant name past far known =
     let good = chain-good tenants past known in
     none-found tenants tenant good.0 name (chain past).entries far (recursion_from_All (IsModest tenants good.0) (chain past).entries good.1.entries)
 
--- ---- what is behind
+-- ---- the trace
 
 none-by : (here own : Bool) (ticket : ℕ) → (here ≡ false) ⊎ (own ≡ false) → cond (here && own) (ticket ∷ []) [] ≡ []
 none-by true true ticket either = absurd (elim (either) [ inl e ↦ (cc) | inr e ↦ (cc) ])
@@ -97,7 +97,7 @@ none-by true false ticket either = refl
 none-by false true ticket either = refl
 none-by false false ticket either = refl
 
--- nobody declared the tenant, or no window has the number
+-- the tenant isn't declared, or no window has the number
 abbrev pub IsOutside : (tenants tenant window : ℕ) → Type 0
 IsOutside tenants tenant window = (tenants ≤ tenant) ⊎ (1024 ≤ window)
 

@@ -10,7 +10,7 @@ use Rattle.replay_run.specs.declared.connection.Connection.{Connection}
 use Rattle.replay_run.specs.declared.stop.Stop.{Stop}
 use Rattle.replay_run.specs.declared.stop.Stop.TheVariants.{Memory, Out, Wire}
 
--- the line at a place, with those in front of it and those behind it
+-- the line at an index, with those before it and those after it
 pub split : (lines : List Line) (index : ℕ) (l : Line) → index < length lines → l ≡ get_or lines index l
     → lines ≡ take index lines ++ l ∷ drop (index + 1) lines
 split lines index l within is =

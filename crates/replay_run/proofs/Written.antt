@@ -13,7 +13,7 @@ use Rattle.replay_run.specs.Kept.{TellsSome}
 use Rattle.replay_run.specs.declared.stop.Stop.{Stop}
 use Rattle.replay_run.proofs.Bytes.{appends-more, appends-nothing, take-behind}
 
--- of some text a front was written, and this is the rest
+-- a prefix of some text was written, and this is the remainder
 pub record TellsRest (first out : Option (List ℕ)) (rest all : List ℕ) : Type 0 where
   pub done : List ℕ
   pub told : Appends first out done
@@ -32,7 +32,7 @@ rest-more first out next one rest all t a = record {
 pub rest-ends : (first out : Option (List ℕ)) (rest all : List ℕ) → rest ≡ [] → TellsRest first out rest all → Appends first out all
 rest-ends first out rest all none t = subst (Appends first out) (sym (append-nil t.done) ∙ ap (λ r. t.done ++ r) (sym none) ∙ t.both) t.told
 
--- a front of the rest was written, too
+-- a prefix of the remainder was written, too
 pub rest-some : (first out next : Option (List ℕ)) (rest all : List ℕ) → TellsRest first out rest all → TellsSome out next rest → TellsSome first next all
 rest-some first out next rest all t some =
     let few : some.0 ≤ length rest = some.1 in
@@ -52,14 +52,14 @@ some-in out next one rest some =
     let long : length (one ++ rest) ≡ length one + length rest = length-append one rest in
     (some.0, omega arith, subst (Appends out next) (sym (take-append-le some.0 one rest few)) some.2)
 
--- ---- lists from a place on
+-- ---- lists from an index on
 
 pub drop-at : {A : Type 0} (xs : List A) (place : ℕ) (x : A) → slice_get xs place ≡ Some x → drop place xs ≡ x ∷ drop (suc place) xs
 drop-at [] place x at = cc
 drop-at (y ∷ xs) zero x at = let same : y ≡ x = cc in ap (λ z. z ∷ xs) same
 drop-at (y ∷ xs) (suc place) x at = drop-at xs place x at
 
--- the one at a place within a list
+-- the element at an index within a list
 pub there : {A : Type 0} (xs : List A) (place : ℕ) → suc place ≤ length xs → (x : A) × (slice_get xs place ≡ Some x)
 there [] place low = absurd (omega arith)
 there (x ∷ xs) zero low = (x, refl)
@@ -75,9 +75,9 @@ pub on-err : {T P : Type 0} (result : Result T Stop) → P → OnErr result P
 on-err (Ok value) p = tt
 on-err (Err stop) p = p
 
--- ---- the lines of happenings from a place on
+-- ---- the lines of events from an index on
 
--- the line of a happening on a connection
+-- the line of an event of a connection
 abbrev pub told_on : Table → ℕ → Happening → List ℕ
 told_on T conn what = audit_line T (on_connection conn what)
 
@@ -90,7 +90,7 @@ pub none-left : (T : Table) (conn : ℕ) (hs : List Happening) (out : Option (Li
 none-left T conn hs out place past =
     subst (λ d. Appends out out (audit T (map (on_connection conn) d))) (sym (drop-past hs place past)) (appends-nothing out)
 
--- ---- the lines of items from a place on
+-- ---- the lines of elements from an index on
 
 module _ {A : Type 0} (line_of : A → List ℕ) (xs : List A) (first out : Option (List ℕ)) (all : List ℕ) where
   pub item-one : (next : Option (List ℕ)) (place after : ℕ) (x : A) (line : List ℕ) → TellsRest first out (flat_map line_of (drop place xs)) all

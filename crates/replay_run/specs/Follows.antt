@@ -1,5 +1,5 @@
--- What follows from a script, line by line: what happens on its connections, by which loads, and where calls stand
--- (this project's own).
+-- What follows from a script, line by line: the events of its connections, the loads of their calls, and the positions
+-- of pending calls (this project's own).
 use Rattle.std.specs.Prelude.{◌≡◌, ℕ, List, [], ◌∷◌, ◌++◌, length, map, reverse, Some, None}
 use Rattle.mrpc_base.specs.Heap.{Race, word_after, stores_of, races_up_to, races_with}
 use Rattle.mrpc_table.specs.declared.call.Call.{Call}
@@ -22,9 +22,9 @@ use Rattle.call_history.specs.declared.happening.Happening.{Happening}
 use Rattle.call_history.specs.declared.happening.Taken.{Taken}
 use Rattle.replay_run.specs.Tickets.{AreInTurn}
 
--- A connection that was opened: its number, the words of its heap, the stores that were made to it so far, each a place
--- and a value, the races that wait for its next submission, in the order in which they are made, what was loaded for
--- its calls so far, and how far its course has come.
+-- An open connection: its number, the size of its heap in words, the stores made to it so far, each a place and a
+-- value, the races queued for its next submission, in the order in which they are made, the loads of its calls so far,
+-- and its state.
 pub record Opened : Type 0 where
   pub conn : ℕ
   pub words : ℕ
@@ -33,8 +33,8 @@ pub record Opened : Type 0 where
   pub loads : Loads
   pub course : Course
 
--- where a script stands between two lines: the connections, in the order in which they were opened, and what happened
--- on all of them
+-- the state of a script between two lines: the connections, in the order in which they were opened, and the events of
+-- all of them
 pub record State : Type 0 where
   pub opened : List Opened
   pub history : History
@@ -42,22 +42,23 @@ pub record State : Type 0 where
 abbrev pub start : State
 start = record { opened = []; history = [] }
 
--- a connection at its beginning
+-- a connection without events
 abbrev pub new_one : (conn words : ℕ) → Opened
 new_one conn words =
     record { conn = conn; words = words; stores = []; races = []; loads = []; course = beginning }
 
--- under which its happenings are judged
+-- the context under which its events are judged
 abbrev pub under : Script → ℕ → Under
 under s conn = record { conn = conn; table = s.table; limit = s.loads }
 
--- ---- what a line makes of its connection
+-- ---- the state of a connection after a line
 
 -- load `number` of a submission, counted from 1, reads the stores before it and the races up to its number
 abbrev pub read_at : List (ℕ × ℕ) → List Race → (number place : ℕ) → ℕ
 read_at stores races number place = word_after (stores ++ stores_of (races_up_to number races)) place
 
--- a submission has the races made, each before the load of its number and those of later numbers behind the last load
+-- a submission makes the queued races, each before the load of its number, and those of larger numbers after the last
+-- load
 abbrev pub submitted : Opened → Loads → Course → Opened
 submitted o own c = record {
   conn = o.conn;
@@ -68,24 +69,24 @@ submitted o own c = record {
   course = c;
 }
 
--- the course of a connection has come to this one, and nothing else has changed
+-- the connection has this state, and is otherwise unchanged
 abbrev pub come_to : Opened → Course → Opened
 come_to o c = record o { course = c }
 
--- a line leads an open connection from one state to the next
+-- a line leads an open connection to its next state
 pub data Does (s : Script) (l : Line) (old new : Opened) : Type 0 where
   stores : (place value : ℕ) → l ≡ line.Store old.conn place value
       → new ≡ record old { stores = old.stores ++ (place, value) ∷ [] } → Does s l old new
-  -- the race waits for the next submission
+  -- the race is queued for the next submission
   races : (load place value : ℕ) → l ≡ line.Race old.conn load place value
       → new ≡ record old { races = races_with old.races (record { load = load; place = place; value = value }) }
       → Does s l old new
-  -- few enough calls stand: the next one is taken by loads of what is stored by then
+  -- few enough calls are pending: the next one is accepted by loads of what is stored by then
   submits : (call : Taken) (own : Loads) (c : Course) → l ≡ line.Submit old.conn call.method call.number call.addr
       → call.after ≡ length old.stores → ReadsBy (read_at old.stores old.races) 1 own
       → IsLoaded s.table old.words s.loads call own
       → Comes (under s old.conn) old.course (accepts call) c → new ≡ submitted old own c → Does s l old new
-  -- as many calls stand as may: nothing is loaded, and the races are made all the same
+  -- too many calls are pending: nothing is loaded, but the races are made
   is_away : (method number addr : ℕ) (c : Course) → l ≡ line.Submit old.conn method number addr
       → Comes (under s old.conn) old.course (turns_away method number addr) c → new ≡ submitted old [] c
       → Does s l old new
@@ -93,7 +94,7 @@ pub data Does (s : Script) (l : Line) (old new : Opened) : Type 0 where
       → Comes (under s old.conn) old.course (operates step) c → new ≡ come_to old c → Does s l old new
   shows_it : (ms : ℕ) (c : Course) → l ≡ line.Moment old.conn ms
       → Comes (under s old.conn) old.course (shows ms) c → new ≡ come_to old c → Does s l old new
-  -- no call stands there
+  -- no call is at the position
   is_idle : (position : ℕ) → l ≡ line.Turn old.conn position → first_at position old.course.row ≡ None → new ≡ old
       → Does s l old new
   has_turn : (position seq : ℕ) (outcome : Outcome) (c : Course) → l ≡ line.Turn old.conn position
@@ -106,13 +107,13 @@ pub data Does (s : Script) (l : Line) (old new : Opened) : Type 0 where
   drains : (c : Course) → l ≡ line.Drain old.conn → Drains (under s old.conn) old.course c → new ≡ come_to old c
       → Does s l old new
 
--- a line that sends may come so far: to its beginning, or behind turns and sendings of a drain
+-- the states in which a line can send: at its start, or after turns and sends of a drain
 pub data GetsTo (s : Script) (l : Line) (old : Opened) (c : Course) : Type 0 where
   by_send : l ≡ line.Send old.conn → c ≡ old.course → GetsTo s l old c
   by_drain : l ≡ line.Drain old.conn → BeginsToDrain (under s old.conn) old.course c → GetsTo s l old c
 
--- A line that sends leads an open connection to the failing of its link: a call is ready, and it is this one, in its
--- form; then all that stand are refused.
+-- A line that sends leads an open connection to the failure of its link: this call is ready, in its form, and then all
+-- pending calls are refused.
 pub record Fails (s : Script) (l : Line) (old : Opened) (tried : Call) (new : Opened) : Type 0 where
   pub at : Course
   pub gets : GetsTo s l old at
@@ -123,12 +124,12 @@ pub record Fails (s : Script) (l : Line) (old : Opened) (tried : Call) (new : Op
   pub refused : Comes (under s old.conn) at fails new.course
   pub same : new ≡ come_to old new.course
 
--- ---- what a line makes of all connections
+-- ---- the state of all connections after a line
 
 abbrev pub on_connection : ℕ → Happening → Happened
 on_connection conn what = record { conn = conn; what = what }
 
--- one connection is another one after a line, and what happened on it stands behind all that happened before
+-- one connection changes to another by a line, and its new events come after all earlier events
 pub record GoesOn (old : State) (one other : Opened) (new : State) : Type 0 where
   pub front : List Opened
   pub back : List Opened
@@ -145,14 +146,14 @@ pub data Step (s : Script) (old : State) (l : Line) (new : State) : Type 0 where
   goes_on : (one other : Opened) → conn_of l ≡ one.conn → Does s l one other → GoesOn old one other new
       → Step s old l new
 
--- the lines lead from a state to another
+-- the lines lead from one state to another
 abbrev pub Leads : Script → State → List Line → State → Type 0
 Leads s old [] new = new ≡ old
 Leads s old (l ∷ lines) new = (next : State) × Step s old l next × Leads s next lines new
 
 -- ---- what follows
 
--- this state follows from the script: its history, its loads, and where its calls stand
+-- this state follows from the script: its history, its loads, and the positions of pending calls
 pub record Follows (s : Script) (end : State) : Type 0 where
   pub leads : Leads s start s.lines end
   pub in_turn : AreInTurn end.history
@@ -171,7 +172,7 @@ pub record LeadsUntil (s : Script) (tried : Call) (end : State) : Type 0 where
   pub fails : Fails s failing one tried other
   pub goes : GoesOn before one other end
 
--- this state follows from the script up to a sending that fails
+-- this state follows from the script up to a send that fails
 pub record FollowsUntil (s : Script) (tried : Call) (end : State) : Type 0 where
   pub until : LeadsUntil s tried end
   pub in_turn : AreInTurn end.history

@@ -34,7 +34,7 @@ use Rattle.replay_run.specs.declared.connection.Connection.{Connection}
 use Rattle.replay_run.specs.declared.stop.Stop.{Stop}
 use Rattle.replay_run.specs.declared.stop.Stop.TheVariants.{Memory, Out, Wire}
 
--- what holds of a run's answer
+-- properties of a run's result
 abbrev pub OnRan : {T : Type 0} → Result T Stop → (Done Breaks NoMemory Untold : Type 0) → Type 0
 OnRan (Ok value) Done Breaks NoMemory Untold = Done
 OnRan (Err Wire) Done Breaks NoMemory Untold = Breaks
@@ -52,7 +52,7 @@ drawn_of quotas tenant window = tickets_of (drawn_in quotas tenant window)
 abbrev pub have_same_tenants : Counters → Counters → Type 0
 have_same_tenants old new = new.tenants ≡ old.tenants
 
--- where the tickets of a tenant's window are told, those were drawn that a course tells on its way, and no others
+-- if the tickets of a tenant's window are known, those drawn between two states were drawn, and no others
 abbrev pub DrawnIn : (tenant window : ℕ) → Course → Course → Option (List ℕ) → Option (List ℕ) → Type 0
 DrawnIn tenant window old new drawn drawn' = IfSome drawn' (λ now. IsSomeAnd drawn (λ earlier.
     (more : List ℕ) × (tickets_behind tenant window new.past ≡ tickets_behind tenant window old.past ++ more)
@@ -65,7 +65,7 @@ pub record DrawsOn (old new : Course) (quotas quotas' : Counters) : Type 0 where
 
 -- ---- a connection
 
--- as definitions see it
+-- the connection as definitions see it
 abbrev pub opened_of : Connection → Opened
 opened_of c = record {
   conn = c.calls.conn;
@@ -103,7 +103,7 @@ pub record IsFresh (T : Table) (limit : ℕ) (c : Connection) : Type 0 where
   pub none : c.calls.happenings ≡ []
   pub sound : IsConnection c.calls
 
--- one connection more, which was just opened
+-- one more connection, which was just opened
 pub record HasOpened (s : Script) (conn words : ℕ) (old new : List Connection) : Type 0 where
   pub one : Connection
   pub more : new ≡ old ++ one ∷ []
@@ -118,13 +118,13 @@ pub record IsReady (s : Script) (c : Connection) : Type 0 where
   pub told : c.told ≡ length c.calls.happenings
   pub sound : IsConnection c.calls
 
--- what a line leaves as it is
+-- what a line leaves unchanged
 pub record Keeps (old new : Connection) : Type 0 where
   pub same : IsSame old.calls new.calls
   pub rests : IsResting new.heap
   pub told : new.told ≡ old.told
 
--- what a line of this kind makes of it
+-- a line of this kind leads from one to the other
 abbrev pub DoesWhere : (Script → Line → Type 0) → Connection → Connection → Type 0
 DoesWhere Is old new = (s : Script) (l : Line) → IsOf s old → Is s l → Does s l (opened_of old) (opened_of new)
 
@@ -146,7 +146,7 @@ pub record IsListed (load place value : ℕ) (old new : Heap) : Type 0 where
 
 -- ---- submissions
 
--- a call was taken from a heap, before the races that are left are made
+-- a call was loaded from a heap, before the remaining races are made
 pub data Submits (ask : Ask) (before after : Calls) (old new : Heap) : Type 0 where
   accepted : (seq : ℕ) → Accepts old.size ask seq (since old.loads new.loads) before after
       → new.loads ≡ old.loads ++ since old.loads new.loads → new.size ≡ old.size
@@ -154,16 +154,16 @@ pub data Submits (ask : Ask) (before after : Calls) (old new : Heap) : Type 0 wh
   turned_away : Steps before (turns_away ask.method ask.number ask.addr) after → new ≡ old
       → Submits ask before after old new
 
--- ---- what a line needs
+-- ---- preconditions of a line
 
--- a step that its chain takes
+-- an operation that its chain accepts
 pub record MayOperate (step : Op) (c : Calls) : Type 0 where
   pub ranges : IfPolicy step IsPolicy
   pub attachments : c.chain.attached + 1 < 2 ^ 32
   pub versions : All (λ e. e.entry.version + 1 < 2 ^ 32) c.chain.engines
   pub free : (refusal : Refusal) → Refuses (chain_of c.chain) step refusal → ⊥
 
--- what a script that was read says of a line when it is reached: its connection can do it
+-- what a script that was read guarantees of a line when it is reached: its connection can run it
 abbrev pub MayDo : Script → Line → Connection → Type 0
 MayDo s (line.Conn conn words) c = ⊥
 MayDo s (line.Store conn place value) c = (1 ≤ place) × (place < c.heap.size)
@@ -184,15 +184,15 @@ MayDo s (line.Drain conn) c = Unit {0}
 abbrev pub KnowsTenants : Counters → Calls → Type 0
 KnowsTenants quotas c = All (λ e. KnowsTenantOf (knows quotas) e.entry.policy) c.chain.engines
 
--- ---- what a line hands over
+-- ---- the frames of a line
 
--- the frames that a course tells on its way were written
+-- the frames of the sends between two states were written
 pub record HandsOn (T : Table) (conn : ℕ) (old new : Course) (wire wire' : Option (List ℕ)) : Type 0 where
   pub more : List (List ℕ)
   pub frames : frames_behind T conn new.past ≡ frames_behind T conn old.past ++ more
   pub told : Appends wire wire' (joined more)
 
--- so were they, and then a front of one more, and not all of it
+-- they were written, and then a proper prefix of one more frame
 pub record BreaksOn (T : Table) (conn : ℕ) (tried : Call) (old new : Course) (wire wire' : Option (List ℕ)) : Type 0 where
   pub more : List (List ℕ)
   pub frames : frames_behind T conn new.past ≡ frames_behind T conn old.past ++ more
@@ -200,10 +200,10 @@ pub record BreaksOn (T : Table) (conn : ℕ) (tried : Call) (old new : Course) (
   pub few : many < length (frame_of T tried)
   pub told : Appends wire wire' (joined more ++ take many (frame_of T tried))
 
--- ---- what a line does on its connection
+-- ---- the effect of a line on its connection
 
--- the line was done on the connection: what followed is what the script says, with the tickets that it drew and the
--- frames that it handed over
+-- the line was run on the connection: the next state is what the script says, with the tickets that it drew and the
+-- frames that it sent
 pub record DoneOn (s : Script) (l : Line) (old new : Connection) (quotas quotas' : Counters)
     (wire wire' : Option (List ℕ)) : Type 0 where
   pub does : Does s l (opened_of old) (opened_of new)
@@ -211,7 +211,7 @@ pub record DoneOn (s : Script) (l : Line) (old new : Connection) (quotas quotas'
   pub draws : DrawsOn (course old.calls) (course new.calls) quotas quotas'
   pub hands : HandsOn s.table old.calls.conn (course old.calls) (course new.calls) wire wire'
 
--- the line was begun, and the frame of the call that was tried could not be written whole
+-- the line was started, and the frame of the tried call could not be written in full
 pub record BrokenOn (s : Script) (l : Line) (old new : Connection) (quotas quotas' : Counters)
     (wire wire' : Option (List ℕ)) : Type 0 where
   pub tried : Call
@@ -220,14 +220,14 @@ pub record BrokenOn (s : Script) (l : Line) (old new : Connection) (quotas quota
   pub draws : DrawsOn (course old.calls) (course new.calls) quotas quotas'
   pub hands : BreaksOn s.table old.calls.conn tried (course old.calls) (course new.calls) wire wire'
 
--- it did nothing, or turns and sendings of a drain
+-- it did nothing, or some turns and sends of a drain
 pub record StoppedOn (s : Script) (l : Line) (old : Connection) (wire wire' : Option (List ℕ)) : Type 0 where
   pub end : Course
   pub begun : (end ≡ course old.calls)
       ⊎ ((l ≡ line.Drain old.calls.conn) × BeginsToDrain (under s old.calls.conn) (course old.calls) end)
   pub hands : HandsOn s.table old.calls.conn (course old.calls) end wire wire'
 
--- a line of this kind was done on the connection, whatever script it is of
+-- a line of this kind was run on the connection, in whichever script
 abbrev pub DoneWhere : (ℕ → Line) → Connection → Connection → Counters → Counters → (wire wire' : Option (List ℕ)) → Type 0
 DoneWhere line_on old new quotas quotas' wire wire' =
     (s : Script) → IsOf s old → DoneOn s (line_on old.calls.conn) old new quotas quotas' wire wire'
@@ -242,23 +242,23 @@ BrokenWhere line_on old new quotas quotas' wire wire' =
 abbrev pub StoppedWhere : (ℕ → Line) → Connection → (wire wire' : Option (List ℕ)) → Type 0
 StoppedWhere line_on old wire wire' = (s : Script) → IsOf s old → StoppedOn s (line_on old.calls.conn) old wire wire'
 
--- ---- the lines of what happens
+-- ---- the audit lines of events
 
--- all that happened is told, and nothing else has changed
+-- all events were written, and nothing else has changed
 pub record IsTold (old new : Connection) : Type 0 where
   pub calls : new.calls ≡ old.calls
   pub heap : new.heap ≡ old.heap
   pub told : new.told ≡ length old.calls.happenings
 
--- the lines of the happenings of a connection that aren't told yet
+-- the lines of a connection's events that weren't written yet
 abbrev pub untold : Table → Connection → List ℕ
 untold T c = audit T (map (on_connection c.calls.conn) (drop c.told c.calls.happenings))
 
--- a front of some text was written
+-- a prefix of some text was written
 abbrev pub TellsSome : Option (List ℕ) → Option (List ℕ) → List ℕ → Type 0
 TellsSome out out' bytes = (many : ℕ) × (many ≤ length bytes) × Appends out out' (take many bytes)
 
--- a line was done on its connection, and all that happened is told
+-- a line was run on its connection, and all events were written
 pub record DoneTold (s : Script) (l : Line) (old new : Connection) (quotas quotas' : Counters)
     (out out' wire wire' : Option (List ℕ)) : Type 0 where
   pub mid : Connection
@@ -267,7 +267,7 @@ pub record DoneTold (s : Script) (l : Line) (old new : Connection) (quotas quota
   pub lines : Appends out out' (untold s.table mid)
   pub sound : IsConnection new.calls
 
--- a frame could not be written, and what had happened before was told
+-- a frame could not be written, and all earlier events were
 pub record BrokenTold (s : Script) (l : Line) (old new : Connection) (quotas quotas' : Counters)
     (out out' wire wire' : Option (List ℕ)) : Type 0 where
   pub mid : Connection
@@ -275,7 +275,7 @@ pub record BrokenTold (s : Script) (l : Line) (old new : Connection) (quotas quo
   pub told : IsTold mid new
   pub lines : Appends out out' (untold s.table mid)
 
--- a run stopped in a line, or in telling what had happened by it
+-- a run stopped in a line, or while writing its events
 pub data StopsAt (s : Script) (l : Line) (old : Connection) (out out' wire wire' : Option (List ℕ)) : Type 0 where
   in_line : StoppedOn s l old wire wire' → out' ≡ out → StopsAt s l old out out' wire wire'
   behind_line : (mid : Connection) (quotas quotas' : Counters) → DoneOn s l old mid quotas quotas' wire wire'
@@ -313,7 +313,7 @@ abbrev pub After : Script → List Line → List Connection → Counters → (ou
 After s lines connections quotas out out' wire wire' =
     (st : State) × Ran s lines st connections quotas out out' wire wire'
 
--- the lines in front of a line were run, and this is where it begins
+-- the lines before a line were run, and it starts in this state
 pub record Before (s : Script) (l : Line) (connections : List Connection) (quotas : Counters)
     (out' wire' : Option (List ℕ)) : Type 0 where
   pub lines : List Line
@@ -324,7 +324,7 @@ pub record Before (s : Script) (l : Line) (connections : List Connection) (quota
   pub wire : Option (List ℕ)
   pub ran : Ran s lines st connections quotas out out' wire wire'
 
--- a sending failed
+-- a send failed
 pub record Broke (s : Script) (connections : List Connection) (quotas : Counters)
     (out out' wire wire' : Option (List ℕ)) : Type 0 where
   pub tried : Call

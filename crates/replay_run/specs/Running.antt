@@ -1,4 +1,4 @@
--- What the run of a script leaves (this project's own).
+-- What the run of a script writes (this project's own).
 use Rattle.std.specs.Prelude.{◌≡◌, ℕ, ◌<◌, ◌≤◌, ◌⊎◌, List, [], ◌∷◌, ◌++◌, length, take, Option}
 use Rattle.std.specs.List.{flat_map}
 use Rattle.std.specs.Io.KnownBytes.{Appends}
@@ -16,23 +16,23 @@ use Rattle.replay_run.specs.Stands.{all_stands}
 abbrev pub joined : List (List ℕ) → List ℕ
 joined frames = flat_map (λ frame. frame) frames
 
--- the text of what happened, and then of the calls that stand
+-- the text of the events, and then of the pending calls
 abbrev pub text : Script → State → List ℕ
 text s end = audit s.table end.history ++ all_stands end.opened
 
--- the frames of the calls that were sent
+-- the frames of the sent calls
 abbrev pub sent : Script → State → List ℕ
 sent s end = joined (frames s.table end.history)
 
--- the whole script was run
+-- the script was run in full
 pub record Replays (s : Script) (out out' wire wire' : Option (List ℕ)) : Type 0 where
   pub end : State
   pub follows : Follows s end
   pub told : Appends out out' (text s end)
   pub handed : Appends wire wire' (sent s end)
 
--- The script was run up to a sending that failed: a front of the call's frame, and not all of it, is behind the frames
--- of the calls that were sent.
+-- The script was run up to a send that failed: the frames of the sent calls were written, and then a proper prefix of
+-- the call's frame.
 pub record Breaks (s : Script) (out out' wire wire' : Option (List ℕ)) : Type 0 where
   pub end : State
   pub tried : Call
@@ -41,13 +41,13 @@ pub record Breaks (s : Script) (out out' wire wire' : Option (List ℕ)) : Type 
   pub handed : (front : List ℕ) × (n : ℕ) × (n < length (frame_of s.table tried))
       × (front ≡ take n (frame_of s.table tried)) × Appends wire wire' (sent s end ++ front)
 
--- ---- runs that end for want of memory, or since the text can't be written
+-- ---- runs that end out of memory, or because the audit can't be written
 
--- a line was begun, and led from a state to another
+-- a line was started, and led from one state to another
 pub data Begins (s : Script) (old : State) (l : Line) (new : State) : Type 0 where
   not_at_all : new ≡ old → Begins s old l new
   whole : Step s old l new → Begins s old l new
-  -- turns and sendings of a drain
+  -- turns and sends of a drain
   partly : (one other : Opened) → l ≡ line.Drain one.conn
       → BeginsToDrain (under s one.conn) one.course other.course → other ≡ come_to one other.course
       → GoesOn old one other new → Begins s old l new
@@ -60,12 +60,12 @@ pub record RunsInto (s : Script) (before end : State) : Type 0 where
   pub leads : Leads s start lines before
   pub begun : (end ≡ before) ⊎ ((l : Line) × (others : List Line) × (behind ≡ l ∷ others) × Begins s before l end)
 
--- what may be written where these lines are left: what happened, and the calls that stand only where none is left
+-- what may be written if these lines remain: the events, and the pending calls only if no line remains
 abbrev pub text_before : Script → List Line → State → List ℕ
 text_before s [] end = text s end
 text_before s (l ∷ lines) end = audit s.table end.history
 
--- a front of a text was written, and in it all of what happened before the last line
+-- a prefix of a text was written that has all events before the last line
 pub record TellsFront (s : Script) (before : State) (all : List ℕ) (out out' : Option (List ℕ)) : Type 0 where
   pub many : ℕ
   pub least : length (audit s.table before.history) ≤ many

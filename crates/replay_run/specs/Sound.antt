@@ -1,4 +1,4 @@
--- What holds of each connection of a script, behind any of its lines (this project's own).
+-- Properties of each connection of a script, after any of its lines (this project's own).
 use Rattle.std.specs.Prelude.{◌≡◌, ℕ, All}
 use Rattle.script_text.specs.declared.script.Script.{Script}
 use Rattle.call_history.specs.Behind.{chain}
@@ -8,8 +8,8 @@ use Rattle.call_history.specs.Loads.{AreSpelled}
 use Rattle.call_history.specs.Rules.{Under, Lets}
 use Rattle.replay_run.specs.Follows.{Opened, under}
 
--- Its course is what happened on it: that is legal, the calls that stand are in its row, at places where they may
--- stand. Its loads are those of its calls, and no others.
+-- Its state is that of its events, which are legal; the pending calls are in its row, at legal positions. Its loads are
+-- those of its calls, and no others.
 pub record IsSoundOn (s : Script) (h : History) (o : Opened) : Type 0 where
   pub past : o.course.past ≡ behind o.conn h
   pub course : IsCourse (under s o.conn) o.course

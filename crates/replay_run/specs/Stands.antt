@@ -1,4 +1,4 @@
--- How the calls that stand are told at the end (this project's own).
+-- The lines of pending calls at the end (this project's own).
 use Rattle.std.specs.Prelude.{ℕ, ◌==◌, List, [], find, option_map, unwrap_or}
 use Rattle.std.specs.List.{flat_map, range_with_len}
 use Rattle.connection_text.specs.Standing.{all_told}
@@ -9,10 +9,10 @@ use Rattle.replay_run.specs.Follows.{Opened}
 abbrev pub stands_on : Opened → List ℕ
 stands_on o = all_told o.conn o.course
 
--- the lines of the connection of a number, if it was opened
+-- the lines of the connection with a number, if it was opened
 abbrev pub stands_at : List Opened → (conn : ℕ) → List ℕ
 stands_at opened conn = unwrap_or (option_map stands_on (find (λ o. o.conn == conn) opened)) []
 
--- those of all connections, by ascending number of the connection
+-- the lines of all connections, by ascending number of the connection
 abbrev pub all_stands : List Opened → List ℕ
 all_stands opened = flat_map (stands_at opened) (range_with_len 1 MAX_CONNECTIONS)

@@ -4,7 +4,7 @@ use Rattle.std.specs.List.{range_with_len}
 use Rattle.call_history.specs.Legal.{History, behind}
 use Rattle.call_history.specs.Tickets.{drawn_by}
 
--- those of a tenant's window that were drawn behind a history, in order
+-- the tickets of a tenant's window that were drawn after a history, in order
 abbrev pub tickets_after : (tenant window : ℕ) → History → History → List ℕ
 tickets_after tenant window before [] = []
 tickets_after tenant window before (x ∷ h) =
@@ -13,7 +13,7 @@ tickets_after tenant window before (x ∷ h) =
 abbrev pub tickets : (tenant window : ℕ) → History → List ℕ
 tickets tenant window h = tickets_after tenant window [] h
 
--- those of each tenant's window are 0, 1, 2 and so on, in order
+-- the tickets of each tenant's window are 0, 1, 2 and so on, in order
 abbrev pub AreInTurn : History → Type 0
 AreInTurn h = (tenant window : ℕ)
     → tickets tenant window h ≡ range_with_len 0 (length (tickets tenant window h))

@@ -1,4 +1,4 @@
-//! The audit lines of what has happened on a connection.
+//! Writes the audit lines of a connection's events.
 
 ghost use Rattle.std.specs.Prelude.{◌≡◌, ◌≢◌, Err, IfErr, OnErr, OnOk};
 ghost use Rattle.std.specs.Io.KnownBytes.{Appends};
@@ -15,7 +15,7 @@ use mrpc_table::{Bytes, Memory, Table};
 use std::alloc::Global;
 use wire_encode::Output;
 
-// Room in which one line after another is made, and for the encoding of the copy that it tells.
+// Reusable buffers for a line and for the encoding of its copy.
 #[derive(Drop)]
 pub(crate) struct LineRoom {
     line: Bytes,
@@ -23,7 +23,7 @@ pub(crate) struct LineRoom {
 }
 
 impl LineRoom {
-    // Room that is still to grow.
+    // Empty buffers, which grow later.
     pub(crate) fn new(alloc: Global) -> Result<LineRoom, Memory> {
         Ok(LineRoom {
             line: Bytes::new(alloc),
@@ -32,8 +32,8 @@ impl LineRoom {
     }
 }
 
-// Writes the lines of what has happened on a connection since its last lines were written, each by a write of its own.
-// Mostly there is nothing to write, behind a line that stores a word.
+// Writes the lines of a connection's events since its last lines were written, one write per line. Returns early if
+// there are none, as after most lines of a script, which store a word.
 #[inline(always)]
 pub(crate) fn tell<K: Sink>(
     room: &mut LineRoom,
@@ -57,7 +57,8 @@ pub(crate) fn tell<K: Sink>(
     tell_some(room, table, connection, out)
 }
 
-// The same, where there is something. A write that fails ends the run, so what was told is counted behind the last one.
+// Like `tell`, if there is an event. A write that fails ends the run, so the count of written events is updated once,
+// at the end.
 #[inline(never)]
 fn tell_some<K: Sink>(
     room: &mut LineRoom,

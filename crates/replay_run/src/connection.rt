@@ -1,4 +1,4 @@
-//! A connection of a run: its calls, and the heap from which they are taken.
+//! A connection of a run: its calls, and the heap from which they are loaded.
 
 ghost use Rattle.std.specs.Prelude.{◌≡◌, ◌≢◌, ◌<◌, ◌≤◌, ◌==◌, IfErr, IfOk, None, OnOk, Some, position};
 ghost use Rattle.mrpc_table.specs.Valid.{IsValid};
@@ -12,19 +12,19 @@ use mrpc_base::{PlainWords, Room, Stores};
 use mrpc_table::Table;
 use std::alloc::Global;
 
-// A heap takes no more stores than this.
+// The limit of stores that a heap accepts.
 const STORE_LIMIT: u64 = 1 << 63;
 
-// What a run keeps of a connection between two lines.
+// The state of a connection between two lines.
 #[derive(Drop)]
 pub(crate) struct Connection<'t> {
     pub calls: Conn<'t>,
     pub heap: PlainWords,
-    // How many of its happenings were written.
+    // The number of its events that were written.
     pub told: usize,
 }
 
-// Opens a connection, with a heap of so many words, whose calls are taken by at most `limit` loads each.
+// Opens a connection with a heap of this many words, whose calls are accepted by at most `limit` loads each.
 pub(crate) fn open(
     alloc: Global,
     table: &Table,
@@ -53,7 +53,7 @@ pub(crate) fn open(
     }
 }
 
-// The place of the connection of a number, where it is open.
+// Returns the index of the connection with a number, if it is open.
 pub(crate) fn place_of(connections: &[Connection<'_>], conn: u32) -> Option<usize>
     ensures { result ≡ position (λ c. c.calls.conn == conn) connections.now }
 {
@@ -62,7 +62,7 @@ pub(crate) fn place_of(connections: &[Connection<'_>], conn: u32) -> Option<usiz
         .position(|connection| connection.calls.number() == conn)
 }
 
-// The place of a connection that is open.
+// Returns the index of an open connection.
 pub(crate) fn open_place(connections: &[Connection<'_>], conn: u32) -> usize
     requires { position (λ c. c.calls.conn == conn) connections.now ≢ None }
     ensures { position (λ c. c.calls.conn == conn) connections.now ≡ Some result }
@@ -73,14 +73,14 @@ pub(crate) fn open_place(connections: &[Connection<'_>], conn: u32) -> usize
     }
 }
 
-// Stores a word. The room for it is made first.
+// Stores a word. Reserves the room for it first.
 pub(crate) fn store(heap: &mut PlainWords, place: u32, value: u64) -> Result<(), Stop>
     requires from_one { 1 ≤ place }
     requires in_heap { place < heap.old.size }
     ensures stored { OnOk result (IsStored place value heap.old heap.new) }
     ensures memory { IfErr result (λ stop. stop ≡ Stop.Memory) }
 {
-    // There is no memory for as many stores as a heap doesn't take.
+    // No machine has memory for that many stores, so the limit counts as out of memory.
     if heap.made() >= STORE_LIMIT || heap.room_stores(1) == Room::Memory {
         return Err(Stop::Memory);
     }
@@ -88,7 +88,7 @@ pub(crate) fn store(heap: &mut PlainWords, place: u32, value: u64) -> Result<(),
     Ok(())
 }
 
-// Lists a store that is made right before a load of the next submission.
+// Queues a store that is made right before a load of the next submission.
 pub(crate) fn race(heap: &mut PlainWords, load: u64, place: u32, value: u64) -> Result<(), Stop>
     requires load_from_one { 1 ≤ load }
     requires from_one { 1 ≤ place }

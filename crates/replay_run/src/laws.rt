@@ -1,4 +1,4 @@
-//! Laws of what follows from scripts. These functions do nothing; their clauses hold.
+//! Laws of what follows from scripts. These functions do nothing; each contract is a law.
 
 ghost use Rattle.std.specs.Prelude.{◌≡◌, ◌++◌, All, List, length, map};
 ghost use Rattle.mrpc_table.specs.declared.call.Call.{Call};
@@ -19,8 +19,8 @@ use call_history::{
 };
 use graph_form::reading_determines_outcome;
 
-/// What follows from a script, whole or up to a sending that fails, is legal. On each connection its loads are those of
-/// its calls, and the calls that stand are at places where they may stand.
+/// What follows from a script, in full or up to a send that fails, is legal. On each connection the loads are those of
+/// its calls, and pending calls are at legal positions.
 pub fn what_follows_is_sound()
     ensures legal { (s : Script) (end : State) → IsScript s → Follows s end → IsLegal s.table s.loads end.history }
     ensures legal_until { (s : Script) (tried : Call) (end : State) → IsScript s → FollowsUntil s tried end
@@ -29,12 +29,12 @@ pub fn what_follows_is_sound()
         → All (IsSoundOn s end.history) end.opened }
     ensures sound_until { (s : Script) (tried : Call) (end : State) → IsScript s → FollowsUntil s tried end
         → All (IsSoundOn s end.history) end.opened }
-    // So is what follows from the lines in front of any other.
+    // The same holds after the lines before any other.
     ensures legal_so_far { (s : Script) (lines others : List Line) (st : State) → IsScript s → s.lines ≡ lines ++ others
         → Leads s start lines st → IsLegal s.table s.loads st.history }
     ensures sound_so_far { (s : Script) (lines others : List Line) (st : State) → IsScript s → s.lines ≡ lines ++ others
         → Leads s start lines st → All (IsSoundOn s st.history) st.opened }
-    // The call whose sending fails may be sent: every entry of its chain lets it pass.
+    // The call whose send fails can be sent: every entry of its chain lets it pass.
     ensures allowed { (s : Script) (tried : Call) (end : State) → IsScript s → (f : FollowsUntil s tried end)
         → IsAllowed (under s f.until.one.conn) f.until.fails.at f.until.fails.seq }
 {
@@ -44,7 +44,8 @@ pub fn what_follows_is_sound()
     drains_settle();
 }
 
-/// Behind a line that drains a connection it is settled: no call is ready, and the first call at each position is held.
+/// After a line that drains a connection, the connection is settled: no call is ready, and the first call at each
+/// position is held.
 pub fn a_drained_connection_is_settled()
     ensures { (s : Script) (old new : Opened) → IsCourse (under s old.conn) old.course → Does s (Drain old.conn) old new
         → IsSettled (under s old.conn) new.course.past (map (λ call. call.1) new.course.row) }
@@ -52,8 +53,8 @@ pub fn a_drained_connection_is_settled()
     drains_settle();
 }
 
-/// A script has one history at most, with its loads and the calls that stand: whole, and up to a sending that fails
-/// behind as many calls that were sent.
+/// A script has at most one history, with its loads and pending calls: in full, and up to a send that fails after a
+/// given number of sends.
 pub fn one_follows()
     ensures whole { (s : Script) (end other : State) → IsScript s → Follows s end → Follows s other → end ≡ other }
     ensures until { (s : Script) (tried instead : Call) (end other : State) → IsScript s → FollowsUntil s tried end

@@ -1,9 +1,10 @@
-//! What follows from a replay script: which history of its connections, which loads, and where their calls stand.
+//! Replay of scripts: the history of a script's connections, the loads of their calls, and the positions of pending
+//! calls.
 //!
-//! `specs/Follows.antt` says what follows, a step a line, `specs/Tickets.antt` which tickets quotas give, and
-//! `specs/Sound.antt` what holds of each connection behind any line. `specs/Running.antt` says what a run of a script
-//! leaves, with `specs/Stands.antt` for the calls that stand. It stands on scripts, on histories, and on the audit
-//! text. The layers above use the laws on what follows.
+//! `specs/Follows.antt` defines what follows from a script, one step per line. `specs/Tickets.antt` defines which
+//! tickets quotas draw, and `specs/Sound.antt` the properties of each connection after any line. `specs/Running.antt`
+//! defines what a run of a script writes, with `specs/Stands.antt` for the pending calls. The crate depends on scripts,
+//! on histories, and on the audit text. The layers above use the laws of what follows.
 #![tactic(auto)]
 
 mod audit_lines;

@@ -1,4 +1,4 @@
-//! The steps of operators, and the clock.
+//! Operations, and the clock.
 
 ghost use Rattle.std.specs.Prelude.{◌≡◌, ◌≢◌, ◌<◌, ℕ, IfErr, IfOk, None, OnOk, Some, length};
 ghost use Rattle.script_text.specs.Lines.{op_in};
@@ -14,7 +14,7 @@ use policy_blocks::NamedPolicy;
 use script_text::{Line, Script};
 use std::alloc::Global;
 
-// Takes the step of an operator's line, which the chain doesn't refuse.
+// Applies the operation of an operator's line, which the chain accepts.
 pub(crate) fn operate_by(
     alloc: Global,
     script: &Script,
@@ -33,7 +33,7 @@ pub(crate) fn operate_by(
     operate(alloc, connection, step)
 }
 
-// The step of an operator's line.
+// The operation of an operator's line.
 fn step_of(alloc: Global, policies: &[NamedPolicy], line: &Line) -> Result<Op, Memory>
     requires { op_in policies.now line.now ≢ None }
     ensures { IfOk result (λ step. op_in policies.now line.now ≡ Some step) }
@@ -53,7 +53,7 @@ fn step_of(alloc: Global, policies: &[NamedPolicy], line: &Line) -> Result<Op, M
     }
 }
 
-// A step that attaches the policy at a place among the declared ones.
+// An operation that attaches the declared policy with an index.
 fn attaching(
     alloc: Global,
     policies: &[NamedPolicy],
@@ -73,7 +73,7 @@ fn attaching(
     })
 }
 
-// A step that puts the policy at a place among the declared ones into the entry of a name.
+// An operation that gives the entry of a name the declared policy with an index.
 fn upgrading(
     alloc: Global,
     policies: &[NamedPolicy],
@@ -91,7 +91,7 @@ fn upgrading(
     })
 }
 
-// Takes a step that the chain doesn't refuse.
+// Applies an operation that the chain accepts.
 fn operate(alloc: Global, connection: &mut Connection<'_>, step: Op) -> Result<(), Stop>
     requires rests { IsResting connection.old.heap }
     requires may { MayOperate step connection.old.calls }
@@ -109,7 +109,7 @@ fn operate(alloc: Global, connection: &mut Connection<'_>, step: Op) -> Result<(
     }
 }
 
-// Shows a connection a moment.
+// Advances a connection's clock to a timestamp.
 pub(crate) fn show(connection: &mut Connection<'_>, ms: u64) -> Result<(), Stop>
     requires rests { IsResting connection.old.heap }
     ensures does { OnOk result (DoesWhere (λ s l. l ≡ Moment connection.old.calls.conn ms)

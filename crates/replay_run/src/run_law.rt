@@ -1,4 +1,4 @@
-//! How a run follows its script. This function does nothing; its clauses hold.
+//! How a run follows its script. This function does nothing; its contract is a law.
 
 ghost use Rattle.std.specs.Prelude.{◌≡◌, ◌≢◌, ◌<◌, ◌≤◌, ◌==◌, ◌^◌, ◌++◌, ◌∷◌, [], ℕ, List, None, Option, Some, false, length, map, position, slice_get, slice_set};
 ghost use Rattle.std.specs.Io.KnownBytes.{Appends};
@@ -16,13 +16,13 @@ ghost use Rattle.replay_run.specs.declared.connection.Connection.{Connection};
 
 use call_history::{connections_are_apart, drains_settle, events_keep, histories_go_on};
 
-// A law for the run's proofs.
+// A law for the proofs of a run.
 pub(crate) fn run_follows()
-    // Nothing was run.
+    // No line was run.
     ensures begins { (s : Script) (quotas : Counters) (out wire : Option (List ℕ))
         → quotas.tenants ≡ length s.declared.tenants → ((tenant window : ℕ) → drawn_in quotas tenant window ≡ 0)
         → After s [] [] quotas out out wire wire }
-    // The run stops at once, or behind its last line.
+    // The run stops at once, or after its last line.
     ensures at_once { (s : Script) (out wire : Option (List ℕ)) → Stops s out out wire wire }
     ensures at_end { (s : Script) (cs : List Connection) (quotas : Counters) (out out' wire wire' : Option (List ℕ))
         → After s s.lines cs quotas out out' wire wire' → (last : Option (List ℕ))
@@ -59,7 +59,7 @@ pub(crate) fn run_follows()
         (out out' wire wire' : Option (List ℕ)) → IsScript s → (b : Before s l cs quotas out wire)
         → conn_of l ≡ c.calls.conn → slice_get cs place ≡ Some c → StopsAt s l c out out' wire wire'
         → Stops s b.out out' b.wire wire' }
-    // The end of a run whose quotas told all their tickets, behind the last line or behind a sending that failed.
+    // The end of a run whose quotas know all their tickets, after the last line or after a send that failed.
     ensures replays { (s : Script) (cs : List Connection) (quotas : Counters)
         (out out' last wire wire' : Option (List ℕ)) → IsScript s → After s s.lines cs quotas out out' wire wire'
         → HaveCounted (length s.declared.tenants) quotas → Appends out' last (all_stands (map opened_of cs))

@@ -1,4 +1,4 @@
-//! A script's lines, one after another.
+//! Runs the lines of a script, one after another.
 
 ghost use Rattle.std.specs.Prelude.{◌≡◌, ◌≢◌, ◌<◌, ◌≤◌, ◌⊎◌, ◌∷◌, ◌++◌, ◌^◌, [], ℕ, Err, IfErr, IsTrue, OnErr, OnOk, length, map};
 ghost use Rattle.std.specs.Io.KnownBytes.{Appends};
@@ -24,11 +24,11 @@ use mrpc_base::{PlainTickets, Sink, Tickets, WINDOWS};
 use script_text::{Line, Script};
 use std::alloc::Global;
 
-// No script has as many lines, since its text has at most 16 MiB.
+// No script has this many lines, since its text has at most 16 MiB.
 const LINE_LIMIT: usize = 1 << 25;
 
-// What a run keeps between two lines: the connections, in the order in which they were opened, the quotas of all, and
-// room for lines of the audit.
+// The state of a run between two lines: the connections, in the order in which they were opened, the quotas of all, and
+// buffers for audit lines.
 #[derive(Drop)]
 struct Run<'t> {
     connections: Vec<Connection<'t>>,
@@ -36,14 +36,14 @@ struct Run<'t> {
     room: LineRoom,
 }
 
-/// Runs a script: writes behind each of its lines those of the audit for what it made happen, the frames of the calls
-/// that are sent, and at the end the calls that stand.
+/// Runs a script. After each line it writes the audit lines of the resulting events, and the frames of the calls that
+/// are sent; at the end it writes the lines of pending calls.
 ///
 /// # Errors
 ///
-/// [`Stop::Wire`] comes where a frame couldn't be written: the calls that stand on its connection are refused, the
-/// lines behind do nothing, and all calls that stand are told. [`Stop::Out`] comes where the audit couldn't be written,
-/// and [`Stop::Memory`] where no memory was found; then nothing more is written.
+/// [`Stop::Wire`] means that a frame couldn't be written. The pending calls of its connection are then refused, later
+/// lines of the script do nothing, and the lines of all pending calls are written. [`Stop::Out`] means that the audit
+/// couldn't be written, and [`Stop::Memory`] means out of memory; nothing more is written after either.
 pub fn run_script<K: Sink, W: Sink>(
     alloc: Global,
     script: &Script,
@@ -58,7 +58,7 @@ pub fn run_script<K: Sink, W: Sink>(
     ensures stopped { (result ≡ Err Stop.Memory) ⊎ (result ≡ Err Stop.Out)
         → Stops script.now (K.written out.old) (K.written out.new) (W.written wire.old) (W.written wire.new) }
     ensures out_cause { HasCause (result ≡ Err Stop.Out) (K.faults out.old) (K.faults out.new) }
-    // Behind a send that failed the audit may fail, or memory be short.
+    // After a send that failed, writing the audit can still fail or run out of memory.
     ensures wire_rose { result ≡ Err Stop.Wire → Rose (W.faults wire.old) (W.faults wire.new) }
     ensures wire_same { OnOk result (W.faults wire.new ≡ W.faults wire.old) }
     ensures wire_never_falls { W.faults wire.old ≤ W.faults wire.new }
@@ -89,7 +89,7 @@ pub fn run_script<K: Sink, W: Sink>(
     }
 }
 
-// Writes the lines of the calls that stand, where all quotas told their tickets.
+// Writes the lines of the pending calls, if all quotas know their tickets.
 fn finish<K: Sink>(alloc: Global, tenants: u32, run: &mut Run<'_>, out: &mut K) -> Result<(), Stop>
     requires tenants { run.old.tickets.tenants ≡ tenants }
     ensures lines { OnOk result (Appends (K.written out.old) (K.written out.new)
@@ -108,8 +108,8 @@ fn finish<K: Sink>(alloc: Global, tenants: u32, run: &mut Run<'_>, out: &mut K) 
     tell_standing(alloc, &run.connections, out)
 }
 
-// Whether the tickets of a tenant were counted in each window. A quota tells how many were drawn by a further draw;
-// none is drawn behind it.
+// Returns true if the tickets of a tenant were counted in each window. A quota reports how many were drawn when it
+// draws one more; no draw follows this.
 fn has_counted(tickets: &mut PlainTickets, tenant: u32) -> bool
     requires { tenant < tickets.old.tenants }
     ensures counted { IsTrue result → HasCounted tickets.old tenant }
@@ -125,7 +125,7 @@ fn has_counted(tickets: &mut PlainTickets, tenant: u32) -> bool
     true
 }
 
-// The lines of a script, in order, up to a sending that fails.
+// Runs the lines of a script in order, up to a send that fails.
 fn run_lines<'t, K: Sink, W: Sink>(
     alloc: Global,
     script: &'t Script,
@@ -158,7 +158,7 @@ fn run_lines<'t, K: Sink, W: Sink>(
     Ok(())
 }
 
-// A line of a script.
+// Runs a line of a script.
 fn run_line<'t, K: Sink, W: Sink>(
     alloc: Global,
     script: &'t Script,
@@ -202,7 +202,7 @@ fn run_line<'t, K: Sink, W: Sink>(
     )
 }
 
-// Opens a connection of a script. (By itself, since a connection takes many bytes of a function's own memory.)
+// Opens a connection of a script. (A function of its own, since a connection takes many bytes of stack.)
 #[inline(never)]
 fn open_one<'t>(
     alloc: Global,
@@ -222,7 +222,7 @@ fn open_one<'t>(
     Ok(())
 }
 
-// The number of the connection of a line.
+// The number of a line's connection.
 fn conn_of(line: &Line) -> u32
     ensures { result ≡ conn_of line.now }
 {
@@ -241,7 +241,7 @@ fn conn_of(line: &Line) -> u32
     }
 }
 
-// A line of an open connection, and the audit lines of what happens by it.
+// Runs a line of an open connection, and writes the audit lines of its events.
 fn run_at<K: Sink, W: Sink>(
     alloc: Global,
     script: &Script,
@@ -285,7 +285,7 @@ fn run_at<K: Sink, W: Sink>(
     }
 }
 
-// A line of an open connection.
+// Runs a line of an open connection.
 fn run_on<W: Sink>(
     alloc: Global,
     script: &Script,

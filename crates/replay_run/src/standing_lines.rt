@@ -1,4 +1,4 @@
-//! The lines of the calls that stand at the end.
+//! Writes the lines of pending calls at the end.
 
 ghost use Rattle.std.specs.Prelude.{◌≡◌, ◌≢◌, ◌<◌, ℕ, Err, IfOk, OnErr, OnOk, Some, length, map, slice_get};
 ghost use Rattle.conn_core.specs.Connections.{course};
@@ -18,7 +18,7 @@ use mrpc_table::{Bytes, Memory};
 use script_text::MAX_CONNECTIONS;
 use std::alloc::Global;
 
-// Writes the lines of all calls that stand, by connection and number.
+// Writes the lines of all pending calls, by connection and number.
 pub(crate) fn tell_standing<K: Sink>(
     alloc: Global,
     connections: &[Connection<'_>],
@@ -39,7 +39,7 @@ pub(crate) fn tell_standing<K: Sink>(
     Ok(())
 }
 
-// Writes those of a connection.
+// Writes the lines of a connection's pending calls.
 fn tell_on<K: Sink>(alloc: Global, connection: &Connection<'_>, out: &mut K) -> Result<(), Stop>
     ensures lines { OnOk result (Appends (K.written out.old) (K.written out.new)
         (stands_on (opened_of connection.now))) }
@@ -57,7 +57,7 @@ fn tell_on<K: Sink>(alloc: Global, connection: &Connection<'_>, out: &mut K) -> 
     Ok(())
 }
 
-// The line of the call at a place, by ascending number, from 0.
+// The line of the pending call at an index, counted from 0 by ascending number.
 fn line_of(alloc: Global, calls: &Conn<'_>, place: u32) -> Result<Bytes, Memory>
     requires { place < length calls.now.chain.row }
     ensures { (call : ℕ × ℕ) → slice_get calls.now.chain.row place ≡ Some call

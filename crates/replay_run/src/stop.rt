@@ -5,14 +5,14 @@ ghost use Rattle.std.specs.Prelude.{◌≡◌};
 use mrpc_table::Memory;
 use std::alloc::AllocFailed;
 
-/// Why a run stops before its end.
+/// Why a run ends before the last line of its script.
 #[derive(Clone, Copy)]
 pub enum Stop {
-    /// No memory was found.
+    /// Out of memory.
     Memory,
-    /// A write of the audit failed.
+    /// The audit couldn't be written.
     Out,
-    /// A write of the frames failed.
+    /// A frame couldn't be written.
     Wire,
 }
 

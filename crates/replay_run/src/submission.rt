@@ -1,4 +1,4 @@
-//! The submission of a call.
+//! Submissions.
 
 ghost use Rattle.std.specs.Prelude.{◌≡◌, ◌+◌, ◌<◌, ◌≤◌, ◌^◌, IfErr, OnOk, length};
 ghost use Rattle.mrpc_table.specs.declared.limits.TheConstants.{MAX_HEAP, MIN_HEAP};
@@ -14,8 +14,7 @@ use engine_core::MAX_CALLS;
 use mrpc_base::{PlainWords, Stores};
 use std::alloc::Global;
 
-// Submits a call: it is accepted, or turned away where as many calls stand as may. Then the races that are left are
-// made.
+// Submits a call. It is accepted, or rejected if too many calls are pending. Then the remaining races are made.
 pub(crate) fn submit(
     alloc: Global,
     connection: &mut Connection<'_>,
@@ -41,7 +40,7 @@ pub(crate) fn submit(
     Ok(())
 }
 
-// Takes the call of a submission, before the races that are left are made.
+// Accepts or rejects the call of a submission, before the remaining races are made.
 fn take(alloc: Global, calls: &mut Conn<'_>, heap: &mut PlainWords, ask: Ask) -> Result<(), Stop>
     requires least_heap { MIN_HEAP ≤ heap.old.size }
     requires greatest_heap { heap.old.size ≤ MAX_HEAP }

@@ -1,4 +1,4 @@
-//! Turns of engines, and sendings.
+//! Turns of engines, and sends.
 
 ghost use Rattle.std.specs.Prelude.{◌≡◌, ◌<◌, ℕ, Err, List, Option, length};
 ghost use Rattle.mrpc_base.specs.Quota.{Counters};
@@ -12,7 +12,7 @@ use conn_core::{Drained, Sending};
 use frame_transport::ByteLink;
 use mrpc_base::{PlainTickets, Sink};
 
-// The engine at a position has a turn with the first call there, if there is one.
+// Gives the engine at a position a turn with the first call there, if there is one.
 pub(crate) fn turn(connection: &mut Connection<'_>, at: u32, tickets: &mut PlainTickets)
     requires at { at < length connection.old.calls.chain.engines }
     requires known { KnowsTenants tickets.old connection.old.calls }
@@ -24,7 +24,7 @@ pub(crate) fn turn(connection: &mut Connection<'_>, at: u32, tickets: &mut Plain
     connection.calls.turn(at, tickets);
 }
 
-// The first call that is ready is sent, if there is one.
+// Sends the first ready call, if there is one.
 pub(crate) fn send<W: Sink>(connection: &mut Connection<'_>, wire: &mut W) -> Result<(), Stop>
     requires rests { IsResting connection.old.heap }
     ensures ran { (tickets : Counters) → OnRan result
@@ -43,7 +43,7 @@ pub(crate) fn send<W: Sink>(connection: &mut Connection<'_>, wire: &mut W) -> Re
     }
 }
 
-// Calls go on and are sent, as far as they get.
+// Runs turns and sends until no call advances.
 pub(crate) fn drain<W: Sink>(
     connection: &mut Connection<'_>,
     tickets: &mut PlainTickets,

@@ -1,4 +1,4 @@
--- A step among those that change a chain.
+-- One of several operations that change a chain.
 use Rattle.std.proofs.Common.{◌≡◌, List, [], ◌∷◌, ◌++◌, map, Option, Some, refl}
 use Rattle.engine_core.specs.Chains.{Chain, Changes}
 use Rattle.engine_core.specs.declared.op.Op.{Op}

@@ -1,4 +1,4 @@
--- Connections in pairs.
+-- Linked connections.
 use Rattle.std.proofs.Common.{◌≡◌, ◌≢◌, ◌⊎◌, ℕ, zero, suc, List, [], ◌∷◌, Contains, Some, inl, inr, refl, sym, ◌∙◌, subst, arith}
 use Rattle.std.proofs.lemmas.Bool.Decides.{nat_tests}
 use Rattle.std.proofs.lemmas.Grind.{common_steps}
@@ -6,7 +6,7 @@ use Rattle.mrpc_table.specs.Valid.{AreDistinct}
 use Rattle.run_plan.specs.Ports.{all_ends, peer_in}
 use Rattle.run_plan.specs.declared.plan.Pair.{Pair}
 
--- the two ends of a link are ends of all
+-- both ends of a link are among all ends
 first_end : (l : Pair) (ls : List Pair) → Contains (all_ends (l ∷ ls)) l.a
 first_end l ls = (0, omega arith, refl)
 
@@ -16,14 +16,14 @@ second_end l ls = (1, omega arith, refl)
 later_end : (l : Pair) (ls : List Pair) (n : ℕ) → Contains (all_ends ls) n → Contains (all_ends (l ∷ ls)) n
 later_end l ls n (k, within, same) = (suc (suc k), omega (arith, within), same)
 
--- an end of all is one of the first link, or of the others
+-- each of all ends is an end of the first link or of a later one
 which : (l : Pair) (ls : List Pair) (n : ℕ) → Contains (all_ends (l ∷ ls)) n
     → (l.a ≡ n) ⊎ ((l.b ≡ n) ⊎ Contains (all_ends ls) n)
 which l ls n (zero, within, same) = inl same
 which l ls n (suc zero, within, same) = inr (inl same)
 which l ls n (suc (suc k), within, same) = inr (inr (k, omega (arith, within), same))
 
--- the peer by the first link, and by the others
+-- the peer by the first link, and by a later one
 at_a : (l : Pair) (ls : List Pair) → peer_in (l ∷ ls) l.a ≡ Some l.b
 at_a l ls = grind (arith, common_steps, nat_tests)
 
@@ -33,7 +33,7 @@ at_b l ls apart = grind (arith, common_steps, nat_tests)
 behind : (l : Pair) (ls : List Pair) (n : ℕ) → l.a ≢ n → l.b ≢ n → peer_in (l ∷ ls) n ≡ peer_in ls n
 behind l ls n a b = grind (arith, common_steps, nat_tests)
 
--- what it is to talk to each other
+-- two connections are peers of each other
 pub record Talk (links : List Pair) (conn peer : ℕ) : Type 0 where
   pub there : peer_in links conn ≡ Some peer
   pub back : peer_in links peer ≡ Some conn

@@ -1,4 +1,4 @@
--- The definitions on a plan that was worked out by hand: a client on connection 1, and an echo on connection 2.
+-- The definitions on a plan worked out by hand: a client on connection 1, and an echo on connection 2.
 use Rattle.std.proofs.Common.{◌≡◌, ℕ, zero, suc, All, Contains, lit≤, lit<, ◌⊎◌, List, [], ◌∷◌, false, codes, Some, None, refl, inl, arith}
 use Rattle.std.proofs.lemmas.List.Elements.{All-nil, All-cons}
 use Rattle.mrpc_table.specs.Names.{IsName}
@@ -77,7 +77,7 @@ plan T = record {
   operators = [];
 }
 
--- ---- what it promises
+-- ---- what the plan guarantees
 
 first_peer : (T : Table) → peer_in (plan T).links 1 ≡ Some 2
 first_peer T = refl

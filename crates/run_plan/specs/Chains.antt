@@ -1,4 +1,4 @@
--- The steps that come to the chain of a connection, and the policies that they name (this project's own).
+-- The operations that each connection's chain gets, and the policies that they name (this project's own).
 use Rattle.std.specs.Prelude.{◌≡◌, ℕ, ◌+◌, ◌==◌, List, [], ◌∷◌, ◌++◌, map, Option, Some, None, option_map, option_and_then, slice_get, unwrap_or}
 use Rattle.std.specs.List.{find}
 use Rattle.mrpc_table.specs.declared.table.Table.{Table}
@@ -20,13 +20,13 @@ use Rattle.run_plan.specs.declared.operator.StepLine.{StepLine}
 use Rattle.run_plan.specs.declared.operator.StepLine.TheVariants as line
 use Rattle.run_plan.specs.declared.plan.Plan.{Plan}
 
--- ---- policies by their places
+-- ---- policies by index
 
 -- the name under which a policy is declared
 abbrev pub label_at : List NamedPolicy → ℕ → Option (List ℕ)
 label_at policies place = option_map (λ p. p.name) (slice_get policies place)
 
--- a policy as it was read under the plan's table, and under a table of an application's own
+-- a policy as read under the plan's table, and under the table of an application's own schema
 abbrev pub policy_at : List NamedPolicy → ℕ → Option Policy
 policy_at policies place = option_map (λ p. p.policy) (slice_get policies place)
 
@@ -44,7 +44,7 @@ table_by shared (Some own) = own.table
 abbrev pub table_of : Plan → Application → Table
 table_of plan app = table_by plan.table app.own
 
--- a policy of the plan, as it judges on an application's connection
+-- a policy of the plan as it judges on an application's connection
 abbrev pub policy_by : List NamedPolicy → Option OwnSchema → ℕ → Option Policy
 policy_by shared None place = policy_at shared place
 policy_by shared (Some own) place = own_policy_at own.policies place
@@ -52,24 +52,24 @@ policy_by shared (Some own) place = own_policy_at own.policies place
 abbrev pub policy_of : Plan → Application → ℕ → Option Policy
 policy_of plan app place = policy_by plan.declared.policies app.own place
 
--- an access policy; none where a policy is of another kind
+-- an access policy; none for a policy of another kind
 abbrev pub access_in : Option Policy → Option AccessPolicy
 access_in (Some (policy.Access p)) = Some p
 access_in _ = None
 
--- the access policy that judges what an application is delivered
+-- the access policy that judges messages delivered to the application
 abbrev pub inbound_of : Plan → Application → Option AccessPolicy
 inbound_of plan app = option_and_then (λ place. access_in (policy_of plan app place)) app.inbound
 
 -- ---- policies under tables
 
--- a policy was read under the table, if it depends on one
+-- the policy was read under the table, if its kind depends on one
 abbrev pub IsReadUnder : Table → Policy → Type 0
 IsReadUnder T (policy.Access p) = (lines : List (List ℕ)) × access.IsTextOf T lines p
 IsReadUnder T (policy.Redact p) = (lines : List (List ℕ)) × redact.IsTextOf T lines p
 IsReadUnder T _ = Unit {0}
 
--- two policies say the same, each under its table: they have the same lines, if they have any
+-- two policies mean the same, each under its table: they have the same lines, or are equal if they have none
 abbrev pub SaysTheSame : (T : Table) → Policy → (U : Table) → Policy → Type 0
 SaysTheSame T (policy.Access p) U (policy.Access q) =
     (lines : List (List ℕ)) × access.IsTextOf T lines p × access.IsTextOf U lines q
@@ -79,7 +79,7 @@ SaysTheSame T p U q = p ≡ q
 
 -- ---- steps
 
--- the step that a line stands for, on the connection of an application; none where it names no policy that is there
+-- the operation that a line means on the connection of an application; none if it names no declared policy
 abbrev pub with_policy : (List ℕ → Policy → Op) → Option (List ℕ) → Option Policy → Option Op
 with_policy f (Some label) (Some policy) = Some (f label policy)
 with_policy f _ _ = None
@@ -91,7 +91,7 @@ op_of plan app (line.Detach name) = Some (op.Detach name)
 op_of plan app (line.Upgrade name place) =
     with_policy (op.Upgrade name) (label_at plan.declared.policies place) (policy_of plan app place)
 
--- the attachment at a place of the chain with which an application's connection begins
+-- the operation that attaches the policy at a position of the application's initial chain
 abbrev pub attaching : ℕ → List ℕ → Policy → Op
 attaching at label policy = op.Attach at label label policy
 
@@ -100,13 +100,13 @@ attachment_of plan app at =
     option_and_then (λ place. with_policy (attaching at) (label_at plan.declared.policies place) (policy_of plan app place))
     (slice_get app.chain at)
 
--- attachments in order from a place of the chain on, each under its own name
+-- attachments in order from a position of the chain, each under the name that its policy is declared by
 abbrev pub chained : List NamedPolicy → ℕ → List ℕ → List StepLine
 chained policies at [] = []
 chained policies at (place ∷ places) =
     line.Attach at (unwrap_or (label_at policies place) []) place ∷ chained policies (at + 1) places
 
--- the steps of operators on a connection
+-- the steps of operators for a connection
 abbrev pub steps_in : Option Operator → List Step
 steps_in None = []
 steps_in (Some operator) = operator.steps
@@ -117,7 +117,7 @@ operator_in operators conn = find (λ operator. operator.conn == conn) operators
 abbrev pub steps_on : List Operator → ℕ → List Step
 steps_on operators conn = steps_in (operator_in operators conn)
 
--- all that comes to the chain of an application's connection, in order: its own attachments, and then the steps
+-- all lines for the chain of an application's connection, in order: its initial attachments, then the steps
 abbrev pub lines_on : Plan → Application → List StepLine
 lines_on plan app =
     chained plan.declared.policies 0 app.chain ++ map (λ step. step.line) (steps_on plan.operators app.conn)
@@ -127,12 +127,12 @@ lines_on plan app =
 abbrev pub empty_chain : Chain
 empty_chain = record { entries = []; attached = 0 }
 
--- the steps change the chain, one after another, and none is refused
+-- the operations change the chain one after another, and none is refused
 abbrev pub Changing : Chain → List Op → Chain → Type 0
 Changing before [] after = after ≡ before
 Changing before (op ∷ ops) after = (next : Chain) × Changes before op next × Changing next ops after
 
--- the lines stand for steps of which the chain refuses none
+-- the lines mean operations of which the chain refuses none
 pub record NeverRefuses (plan : Plan) (app : Application) (lines : List StepLine) : Type 0 where
   pub ops : List Op
   pub stand_for : map (op_of plan app) lines ≡ map Some ops

@@ -1,4 +1,4 @@
--- What a plan promises to those who run it (this project's own).
+-- What a plan guarantees (this project's own).
 use Rattle.std.specs.Prelude.{◌≡◌, ℕ, ◌*◌, ◌<◌, ◌≤◌, List, length, map, sum, All, Contains, Some, IfSome, slice_get}
 use Rattle.mrpc_table.specs.Lines.{IsIn}
 use Rattle.mrpc_table.specs.Names.{IsName, IsFullName}
@@ -27,29 +27,30 @@ use Rattle.run_plan.specs.declared.plan.Plan.{Plan}
 
 -- ---- programs
 
--- the program of a role is one of its kind, for a heap of so many words
+-- the program suits its role and a heap of this many words
 abbrev pub HasProgram : ℕ → Role → Type 0
 HasProgram words (role.Client program) = IsClientProgram words program
 HasProgram words (role.Server program) = IsServerProgram words program
 HasProgram words role.Echo = Unit {0}
 
--- how many calls a client submits
+-- the number of calls that a client submits
 abbrev pub submissions : Role → ℕ
 submissions (role.Client program) = length (submits_of 0 program)
 submissions _ = 0
 
--- each call of a client counts twice, for its reply, with as many loads as a call has at most
+-- the loads of all calls: each call of a client counts twice, for its reply, with the maximum loads of one call
 abbrev pub work : ℕ → List Application → ℕ
 work loads apps = 2 * sum (map (λ app. submissions app.role) apps) * loads
 
 -- ---- policies
 
--- the window of a quota is that of its tenant
+-- the window of a quota is its tenant's
 abbrev pub HasWindow : List Tenant → Policy → Type 0
 HasWindow tenants (Quota tenant per cap) = (t : Tenant) × (slice_get tenants tenant ≡ Some t) × (per ≡ t.per)
 HasWindow tenants _ = Unit {0}
 
--- a policy of an application's own was read under its table, and says what the plan's policy at the place says
+-- a policy of an application's own schema was read under that schema's table, and means the same as the plan's policy
+-- at its index
 pub record IsOwnPolicy (shared : Table) (policies : List NamedPolicy) (own : Table) (p : OwnPolicy) : Type 0 where
   pub there : Policy
   pub found : policy_at policies p.place ≡ Some there
@@ -60,7 +61,7 @@ pub record IsOwnSchema (plan : Plan) (own : OwnSchema) : Type 0 where
   pub places : Ascends (λ p q. p.place < q.place) own.policies
   pub policies : All (IsOwnPolicy plan.table plan.declared.policies own.table) own.policies
 
--- the place names an access policy, as it judges on an application's connection
+-- the index is that of an access policy, as it judges on an application's connection
 pub record IsInbound (plan : Plan) (app : Application) (place : ℕ) : Type 0 where
   pub there : Policy
   pub found : policy_of plan app place ≡ Some there

@@ -10,7 +10,7 @@ use Rattle.run_plan.specs.declared.application.Role.TheVariants as role
 use Rattle.run_plan.specs.declared.limits.TheConstants.{MAX_CONNECTIONS, MAX_RING, MAX_WEIGHT}
 use Rattle.run_plan.specs.declared.plan.Pair.{Pair}
 
--- the numbers of an application's connection are in their ranges
+-- the numbers of an application's connection are in range
 pub record IsPort (app : Application) : Type 0 where
   pub conn : IsIn 1 MAX_CONNECTIONS app.conn
   pub heap : IsIn MIN_HEAP MAX_HEAP app.heap
@@ -29,28 +29,28 @@ abbrev pub IsClient : Role → Type 0
 IsClient (role.Client program) = Unit {0}
 IsClient _ = ⊥
 
--- a client is on the connection
+-- the application on the connection is a client
 pub record HasClient (apps : List Application) (conn : ℕ) : Type 0 where
   pub app : Application
   pub there : Contains apps app
   pub on : app.conn ≡ conn
   pub client : IsClient app.role
 
--- both ends of a link, and of some links
+-- both ends of one link, and of a list of links
 abbrev pub ends_of : Pair → List ℕ
 ends_of link = link.a ∷ link.b ∷ []
 
 abbrev pub all_ends : List Pair → List ℕ
 all_ends links = flat_map ends_of links
 
--- connections stand in pairs: each in one link alone, which has a client at one of its ends
+-- each connection is in exactly one link, which has a client at one of its ends
 pub record ArePaired (apps : List Application) (links : List Pair) : Type 0 where
   pub distinct : AreDistinct (all_ends links)
   pub known : All (λ conn. Contains (connections_of apps) conn) (all_ends links)
   pub each : All (λ conn. Contains (all_ends links) conn) (connections_of apps)
   pub clients : All (λ link. HasClient apps link.a ⊎ HasClient apps link.b) links
 
--- a connection is at one of the ends
+-- the connection is one of the ends
 abbrev pub is_end : ℕ → Pair → Bool
 is_end conn link = (link.a == conn) || (link.b == conn)
 
@@ -62,6 +62,6 @@ link_in links conn = find (is_end conn) links
 abbrev pub other_end : ℕ → Pair → ℕ
 other_end conn link = if link.a == conn then link.b else link.a
 
--- the connection to which another one talks
+-- the connection at the other end of the link
 abbrev pub peer_in : List Pair → ℕ → Option ℕ
 peer_in links conn = option_map (other_end conn) (link_in links conn)

@@ -1,4 +1,4 @@
-//! An application of a run, and what its connection has.
+//! The applications of a run and what belongs to their connections.
 
 ghost use Rattle.std.specs.Prelude.{◌≡◌};
 ghost use Rattle.std.specs.Option.{option_copied};
@@ -10,15 +10,15 @@ use mrpc_table::{Sequence, Table};
 
 /// What an application does.
 pub enum Role {
-    /// The lines of its program, once.
+    /// Runs the lines of its program, once.
     Client(Program),
-    /// The lines of its program for each request that it is delivered.
+    /// Runs the lines of its program for each request delivered to it.
     Server(Program),
-    /// A reply to each request with the request's own message.
+    /// Replies to each request with the request's own message.
     Echo,
 }
 
-// By hand, so that a drop is one call where it is needed, and not a drop of each part.
+// Written by hand so that a drop is one call, not a drop of each field.
 impl Drop for Role {
     fn drop(self) {
         match self {
@@ -29,13 +29,13 @@ impl Drop for Role {
     }
 }
 
-/// A policy of the plan, by its place, as it was read under the table of an application.
+/// A policy of the plan, by its index, as read under the table of an application.
 pub struct OwnPolicy {
     pub place: usize,
     pub policy: Policy,
 }
 
-// By hand, so that a drop is one call where it is needed, and not a drop of each part.
+// Written by hand so that a drop is one call, not a drop of each field.
 impl Drop for OwnPolicy {
     fn drop(self) {
         let OwnPolicy {
@@ -45,14 +45,14 @@ impl Drop for OwnPolicy {
     }
 }
 
-/// What an application has that binds by a schema of its own.
+/// The schema of an application that doesn't bind by the plan's schema.
 pub struct OwnSchema {
     pub table: Table,
-    /// The policies that its connection uses.
+    /// The policies that its connection uses, each as read under `table`.
     pub policies: Sequence<OwnPolicy>,
 }
 
-// By hand, so that a drop is one call where it is needed, and not a drop of each part.
+// Written by hand so that a drop is one call, not a drop of each field.
 impl Drop for OwnSchema {
     fn drop(self) {
         let OwnSchema {
@@ -62,28 +62,28 @@ impl Drop for OwnSchema {
     }
 }
 
-/// An application, and what its connection has. Policies are named by their places among those of the plan, from 0.
+/// An application and its connection. Policies are given by their index among those of the plan, from 0.
 pub struct Application {
     /// The number of its connection, 1 to 16.
     pub conn: u32,
     pub role: Role,
-    /// The words of its heap, 4 to 65536.
+    /// The size of its heap in words, 4 to 65536.
     pub heap: u64,
-    /// The words of the heap where its messages are delivered, 4 to 65536.
+    /// The size of the heap for messages delivered to it, in words, 4 to 65536.
     pub receive: u64,
-    /// How many items its rings hold, 1 to 1024.
+    /// The capacity of its rings in items, 1 to 1024.
     pub ring: u64,
-    /// How much it counts among connections that are ready, 1 to 100.
+    /// Its weight in the order of ready connections, 1 to 100.
     pub weight: u64,
-    /// The policies that are attached before its first call, in order, each under its own name.
+    /// The policies attached before its first call, in order, each under the name it is declared by.
     pub chain: Sequence<usize>,
-    /// The access policy that judges what it is delivered, if there is one.
+    /// The access policy that judges messages delivered to it, if any.
     pub inbound: Option<usize>,
-    /// Its own schema; none where it binds by the plan's.
+    /// Its own schema; `None` if it binds by the plan's.
     pub own: Option<OwnSchema>,
 }
 
-// By hand, so that a drop is one call where it is needed, and not a drop of each part.
+// Written by hand so that a drop is one call, not a drop of each field.
 impl Drop for Application {
     fn drop(self) {
         let Application {
@@ -101,7 +101,7 @@ impl Drop for Application {
 }
 
 impl OwnSchema {
-    /// The policy at a place of the plan's; none where the connection doesn't use it.
+    /// The policy with an index among the plan's; `None` if the connection doesn't use it.
     pub fn policy(&self, place: usize) -> Option<&OwnPolicy>
         ensures { option_copied result ≡ own_policy_in self.now.policies place }
     {

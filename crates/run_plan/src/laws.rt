@@ -1,4 +1,4 @@
-//! Laws of plans. These functions do nothing; their clauses hold.
+//! Laws of plans. These functions do nothing; their contracts are the laws.
 
 ghost use Rattle.std.specs.Prelude.{◌≡◌, ◌≢◌, ◌∷◌, ◌++◌, ℕ, List, Some, Contains, map};
 ghost use Rattle.engine_core.specs.Chains.{Chain, Changes};
@@ -10,7 +10,8 @@ ghost use Rattle.run_plan.specs.declared.application.Application.{Application};
 ghost use Rattle.run_plan.specs.declared.operator.StepLine.{StepLine};
 ghost use Rattle.run_plan.specs.declared.plan.Plan.{Plan};
 
-/// Each step that comes to a connection's chain stands for one, and changes what the steps before it made.
+/// Each line for a connection's chain resolves to an operation, which changes the chain that the lines before it
+/// made.
 pub fn chains_never_refuse()
     ensures { (plan : Plan) (app : Application) (front back : List StepLine) (line : StepLine) → IsPlan plan
         → Contains plan.applications app → lines_on plan app ≡ front ++ line ∷ back
@@ -18,7 +19,7 @@ pub fn chains_never_refuse()
         × (op_of plan app line ≡ Some op) × Changing empty_chain ops before × Changes before op after }
 {}
 
-/// Each connection of a plan talks to another one, which talks to it.
+/// Each connection of a plan has a peer, which has this connection as its peer.
 pub fn peers_are_mutual()
     ensures { (plan : Plan) (conn : ℕ) → IsPlan plan → Contains (connections_of plan.applications) conn
         → (peer : ℕ) × (peer_in plan.links conn ≡ Some peer) × (peer_in plan.links peer ≡ Some conn)

@@ -1,10 +1,13 @@
-//! What a run is told, as a plan: tenants, policies, applications, links between them, and the steps of operators.
+//! The plan of a run: tenants, policies, applications, links between them, and operations of operators.
 //!
-//! A [`Plan`] is plain data. `specs/Plans.antt` says in one record, `IsPlan`, what a plan promises to those who run it:
-//! connections stand in pairs with a client in each, chains refuse no step, programs are within their limits and for
-//! their heaps, tables are valid, and each policy was read under every table that it judges by. So nothing of this is
-//! asked again by a run. `specs/Chains.antt` says which steps come to a connection's chain. It stands on `mrpc_table`,
-//! `policy_access`, `policy_redact`, `engine_core`, `policy_blocks` and `app_program`.
+//! A [`Plan`] is plain data. The record `IsPlan` of `specs/Plans.antt` states what each valid plan guarantees:
+//! - Each connection is in one link, and each link has a client at one end.
+//! - No chain refuses an operation.
+//! - Programs are within their limits and fit their heaps.
+//! - Tables are valid, and each policy was read under every table by which it judges.
+//!
+//! A run checks none of this again. `specs/Chains.antt` defines which operations each chain gets. The crate depends
+//! on `mrpc_table`, `policy_access`, `policy_redact`, `engine_core`, `policy_blocks` and `app_program`.
 #![tactic(auto)]
 
 mod application;

@@ -2,17 +2,17 @@
 
 use mrpc_table::{Name, Sequence};
 
-/// What a step does to a chain. Policies are named by their places among those of the plan, from 0.
+/// What a step does to a chain. Policies are given by their index among those of the plan, from 0.
 pub enum StepLine {
-    /// Attaches a policy at a place of the chain, from 0, under a name.
+    /// Attaches a policy at a position of the chain, from 0, under a name.
     Attach { at: u32, name: Name, policy: usize },
-    /// Takes the entry of a name from the chain.
+    /// Removes the entry with a name from the chain.
     Detach { name: Name },
-    /// Puts another policy of its kind into the entry of a name.
+    /// Replaces the policy of the entry with a name by another one of the same kind.
     Upgrade { name: Name, policy: usize },
 }
 
-// By hand, so that a drop is one call where it is needed, and not a drop of each part.
+// Written by hand so that a drop is one call, not a drop of each field.
 impl Drop for StepLine {
     fn drop(self) {
         match self {
@@ -30,13 +30,13 @@ impl Drop for StepLine {
     }
 }
 
-/// A step, which comes once the connection has taken so many calls, and before it takes another.
+/// A step, due once the connection has taken `count` calls and before it takes another.
 pub struct Step {
     pub count: u64,
     pub line: StepLine,
 }
 
-// By hand, so that a drop is one call where it is needed, and not a drop of each part.
+// Written by hand so that a drop is one call, not a drop of each field.
 impl Drop for Step {
     fn drop(self) {
         let Step {
@@ -46,13 +46,13 @@ impl Drop for Step {
     }
 }
 
-/// The steps on one connection, by counts that don't fall.
+/// The steps for one connection, in order of non-decreasing counts.
 pub struct Operator {
     pub conn: u32,
     pub steps: Sequence<Step>,
 }
 
-// By hand, so that a drop is one call where it is needed, and not a drop of each part.
+// Written by hand so that a drop is one call, not a drop of each field.
 impl Drop for Operator {
     fn drop(self) {
         let Operator {

@@ -1,4 +1,4 @@
-//! Plans, and what is found in them.
+//! Plans and look-ups in them.
 
 ghost use Rattle.std.specs.Prelude.{◌≡◌};
 ghost use Rattle.std.specs.Option.{option_copied};
@@ -17,27 +17,27 @@ pub struct Pair {
     pub b: u32,
 }
 
-/// What a run is told.
+/// The whole configuration of a run.
 pub struct Plan {
-    /// The full name of the service that all connections bind to.
+    /// The full name of the service to which all connections bind.
     pub service: Name,
-    /// How many loads a copy makes at most, 1 to 16384.
+    /// The maximum number of loads of one copy, 1 to 16384.
     pub loads: u64,
-    /// How many threads serve the connections, 1 to 8.
+    /// The number of threads that serve the connections, 1 to 8.
     pub workers: u64,
-    /// Whether connections that are ready get rounds by their weights.
+    /// Whether ready connections get rounds by their weights.
     pub weighted: bool,
     /// The table of the plan's schema.
     pub table: Table,
-    /// The tenants, and the policies as they were read under that table.
+    /// The tenants, and the policies as read under `table`.
     pub declared: Declarations,
     pub applications: Sequence<Application>,
     pub links: Sequence<Pair>,
-    /// At most one of each connection.
+    /// At most one for each connection.
     pub operators: Sequence<Operator>,
 }
 
-// By hand, so that a drop is one call where it is needed, and not a drop of each part.
+// Written by hand so that a drop is one call, not a drop of each field.
 impl Drop for Plan {
     fn drop(self) {
         let Plan {
@@ -55,7 +55,7 @@ impl Drop for Plan {
 }
 
 impl Plan {
-    /// The application on a connection; none where no application has it.
+    /// The application on a connection; `None` if no application has it.
     pub fn application(&self, conn: u32) -> Option<&Application>
         ensures { option_copied result ≡ application_in self.now.applications conn }
     {
@@ -65,7 +65,7 @@ impl Plan {
             .find(|app| app.conn == conn)
     }
 
-    /// The link of a connection; none where it stands in no link.
+    /// The link of a connection; `None` if it is in no link.
     pub fn link(&self, conn: u32) -> Option<&Pair>
         ensures { option_copied result ≡ link_in self.now.links conn }
     {
@@ -75,7 +75,7 @@ impl Plan {
             .find(|link| link.a == conn || link.b == conn)
     }
 
-    /// The connection to which another one talks; none where it stands in no link.
+    /// The connection at the other end of the link; `None` if `conn` is in no link.
     pub fn peer(&self, conn: u32) -> Option<u32>
         ensures { result ≡ peer_in self.now.links conn }
     {
@@ -85,7 +85,7 @@ impl Plan {
         }
     }
 
-    /// The operator of a connection; none where it has none.
+    /// The operator of a connection; `None` if it has none.
     pub fn operator(&self, conn: u32) -> Option<&Operator>
         ensures { option_copied result ≡ operator_in self.now.operators conn }
     {
@@ -97,7 +97,7 @@ impl Plan {
 }
 
 impl Pair {
-    /// The end that isn't this connection.
+    /// The end other than `conn`.
     pub fn other_end(&self, conn: u32) -> u32
         ensures { result ≡ other_end conn self.now }
     {

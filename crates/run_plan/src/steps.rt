@@ -1,4 +1,4 @@
-//! The steps that come to the chain of a connection.
+//! The operations that each connection's chain gets.
 
 ghost use Rattle.std.specs.Prelude.{◌≡◌, Some, IfOk, IsSome};
 ghost use Rattle.std.specs.Option.{option_copied};
@@ -23,7 +23,7 @@ impl Plan {
         }
     }
 
-    /// The name under which the policy at a place is declared, counted from 0; none where there is none.
+    /// The name of the declared policy at an index, from 0; `None` past the last policy.
     pub fn label(&self, place: usize) -> Option<&Name>
         ensures { option_copied result ≡ label_at self.now.declared.policies place }
     {
@@ -33,8 +33,8 @@ impl Plan {
             .map(|policy| &policy.name)
     }
 
-    /// The policy at a place, as it judges on the connection of an application; none where there is none. It takes time
-    /// in proportion to the policies of an application's own schema.
+    /// The policy at an index, as it judges on the connection of an application; `None` if there is none. Takes time
+    /// in proportion to the policies of the application's own schema.
     pub fn policy_of<'a>(&'a self, app: &'a Application, place: usize) -> Option<&'a Policy>
         ensures { option_copied result ≡ policy_of self.now app.now place }
     {
@@ -47,7 +47,7 @@ impl Plan {
         }
     }
 
-    // The policy at a place, as it was read under the plan's table.
+    // The policy at an index, as read under the plan's table.
     fn shared_policy(&self, place: usize) -> Option<&Policy>
         ensures { option_copied result ≡ policy_at self.now.declared.policies place }
     {
@@ -57,8 +57,8 @@ impl Plan {
             .map(|policy| &policy.policy)
     }
 
-    /// The access policy that judges what an application is delivered; none where it has none. It takes time as
-    /// [`Plan::policy_of`] does.
+    /// The access policy that judges messages delivered to an application; `None` if it has none. Takes as much time
+    /// as [`Plan::policy_of`].
     pub fn inbound_of<'a>(&'a self, app: &'a Application) -> Option<&'a Access>
         ensures { option_copied result ≡ inbound_of self.now app.now }
     {
@@ -68,7 +68,7 @@ impl Plan {
         }
     }
 
-    /// The steps of operators on a connection, in order.
+    /// The steps of operators for a connection, in order.
     pub fn steps(&self, conn: u32) -> &[Step]
         ensures { result.now ≡ steps_on self.now.operators conn }
     {
@@ -78,8 +78,8 @@ impl Plan {
         }
     }
 
-    /// The step that a line stands for, on the connection of an application, for its chain. A plan has the policies that
-    /// its lines name.
+    /// The operation that a line means on the connection of an application. A plan has the policies that its lines
+    /// name.
     pub fn step(&self, alloc: Global, app: &Application, line: &StepLine) -> Result<Op, Memory>
         requires { IsSome (op_of self.now app.now line.now) }
         ensures { IfOk result (λ op. op_of self.now app.now line.now ≡ Some op) }
@@ -108,7 +108,7 @@ impl Plan {
         }
     }
 
-    // The name and the policy at a place, for an application.
+    // The name and the policy at an index, for an application.
     fn named(
         &self,
         alloc: Global,
@@ -129,8 +129,8 @@ impl Plan {
         Ok((label.copied(alloc)?, policy.copied(alloc)?))
     }
 
-    /// The attachment at a place of the chain with which an application's connection begins. A plan has the policies
-    /// that its chains name.
+    /// The operation that attaches the policy at a position of an application's initial chain. A plan has the
+    /// policies that its chains name.
     pub fn attachment(&self, alloc: Global, app: &Application, at: u32) -> Result<Op, Memory>
         requires { IsSome (attachment_of self.now app.now at) }
         ensures { IfOk result (λ op. attachment_of self.now app.now at ≡ Some op) }
@@ -149,7 +149,7 @@ impl Plan {
     }
 }
 
-// The access policy, if this is one.
+// The access policy; `None` for a policy of another kind.
 fn access_in<'a>(policy: Option<&'a Policy>) -> Option<&'a Access>
     ensures { option_copied result ≡ access_in (option_copied policy.entry) }
 {

@@ -1,4 +1,4 @@
--- The calls that were accepted, by their numbers and their methods.
+-- The accepted calls, by their numbers and their methods.
 use Rattle.std.proofs.Common.{◌≡◌, ◌⊎◌, inl, inr, ℕ, zero, suc, ◌+◌, ◌-◌, ◌<◌, ◌≤◌, ◌==◌, Bool, List, [], ◌∷◌, ◌++◌}
 use Rattle.std.proofs.Common.{length, reverse, Option, Some, None, refl, sym, ap, ◌∙◌, append_assoc, append-nil}
 use Rattle.std.proofs.Common.{arith}
@@ -45,7 +45,7 @@ taken-one (Redacted seq name version) = refl
 taken-one (Sent seq bytes) = refl
 taken-one (Refused seq why) = refl
 
--- the methods that happenings tell are those of the calls that were accepted
+-- the methods of the acceptances are those of the accepted calls
 pub methods-told : (hs : List Happening) → flat_map methods_by hs ≡ methods_of (taken (reverse hs))
 methods-told [] = refl
 methods-told (h ∷ hs) =
@@ -87,7 +87,7 @@ are-numbered u (Redacted seq name version ∷ past) prefix = are-numbered u past
 are-numbered u (Sent seq bytes ∷ past) prefix = are-numbered u past prefix.0
 are-numbered u (Refused seq why ∷ past) prefix = are-numbered u past prefix.0
 
--- ---- the call of a number
+-- ---- the call with a number
 
 abbrev has_number : ℕ → Taken → Bool
 has_number seq call = call.seq == seq
@@ -102,7 +102,7 @@ found-here seq c cs same = grind (arith, nat_tests)
 found-later : (seq : ℕ) (c : Taken) (cs : List Taken) → (c.seq ≡ seq → ⊥) → find (has_number seq) (c ∷ cs) ≡ find (has_number seq) cs
 found-later seq c cs apart = grind (arith, nat_tests)
 
--- the call that stands so far behind
+-- the call at this distance from the first
 found-at : (n k : ℕ) (calls : List Taken) → NumberedFrom n calls → find (has_number (n + k)) calls ≡ slice_get calls k
 unfolding NumberedFrom
 found-at n k [] numbered = refl
@@ -142,7 +142,7 @@ no-method calls numbered =
     let none : find (has_number 0) calls ≡ None = none-below 1 0 calls (from-one calls numbered) (omega arith) in
     rw none refl
 
--- ---- what is found of a method
+-- ---- the method that is found
 
 found-method : (o : Option Taken) (m : ℕ) → option_map (λ (call : Taken). call.method) o ≡ Some m
     → option_map_or (λ (call : Taken). call.method) o 0 ≡ m

@@ -1,4 +1,4 @@
--- Totals as they are counted.
+-- Totals while they are counted.
 use Rattle.std.proofs.Common.{◌≡◌, ℕ, zero, suc, ◌+◌, ◌<◌, ◌^◌, ◌≤◌, ◌==◌, if◌then◌else◌, Bool, List, [], ◌∷◌, ◌++◌, length}
 use Rattle.std.proofs.Common.{take, Some, refl, sym, ap, ◌∙◌, subst, append_assoc, append-nil, length-append, arith}
 use Rattle.std.specs.Prelude.{slice_get}
@@ -26,7 +26,7 @@ together-more Standing counts = omega arith
 flip : (m k : ℕ) → (m == k) ≡ (k == m)
 flip m k = grind arith
 
--- one more happening is counted
+-- one more event is counted
 pub counted-one : OneCounts → (happened : List Counted) (one : Counted) (totals next : List (ℕ × Counts)) → HaveCounted happened totals
     → ((m : ℕ) → counts_in next m ≡ (if m == one.method then one_more one.what (counts_in totals m) else counts_in totals m))
     → sums_of next ≡ one_more one.what (sums_of totals) → HaveCounted (happened ++ one ∷ []) next
@@ -121,7 +121,7 @@ module _ {X : Type 0} (f : X → List Counted) where
         omega (arith, can.few, part-within xs (suc place), both, length-append can.happened (flat_map f (take place xs)));
   }
 
-  -- it was
+  -- it was counted
   pub counts-next : (xs : List X) (place : ℕ) (x : X) (old now next : List (ℕ × Counts)) → slice_get xs place ≡ Some x
       → CountsOn (flat_map f (take place xs)) old now → CountsOn (f x) now next → CountsOn (flat_map f (take (place + 1) xs)) old next
   counts-next xs place x old now next at so more =

@@ -1,4 +1,4 @@
--- What is kept of a stream behind the frames that had their fates.
+-- What is kept of a stream after the handled frames.
 use Rattle.std.proofs.Common.{◌≡◌, ℕ, ◌+◌, ◌-◌, Bool, List, [], ◌∷◌, ◌++◌, ◌≤◌, length, Option, Some, None, refl, sym}
 use Rattle.std.proofs.Common.{ap, ◌∙◌, subst, append_assoc, length-append, arith}
 use Rattle.std.proofs.lemmas.Grind.{flat_map-append}
@@ -13,7 +13,7 @@ use Rattle.deliveries.specs.Arriving.{HaveLived}
 use Rattle.deliveries.specs.declared.arrivals.Arrivals.{Arrivals}
 use Rattle.run_text.specs.Telling.{cut_text}
 
--- where a stream has no fault, all bytes behind the frames that had their fates are kept
+-- if a stream has no fault, all bytes after the handled frames are kept
 pub record AreKept (life : Life) (a : Arrivals) (lived : HaveLived life a) : Type 0 where
   pub none_behind : a.inbound.fed.behind ≡ 0
   pub same_rest : lived.lives.all.rest ≡ lived.lives.kept.rest
@@ -55,7 +55,7 @@ all-kept once life a lived is = elim lived.lives.taken [
       (subst (λ r. IsFaultAt (length (joined (frames ++ later))) r fault) same.1 all_at))))
 ]
 
--- where it is cut is the same by what is kept as by the whole stream
+-- where it is cut is the same by the kept bytes as by the whole stream
 cut-by : (conn : ℕ) (failed : Bool) (fault : Option FeedFault) (p q : ℕ) (rest more : List ℕ) → (fault ≡ None → (p ≡ q) × (rest ≡ more))
     → cut_text conn failed fault p rest ≡ cut_text conn failed fault q more
 cut-by conn failed (Some fault) p q rest more same = refl
@@ -88,7 +88,7 @@ few-frames (f ∷ frames) =
     let both : length (joined (f ∷ frames)) ≡ length (bytes_of f) + length (joined frames) = length-append (bytes_of f) (joined frames) in
     omega (arith, few-frames frames, long, whole, both)
 
--- so there are no more frames than bytes were fed
+-- so there are at most as many frames as bytes were fed
 pub few-fed : (fed : Fed) (frames : List Frame) (rest : List ℕ) → Splits fed.place fed.bytes frames rest → length frames ≤ total fed
 few-fed fed frames rest splits =
     let long : length fed.bytes ≡ length (joined frames) + length rest = ap length splits.whole ∙ length-append (joined frames) rest in

@@ -8,7 +8,7 @@ use Rattle.engine_core.specs.Marks.{StandingCall, seqs_of}
 use Rattle.engine_core.specs.Moves.{Row}
 
 module _ {X A : Type 0} (f : X → List A) where
-  -- behind the lines of the first ones comes that of the next
+  -- the lines of the first items are followed by that of the next
   pub one-more : (xs : List X) (place : ℕ) (x : X) → slice_get xs place ≡ Some x
       → flat_map f (take (suc place) xs) ≡ flat_map f (take place xs) ++ f x
   one-more [] place x at = cc
@@ -22,7 +22,7 @@ module _ {X A : Type 0} (f : X → List A) where
   all-of (x ∷ xs) zero low = absurd (omega arith)
   all-of (x ∷ xs) (suc place) low = ap (λ lines. f x ++ lines) (all-of xs place (omega arith))
 
-  -- the text so far goes on by the next line
+  -- the text so far, followed by the next line
   pub goes-on : (first out next : List A) (xs : List X) (place : ℕ) (x : X) → slice_get xs place ≡ Some x
       → out ≡ first ++ flat_map f (take place xs) → next ≡ out ++ f x → next ≡ first ++ flat_map f (take (place + 1) xs)
   goes-on first out next xs place x at so more =
@@ -30,17 +30,17 @@ module _ {X A : Type 0} (f : X → List A) where
       more ∙ ap (λ text. text ++ f x) so ∙ append_assoc first (flat_map f (take place xs)) (f x)
       ∙ ap (λ lines. first ++ lines) (sym (one-more xs place x at) ∙ ap (λ n. flat_map f (take n xs)) next_place)
 
--- an element stands at each place
+-- an item is at each index
 pub there : {A : Type 0} (xs : List A) (place : ℕ) → suc place ≤ length xs → (x : A) × (slice_get xs place ≡ Some x)
 there [] place low = absurd (omega arith)
 there (x ∷ xs) zero low = (x, refl)
 there (x ∷ xs) (suc place) low = there xs place (omega arith)
 
--- a text of what is told of each is a text of each
+-- the text of the images of items is a text of the items
 pub mapped : {X Y A : Type 0} (f : Y → List A) (g : X → Y) (xs : List X) → flat_map f (map g xs) ≡ flat_map (λ x. f (g x)) xs
 mapped f g [] = refl
 mapped f g (x ∷ xs) = ap (λ lines. f (g x) ++ lines) (mapped f g xs)
 
--- a row has as many calls as stand
+-- a row has as many calls as are pending
 pub rows-long : (row : Row) (calls : List StandingCall) → map (λ call. call.0) row ≡ seqs_of calls → length row ≡ length calls
 rows-long row calls same = sym (length-map row (λ (call : ℕ × ℕ). call.0)) ∙ ap length same ∙ length-map calls (λ (s : StandingCall). s.call.seq)

@@ -1,4 +1,4 @@
--- What was made of connections, of each unless there was no memory.
+-- What was made of connections, each unless its thread ran out of memory.
 use Rattle.std.proofs.Common.{◌≡◌, ℕ, zero, suc, ◌+◌, ◌<◌, All, List, [], ◌∷◌, length, map, drop, get_or, refl, sym, ap, ◌∙◌, subst, arith}
 use Rattle.std.proofs.Common.{Some, drop-cons}
 use Rattle.std.specs.Prelude.{IfOk, Result, slice_get, slice_index_or}
@@ -36,7 +36,7 @@ module _ {X : Type 0} (f : X → Making) (xs : List X) (i : ℕ) (x : X) (made :
       let place : suc i ≡ i + 1 = omega arith in
       drop-cons xs i x less ∙ ap (λ (y : X). y ∷ drop (suc i) xs) (sym is) ∙ ap (λ n. x ∷ drop n xs) place
 
-  -- the next one is made of the next element
+  -- the next one is made of the next item
   pub made-next : (one : Result Made Memory) (rest : List (Result Made Memory)) → made ≡ one ∷ rest
       → IfOk one (IsMade (f x)) × AreMade (map f (drop (i + 1) xs)) rest
   made-next one rest same = subst (λ (l : List X). AreMade (map f l) (one ∷ rest)) next-is
@@ -46,7 +46,7 @@ module _ {X : Type 0} (f : X → Making) (xs : List X) (i : ℕ) (x : X) (made :
   pub made-more : length made ≡ 0 → ⊥
   made-more none = some-made (f x) (map f (drop (i + 1) xs)) made (subst (λ (l : List X). AreMade (map f l) made) next-is all) none
 
--- ---- place by place
+-- ---- index by index
 
 pub zip-length : {X Y : Type 0} (R : X → Y → Type 0) (xs : List X) (ys : List Y) → AllZip R xs ys → length ys ≡ length xs
 zip-length R [] [] all = refl

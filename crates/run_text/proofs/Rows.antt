@@ -1,4 +1,4 @@
--- What is told of a connection, worked out.
+-- The text of a connection, worked out by hand.
 use Rattle.std.proofs.Common.{◌≡◌, [], ◌∷◌, refl, true, false, Some, None}
 use Rattle.std.specs.Prelude.{codes}
 use Rattle.std.specs.Fmt.{digits}
@@ -10,7 +10,7 @@ a-false-reclaim : not_held_text 1 (9 ∷ []) ≡ codes "notheld 1 9\n"
 unfolding digits
 a-false-reclaim = refl
 
--- a stream that ends inside the frame at its 80th byte, and the same where its link failed
+-- a stream that ends inside the frame at its 80th byte, and one whose link failed
 cut-short : cut_text 2 false None 79 (0 ∷ 0 ∷ []) ≡ codes "cut 2 79 Short\n"
 unfolding digits
 cut-short = refl

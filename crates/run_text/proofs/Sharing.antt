@@ -1,4 +1,4 @@
--- Several threads may look at the calls of a connection, and at what arrived.
+-- Several threads may read the calls of a connection, and its arrivals.
 use mir.Syntax.{Width, w8, w16, w32, w64}
 use denote.Ref.{NamedLft}
 use denote.Hole.{as_row}
@@ -111,7 +111,7 @@ history-sync = view_sync HistoryInside.the_row _ _ _ _ (declared_sync HistoryIns
   (Vec-sync Record.the_row record-sync, tt),
 ))
 
--- ---- what arrived
+-- ---- arrivals
 pub line-sync : IsSync ArrivalLine.the_row
 line-sync = variants_sync ArrivalLine.enum (
   (word w8, (word w16, (word w32, (tree-sync, tt)))),

@@ -14,7 +14,7 @@ use Rattle.deliveries.specs.Arriving.{AreArriving, HaveLived}
 use Rattle.deliveries.specs.declared.arrivals.Arrivals.{Arrivals}
 use Rattle.run_text.specs.Telling.{IsLeft}
 
--- ---- place by place
+-- ---- index by index
 
 pub zip-more : {X Y : Type 0} (R : X → Y → Type 0) (xs : List X) (ys : List Y) (x : X) (y : Y) → AllZip R xs ys → R x y
     → AllZip R (xs ++ x ∷ []) (ys ++ y ∷ [])
@@ -23,7 +23,7 @@ zip-more R [] (w ∷ ys) x y all is = absurd all
 zip-more R (v ∷ xs) [] x y all is = absurd all
 zip-more R (v ∷ xs) (w ∷ ys) x y all is = (all.0, zip-more R xs ys x y all.1 is)
 
--- the element at a place joins those before it
+-- the item at an index follows those before it
 pub zip-next : {X Y : Type 0} (R : X → Y → Type 0) (xs : List X) (i : ℕ) (x : X) (before after : List Y) (y : Y) → i < length xs
     → x ≡ get_or xs i x → AllZip R (take i xs) before → R x y → after ≡ before ++ y ∷ [] → AllZip R (take (i + 1) xs) after
 zip-next {X} {Y} R xs i x before after y less at all is more =
@@ -40,7 +40,7 @@ joined-last texts all last first second more is =
     ap concat more ∙ concat-append texts (last ∷ []) ∙ ap (λ t. concat texts ++ t) (append-nil last ∙ is)
     ∙ sym (append_assoc (concat texts) first second)
 
--- ---- how many lines count
+-- ---- the number of lines that count
 
 counted-few : (calls : List Taken) (h : Happening) → length (counted calls h) ≤ 1
 counted-few calls (Took call) = omega arith
@@ -62,7 +62,7 @@ few-counted calls (h ∷ hs) =
     let both = length-append (counted calls h) (flat_map (counted calls) hs) in
     omega (arith, rest, one, both)
 
--- ---- what is left, in whichever way it was received
+-- ---- the remainder, by any trace of the stream
 
 pub left-any : (conn : ℕ) (failed : Bool) (a : Arrivals) (out next : List ℕ) → AreArriving a
     → ((life : Life) → HaveLived life a → (text : List ℕ) × IsLeft conn failed life text × (next ≡ out ++ text))

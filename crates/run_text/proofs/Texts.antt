@@ -1,4 +1,4 @@
--- Connections that can be told have a text.
+-- Connections that can be reported have a text.
 use Rattle.std.proofs.Common.{◌≡◌, ℕ, ◌-◌, Bool, All, List, [], ◌∷◌, ◌++◌, length, refl, sym, ap, ◌∙◌}
 use Rattle.std.specs.List.{AllZip, concat, flat_map}
 use Rattle.std.proofs.lemmas.List.Elements.{All-head, All-tail}
@@ -18,13 +18,13 @@ use Rattle.run_text.specs.declared.shown.ShownConn.{ShownConn}
 use Rattle.run_text.proofs.Keeping.{cut-same}
 
 module _ (once : SplitsOnce) where
-  -- what is left behind the frames of a life
+  -- the remainder after the frames of a trace
   abbrev left-behind : (conn : ℕ) (failed : Bool) (life : Life) (a : Arrivals) → HaveLived life a → List ℕ
   left-behind conn failed life a lived =
       cut_text conn failed life.fault (length life.stream - length lived.lives.all.rest) lived.lives.all.rest
       ++ waiting_text conn lived.lives.waiting
 
-  -- it is the same behind those of another life
+  -- it is the same after those of another trace
   left-same : (conn : ℕ) (failed : Bool) (life other : Life) (a : Arrivals) (lived : HaveLived life a)
       (also : HaveLived other a) → left-behind conn failed life a lived ≡ left-behind conn failed other a also
   left-same conn failed life other a lived also =

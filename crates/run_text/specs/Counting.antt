@@ -1,4 +1,4 @@
--- As what the lines of a run count (this project's own).
+-- What the lines of a run count as (this project's own).
 use Rattle.std.specs.Prelude.{ℕ, ◌==◌, List, [], ◌∷◌, ◌++◌, find, map}
 use Rattle.std.specs.Option.{option_map_or}
 use Rattle.std.specs.List.{flat_map}
@@ -12,22 +12,22 @@ use Rattle.telemetry.specs.declared.counts.What.TheVariants as what
 use Rattle.run_text.specs.declared.shown.Shown.{Shown}
 use Rattle.run_text.specs.declared.shown.Shown.TheVariants.{Served, Unbound}
 
--- the method of the call of a number, of those that were accepted; a line names no other call
+-- the method of the accepted call with a number; lines name no other calls
 abbrev pub method_of : List Taken → ℕ → ℕ
 method_of calls seq = option_map_or (λ call. call.method) (find (λ call. call.seq == seq) calls) 0
 
--- as what the line of a happening counts: that a call was taken, sent or refused; other lines don't count
+-- what the line of an event counts as: a call that was accepted, sent or refused; other lines don't count
 abbrev pub counted : List Taken → Happening → List Counted
 counted calls (Took call) = record { method = call.method; what = what.Took } ∷ []
 counted calls (Sent seq bytes) = record { method = method_of calls seq; what = what.Sent } ∷ []
 counted calls (Refused seq why) = record { method = method_of calls seq; what = what.Refused } ∷ []
 counted calls _ = []
 
--- as what the line of a call that stands counts
+-- what the line of a pending call counts as
 abbrev pub standing_counted : List Taken → ℕ × ℕ → Counted
 standing_counted calls call = record { method = method_of calls call.0; what = what.Standing }
 
--- as what the lines of a connection count
+-- what the lines of a connection count as
 abbrev pub counted_on : Connection → List Counted
 counted_on c = flat_map (counted (taken (behind c))) c.happenings
     ++ map (standing_counted (taken (behind c))) c.chain.row

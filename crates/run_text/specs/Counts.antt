@@ -1,4 +1,4 @@
--- The code's own: totals as they are counted.
+-- The code's own: totals while they are counted.
 use Rattle.std.specs.Prelude.{◌≡◌, ℕ, ◌+◌, ◌<◌, ◌^◌, List, [], ◌∷◌, length, map, Option, None, Some, slice_get}
 use Rattle.call_history.specs.declared.happening.Happening.{Happening}
 use Rattle.call_history.specs.declared.happening.Happening.TheVariants.{Took}
@@ -13,7 +13,7 @@ use Rattle.run_text.specs.declared.shown.Shown.{Shown}
 abbrev pub counts_together : Counts → ℕ
 counts_together counts = counts.took + counts.sent + counts.refused + counts.standing
 
--- totals are the counts of these, all together as many
+-- totals are the counts of these, and sum to their number
 pub record HaveCounted (happened : List Counted) (totals : List (ℕ × Counts)) : Type 0 where
   pub each : IsCountOf happened totals
   pub all : counts_together (sums_of totals) ≡ length happened
@@ -22,7 +22,7 @@ pub record HaveCounted (happened : List Counted) (totals : List (ℕ × Counts))
 abbrev pub AreCountsOf : Shown → List (ℕ × Counts) → Type 0
 AreCountsOf shown totals = HaveCounted (counted_in shown) totals
 
--- these can be counted, too: there are no more than a count can tell
+-- these can be counted too: their number fits the counts
 pub record CanCount (more : List Counted) (totals : List (ℕ × Counts)) : Type 0 where
   pub happened : List Counted
   pub so_far : HaveCounted happened totals
@@ -35,12 +35,12 @@ methods_of calls = map (λ (call : Taken). call.method) calls
 abbrev pub AreNumbered : List Taken → Type 0
 AreNumbered calls = (place : ℕ) (call : Taken) → slice_get calls place ≡ Some call → call.seq ≡ place + 1
 
--- the method of a call that a happening tells to be accepted
+-- the method of a call that the event accepts
 abbrev pub methods_by : Happening → List ℕ
 methods_by (Took call) = call.method ∷ []
 methods_by _ = []
 
--- what is to be counted, if there is something
+-- what is to be counted, if anything
 abbrev pub told_count : Option (ℕ × What) → List Counted
 told_count None = []
 told_count (Some counted) = record { method = counted.0; what = counted.1 } ∷ []

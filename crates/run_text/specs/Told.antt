@@ -1,4 +1,4 @@
--- The whole text of what a run tells (this project's own format).
+-- The whole report of a run (this project's own format).
 use Rattle.std.specs.Prelude.{◌≡◌, ℕ, List, [], ◌∷◌, ◌++◌, codes, option_map, Option}
 use Rattle.std.specs.List.{AllZip, concat, flat_map}
 use Rattle.std.specs.Option.{option_copied, option_map_or}
@@ -15,9 +15,9 @@ use Rattle.run_text.specs.declared.shown.ShownConn.{ShownConn}
 use Rattle.run_text.specs.declared.shown.Shown.{Shown}
 use Rattle.run_text.specs.declared.shown.Shown.TheVariants.{Served, Unbound}
 
--- ---- what can be told
+-- ---- what can be reported
 
--- What arrived on a connection was judged by its own table, and by the policy that is named.
+-- The arrivals on a connection were judged by its own table, and by the policy that is named.
 pub record IsTellableConn (s : ShownConn) : Type 0 where
   pub arriving : AreArriving s.arrivals.now
   pub table : s.calls.now.table ≡ s.arrivals.now.table.now
@@ -29,8 +29,8 @@ IsTellable (Served served) = IsTellableConn served
 
 -- ---- the text of a connection
 
--- Of a connection that was bound its history is told, what arrived, which numbers named no held block, what is left of
--- its stream, and which calls stand. A stream that was received in some way leaves the same, in whichever it was.
+-- The text of a bound connection: its history, its arrivals, the numbers that named no held block, the remainder of
+-- its stream, and its pending calls. Each trace of a received stream gives the same remainder.
 pub record IsServedText (s : ShownConn) (text : List ℕ) : Type 0 where
   pub left : List ℕ
   pub is_left : (life : Life) → HaveLived life s.arrivals.now → IsLeft s.calls.now.conn s.calls.now.ended life left
@@ -38,14 +38,14 @@ pub record IsServedText (s : ShownConn) (text : List ℕ) : Type 0 where
       ++ arrivals_text s.arrivals.now.table.now (judging_of s.judge) s.calls.now.conn s.arrivals.now.lines.items
       ++ not_held_text s.calls.now.conn s.not_held.now ++ left ++ standing_lines s.calls.now
 
--- of another one, why it wasn't
+-- for any other connection, the cause why it wasn't bound
 abbrev pub IsShownText : Shown → List ℕ → Type 0
 IsShownText (Unbound conn why) text = text ≡ line (unbound_words conn why.now)
 IsShownText (Served served) text = IsServedText served text
 
 -- ---- accounts
 
--- what the visits of a connection came to: its weight, the visits, the rounds that were given, kept and dropped
+-- the account of a connection's visits: its weight, the visits, and the rounds given, kept and dropped
 abbrev pub rounds_words : Rounds → List ℕ
 rounds_words r = word r.weight ++ word r.account.visits ++ word r.account.rounds ++ word r.account.kept
     ++ word r.account.dropped
@@ -62,7 +62,7 @@ rounds_of (Served served) = account_line served.calls.now.conn served.rounds
 
 -- ---- the whole text
 
--- what a run tells of some connections, in this order, then the accounts, and behind them the counts of all lines
+-- the report of connections, in this order, then the accounts, then the counts of all lines
 pub record IsRunText (shown : List Shown) (text : List ℕ) : Type 0 where
   pub each : List (List ℕ)
   pub texts : AllZip IsShownText shown each

@@ -1,4 +1,4 @@
-//! The lines of what arrived on a connection, and of the numbers that named no held block.
+//! The lines for arrivals on a connection, and for returned numbers that named no held block.
 
 ghost use Rattle.std.specs.Prelude.{◌≡◌, ◌++◌, All, OnOk};
 ghost use Rattle.mrpc_table.specs.Valid.{IsValid};
@@ -10,7 +10,7 @@ use deliveries::ArrivalLine;
 use mrpc_table::{Bytes, Memory, Table};
 use std::alloc::Global;
 
-/// Appends the lines of what arrived, in order. The only error is `Memory`.
+/// Appends the lines of arrivals, in order. The only error is `Memory`.
 pub fn append_arrivals(
     alloc: Global,
     out: &mut Bytes,
@@ -29,7 +29,7 @@ pub fn append_arrivals(
     Ok(())
 }
 
-/// Appends the lines of numbers that were given back and named no held block, in order. The only error is `Memory`.
+/// Appends the lines of returned numbers that named no held block, in order. The only error is `Memory`.
 pub fn append_false_reclaims(out: &mut Bytes, conn: u32, blocks: &[u64]) -> Result<(), Memory>
     ensures { OnOk result (out.new ≡ out.old ++ not_held_text conn blocks.now) }
 {

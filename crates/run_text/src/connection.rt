@@ -1,4 +1,4 @@
-//! The lines of what happened on a connection, and of the calls that stand.
+//! The lines for events on a connection, and for its pending calls.
 
 ghost use Rattle.std.specs.Prelude.{◌≡◌, ◌++◌, OnOk};
 ghost use Rattle.mrpc_table.specs.Valid.{IsValid};
@@ -10,7 +10,7 @@ use mrpc_table::{Bytes, Memory, Table};
 use std::alloc::Global;
 use wire_encode::Output;
 
-/// Appends the audit of all that happened on a connection, by its own table. The only error is `Memory`.
+/// Appends the audit of all events on a connection, by its own table. The only error is `Memory`.
 pub fn append_history(
     alloc: Global,
     out: &mut Bytes,
@@ -28,7 +28,7 @@ pub fn append_history(
     Ok(())
 }
 
-/// Appends the lines of the calls that stand on a connection, by ascending number. The only error is `Memory`.
+/// Appends the lines of the pending calls of a connection, by ascending number. The only error is `Memory`.
 pub fn append_standing_calls(out: &mut Bytes, calls: &Conn<'_>) -> Result<(), Memory>
     ensures { OnOk result (out.new ≡ out.old ++ standing_lines calls.now) }
 {

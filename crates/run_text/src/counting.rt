@@ -1,4 +1,4 @@
-//! How often each happened that the lines of a run tell.
+//! The counts of the events and calls in the lines of a run.
 
 ghost use Rattle.std.specs.Prelude.{◌≡◌, ◌≤◌, ◌<◌, ◌++◌, ◌∷◌, [], ℕ, List, Some, IfOk, IfSome, OnOk, length, map, slice_get};
 ghost use Rattle.std.specs.List.{AllZip, flat_map};
@@ -18,8 +18,8 @@ use mrpc_table::Memory;
 use std::alloc::Global;
 use telemetry::{Totals, What, counts_add_up};
 
-// The counts of the lines of all connections, from those of each. No memory has so many lines that their number has no
-// word.
+// The counts of the lines of all connections, summed from those of each. More lines than a 64-bit number counts fit
+// no machine.
 pub(crate) fn add_up(
     alloc: Global,
     shown: &[Shown<'_, '_>],
@@ -39,7 +39,7 @@ pub(crate) fn add_up(
     Ok(all)
 }
 
-// How many lines of connections count, at most, if that is a number.
+// An upper bound on the counted lines of all connections; `None` if it overflows.
 fn most_of_all(shown: &[Shown<'_, '_>]) -> Option<usize>
     ensures { IfSome result (λ most. length (flat_map counted_in shown.now) ≤ most) }
 {
@@ -50,7 +50,7 @@ fn most_of_all(shown: &[Shown<'_, '_>]) -> Option<usize>
     Some(most)
 }
 
-// How many lines of a connection count, at most, if that is a number.
+// An upper bound on the counted lines of a connection; `None` if it overflows.
 fn most_of(shown: &Shown<'_, '_>) -> Option<usize>
     ensures { IfSome result (λ most. length (counted_in shown.now) ≤ most) }
 {
@@ -60,7 +60,7 @@ fn most_of(shown: &Shown<'_, '_>) -> Option<usize>
     }
 }
 
-// As many as happenings and standing calls, if that is a number.
+// The number of events and pending calls; `None` if it overflows.
 fn most_on(calls: &Conn<'_>) -> Option<usize>
     ensures { IfSome result (λ most. length (counted_on calls.now) ≤ most) }
 {
@@ -69,7 +69,7 @@ fn most_on(calls: &Conn<'_>) -> Option<usize>
     calls.history().len().checked_add(standing)
 }
 
-// The counts of the lines of a connection that was bound. No memory has so many that their number has no word.
+// The counts of the lines of a bound connection. More lines than a 64-bit number counts fit no machine.
 pub(crate) fn count_connection(alloc: Global, calls: &Conn<'_>) -> Result<Totals, Memory>
     ensures { IfOk result (HaveCounted (counted_on calls.now)) }
 {
@@ -81,7 +81,7 @@ pub(crate) fn count_connection(alloc: Global, calls: &Conn<'_>) -> Result<Totals
     Ok(totals)
 }
 
-// Counts the lines of a connection that was bound.
+// Counts the lines of a bound connection.
 fn count_lines(alloc: Global, totals: &mut Totals, calls: &Conn<'_>) -> Result<(), Memory>
     requires few { CanCount (counted_on calls.now) totals.old }
     ensures { (happened : List Counted) → HaveCounted happened totals.old
@@ -93,7 +93,7 @@ fn count_lines(alloc: Global, totals: &mut Totals, calls: &Conn<'_>) -> Result<(
     count_standing(totals, calls, &methods)
 }
 
-// The methods of the calls that were accepted, in order.
+// The methods of the accepted calls, in order.
 fn methods(alloc: Global, calls: &Conn<'_>) -> Result<Vec<u16>, Memory>
     ensures { IfOk result (λ methods. methods.items ≡ methods_of (taken (behind calls.now))) }
 {
@@ -104,7 +104,7 @@ fn methods(alloc: Global, calls: &Conn<'_>) -> Result<Vec<u16>, Memory>
     Ok(methods)
 }
 
-// Adds the method of a call that was accepted.
+// Appends the method of an accepted call.
 fn push_method(methods: &mut Vec<u16>, kept: &Record) -> Result<(), Memory>
     ensures { (steps : List TheStep) → OnOk result (methods.new.items
         ≡ methods.old.items ++ methods_by (told_by steps kept.now)) }
@@ -130,7 +130,7 @@ fn count_history(totals: &mut Totals, calls: &Conn<'_>, methods: &[u16]) -> Resu
     Ok(())
 }
 
-// As what the line of a happening counts, if it does.
+// What the line of an event counts as, if anything.
 fn counted_by(kept: &Record, methods: &[u16]) -> Option<(u16, What)>
     ensures { (calls : List TheTaken) (steps : List TheStep) → AreNumbered calls → methods.now ≡ methods_of calls
         → told_count result ≡ counted calls (told_by steps kept.now) }
@@ -143,7 +143,7 @@ fn counted_by(kept: &Record, methods: &[u16]) -> Option<(u16, What)>
     }
 }
 
-// Counts the calls that stand.
+// Counts the pending calls.
 fn count_standing(totals: &mut Totals, calls: &Conn<'_>, methods: &[u16]) -> Result<(), Memory>
     requires numbered { AreNumbered (taken (behind calls.now)) }
     requires methods { methods.now ≡ methods_of (taken (behind calls.now)) }
@@ -159,7 +159,7 @@ fn count_standing(totals: &mut Totals, calls: &Conn<'_>, methods: &[u16]) -> Res
     Ok(())
 }
 
-// As what the line of the call at a place counts, of those that stand.
+// What the line of the pending call at an index counts as.
 fn standing_at(calls: &Conn<'_>, methods: &[u16], place: u32) -> Option<(u16, What)>
     requires numbered { AreNumbered (taken (behind calls.now)) }
     requires methods { methods.now ≡ methods_of (taken (behind calls.now)) }
@@ -173,7 +173,7 @@ fn standing_at(calls: &Conn<'_>, methods: &[u16], place: u32) -> Option<(u16, Wh
     Some((method_of(methods, seq), What::Standing))
 }
 
-// The method of the call of a number. Calls are numbered from 1.
+// The method of the call with a number. Calls are numbered from 1.
 fn method_of(methods: &[u16], seq: u32) -> u16
     ensures { (calls : List TheTaken) → AreNumbered calls → methods.now ≡ methods_of calls
         → result ≡ method_of calls seq }
@@ -187,7 +187,7 @@ fn method_of(methods: &[u16], seq: u32) -> u16
     }
 }
 
-// Counts one more, if there is one.
+// Adds one to a count, if there is one.
 fn count_some(totals: &mut Totals, counted: Option<(u16, What)>) -> Result<(), Memory>
     requires few { CanCount (told_count counted) totals.old }
     ensures { (happened : List Counted) → HaveCounted happened totals.old
@@ -199,7 +199,7 @@ fn count_some(totals: &mut Totals, counted: Option<(u16, What)>) -> Result<(), M
     }
 }
 
-// Counts one more.
+// Adds one to a count.
 fn count_one(totals: &mut Totals, method: u16, what: What) -> Result<(), Memory>
     requires few { CanCount (record { method = method; what = what } ∷ []) totals.old }
     ensures { (happened : List Counted) → HaveCounted happened totals.old

@@ -1,4 +1,4 @@
-//! The counts of connections' lines, and the fronts of what is told of them, where it is to be told, made side by side.
+//! The counts of connections' lines, and the prefixes of their texts if these are wanted, made in parallel.
 
 ghost use Rattle.std.specs.Prelude.{◌≡◌, ◌<◌, All, IfOk, Some, length, map, slice_index_or};
 ghost use Rattle.run_text.specs.Fronts.{AreMade, CanMake, IsMade, Making, front_text, making_by, making_of};
@@ -17,27 +17,28 @@ use std::thread;
 use std::thread::Threads;
 use telemetry::Totals;
 
-// What the counts of a connection, and the front of its text, are made from. Several threads may look at it.
+// The source from which a connection's counts and the prefix of its text are made. Several threads may read it.
 #[derive(Clone, Copy)]
 pub(crate) struct Front<'a, 't> {
     calls: &'a Conn<'t>,
     table: &'a Table,
     judge: Option<Judge<'a>>,
     lines: &'a [ArrivalLine],
-    // Whether the front of its text is made, or its lines are counted alone.
+    // Whether the prefix of its text is made, or its lines are only counted.
     with_text: bool,
 }
 
 // What a thread makes of a connection.
 #[derive(Drop)]
 pub(crate) struct Made {
-    // The front of its text, or nothing where that isn't told.
+    // The prefix of its text; empty if the text isn't wanted.
     pub text: Bytes,
     // The counts of all its lines.
     pub counts: Totals,
 }
 
-// What is made of connections, which are told or counted alone: of each in a thread of its own where one can be made.
+// Makes the text prefixes and counts of connections, or the counts alone: each in a thread of its own if one can be
+// started.
 pub(crate) fn make_of<R: Threads + Sync>(
     rt: &R,
     alloc: Global,
@@ -51,7 +52,7 @@ pub(crate) fn make_of<R: Threads + Sync>(
     make_all(rt, alloc, sources.as_slice())
 }
 
-// What a thread is given for each connection.
+// The source for each connection's thread.
 fn sources<'a, 't>(
     alloc: Global,
     shown: &[Shown<'a, 't>],
@@ -68,7 +69,7 @@ fn sources<'a, 't>(
     Ok(sources)
 }
 
-// What a thread is given for a connection; nothing for one that wasn't bound.
+// The source for a connection's thread; `None` for one that wasn't bound.
 fn source_of<'a, 't>(shown: &Shown<'a, 't>, with_text: bool) -> Option<Front<'a, 't>>
     requires { IsTellable shown.now }
     ensures same { making_by result ≡ making_of with_text shown.now }
@@ -87,7 +88,7 @@ fn source_of<'a, 't>(shown: &Shown<'a, 't>, with_text: bool) -> Option<Front<'a,
     }
 }
 
-// Makes all, side by side.
+// Makes all results in parallel.
 fn make_all<R: Threads + Sync>(
     rt: &R,
     alloc: Global,
@@ -109,7 +110,7 @@ fn make_all<R: Threads + Sync>(
     Ok(made)
 }
 
-// What is made of a connection that was bound, and nothing of another one.
+// The result for a bound connection; an empty one for any other.
 fn make(alloc: Global, source: Option<Front<'_, '_>>) -> Result<Made, Memory>
     requires { CanMake source }
     ensures { IfOk result (IsMade (making_by source.entry)) }
@@ -123,7 +124,7 @@ fn make(alloc: Global, source: Option<Front<'_, '_>>) -> Result<Made, Memory>
     }
 }
 
-// The counts of a connection's lines, and the front of its text.
+// The counts of a connection's lines, and the prefix of its text.
 fn make_served(alloc: Global, front: Front<'_, '_>) -> Result<Made, Memory>
     requires { CanMake (Some front) }
     ensures { IfOk result (IsMade (making_by (Some front.entry))) }
@@ -133,7 +134,7 @@ fn make_served(alloc: Global, front: Front<'_, '_>) -> Result<Made, Memory>
     Ok(Made { text, counts })
 }
 
-// The front of a connection's text, its history and what arrived, if it is to be told.
+// The prefix of a connection's text, its history and its arrivals, if it is wanted.
 fn told_front(alloc: Global, front: Front<'_, '_>) -> Result<Bytes, Memory>
     requires { CanMake (Some front) }
     ensures { IfOk result (λ text. text ≡ front_text (Some front.entry)) }

@@ -1,4 +1,4 @@
-//! The lines of what is left of a connection's stream.
+//! The lines for the unhandled remainder of a connection's stream.
 
 ghost use Rattle.std.specs.Prelude.{◌≡◌, ◌≢◌, ◌-◌, ◌++◌, ℕ, List, None, OnOk, Some, length};
 ghost use Rattle.frame_transport.specs.Frames.{Splits};
@@ -14,8 +14,8 @@ use frame_transport::{FeedFault, one_split};
 use mrpc_table::{Bytes, Memory};
 use receive_core::Inbound;
 
-/// Appends the lines of what is left of a connection's stream, behind the frames that had their fates: where it is cut,
-/// and the whole frames that wait. The only error is `Memory`.
+/// Appends the lines for the remainder of a connection's stream after the handled frames: where it is cut, and the
+/// whole frames that wait. The only error is `Memory`.
 pub fn append_left(
     out: &mut Bytes,
     conn: u32,
@@ -31,7 +31,7 @@ pub fn append_left(
     append_waiting(out, conn, &arrivals.inbound)
 }
 
-// Appends where the stream is cut, if it is.
+// Appends the line of where the stream is cut, if it is.
 fn append_where_cut(
     out: &mut Bytes,
     conn: u32,
@@ -56,7 +56,7 @@ fn append_where_cut(
     append_short(out, conn, inbound.fed() - rest)
 }
 
-// Appends the lines of the whole frames that have no fate.
+// Appends the lines of the whole frames without a fate.
 fn append_waiting(out: &mut Bytes, conn: u32, inbound: &Inbound) -> Result<(), Memory>
     ensures { (frames : List TheFrame) (rest : List ℕ) → Splits inbound.now.fed.place inbound.now.fed.bytes frames rest
         → OnOk result (out.new ≡ out.old ++ waiting_text conn frames) }

@@ -1,4 +1,4 @@
-//! What is told of a connection.
+//! What the report has of a connection.
 
 use arrival_text::Judge;
 use conn_core::Conn;
@@ -6,32 +6,32 @@ use deliveries::Arrivals;
 use link_greeting::Unbound;
 use qos_order::Account;
 
-/// A connection behind a run: why it wasn't bound, or what it served.
+/// A connection after a run: the cause why it wasn't bound, or what it served.
 #[derive(Clone, Copy)]
 pub enum Shown<'a, 't> {
     Unbound { conn: u32, why: &'a Unbound },
     Served(ShownConn<'a, 't>),
 }
 
-/// What a connection that was bound has served.
+/// What a bound connection served.
 #[derive(Clone, Copy)]
 pub struct ShownConn<'a, 't> {
     /// Its calls, with their history.
     pub calls: &'a Conn<'t>,
-    /// What arrived.
+    /// Its arrivals.
     pub arrivals: &'a Arrivals<'t>,
-    /// The policy that judged what arrived, with the name under which it is declared.
+    /// The policy that judged the arrivals, with the name under which it is declared.
     pub judge: Option<Judge<'a>>,
-    /// The numbers that were given back, and named no held block.
+    /// The returned numbers that named no held block.
     pub not_held: &'a [u64],
-    /// What its visits came to, where connections got rounds by their weights.
+    /// The account of its visits, if connections got rounds by their weights.
     pub rounds: Option<Rounds>,
 }
 
 /// The account of a connection's visits.
 #[derive(Clone, Copy)]
 pub struct Rounds {
-    /// How much the connection counts among others, 1 to 100.
+    /// The connection's weight among others, 1 to 100.
     pub weight: u64,
     pub account: Account,
 }

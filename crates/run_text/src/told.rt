@@ -1,4 +1,4 @@
-//! The whole text of what a run tells, and its counts.
+//! The whole report of a run, and its counts.
 
 ghost use Rattle.std.specs.Prelude.{◌≡◌, ◌++◌, ◌∷◌, [], ℕ, List, All, IfOk, OnOk, false, map, true};
 ghost use Rattle.std.specs.List.{AllZip, concat, flat_map};
@@ -22,17 +22,17 @@ use std::alloc::Global;
 use std::thread::Threads;
 use telemetry::{Totals, totals_are_counts};
 
-/// What a run tells, with the counts of its lines.
+/// The report of a run, with the counts of its lines.
 #[derive(Drop)]
 pub struct RunText {
-    /// What is told, in parts that follow one another: one for each connection, and a last one of all of them.
+    /// The text in parts, in order: one for each connection, and a last one for all of them.
     pub parts: Vec<Bytes>,
     pub totals: Totals,
 }
 
-/// What a run tells, of connections in this order, behind them the accounts of their visits, and then the counts of all
-/// lines. What is long of each connection is made, and its lines are counted, in a thread of its own, where one can be
-/// made. The only error is `Memory`.
+/// The report of connections in this order, followed by the accounts of their visits and the counts of all lines. The
+/// long parts of each connection are made, and its lines counted, in a thread of its own if one can be started. The
+/// only error is `Memory`.
 pub fn run_text<R: Threads + Sync>(
     rt: &R,
     alloc: Global,
@@ -53,9 +53,8 @@ pub fn run_text<R: Threads + Sync>(
     Ok(RunText { parts, totals })
 }
 
-/// How often each happened that the lines of a run tell, of connections in this order. The text of the run is there, but
-/// isn't made. The lines of each connection are counted in a thread of its own, where one can be made. The only error is
-/// `Memory`.
+/// The counts of the lines of a run's report, of connections in this order, without making its text. The lines of
+/// each connection are counted in a thread of its own if one can be started. The only error is `Memory`.
 pub fn run_counts<R: Threads + Sync>(
     rt: &R,
     alloc: Global,
@@ -75,7 +74,7 @@ pub fn run_counts<R: Threads + Sync>(
     Ok(totals)
 }
 
-// The counts of each connection, by what was made of it.
+// The counts of each connection, from what was made of it.
 fn counts_of(
     alloc: Global,
     shown: &[Shown<'_, '_>],
@@ -95,7 +94,7 @@ fn counts_of(
     Ok(counts)
 }
 
-// The counts of a connection, by what was made of it, if memory was found.
+// The counts of a connection, from what was made of it; `Memory` if that ran out of memory.
 fn counts_in(made: Result<Made, Memory>) -> Result<Totals, Memory>
     ensures { (making : Making) → IfOk made (IsMade making) → IfOk result (HaveCounted making.counted) }
 {
@@ -106,7 +105,7 @@ fn counts_in(made: Result<Made, Memory>) -> Result<Totals, Memory>
     Ok(counts)
 }
 
-// What is told of each connection, behind what was made of it. Its counts are put with those of the others.
+// The text of each connection, from its prefix. Collects the counts of all.
 fn texts_of(
     alloc: Global,
     shown: &[Shown<'_, '_>],
@@ -130,7 +129,8 @@ fn texts_of(
     Ok(texts)
 }
 
-// What is told of a connection, behind what was made of it, if memory was found. Its counts are put with those of others.
+// The text of a connection, from its prefix; `Memory` if that ran out of memory. Adds its counts to those of the
+// others.
 fn text_of(
     shown: &Shown<'_, '_>,
     made: Result<Made, Memory>,
@@ -147,7 +147,7 @@ fn text_of(
     whole_text(shown, text)
 }
 
-// What is told of a connection, behind its front.
+// The text of a connection, from its prefix.
 fn whole_text(shown: &Shown<'_, '_>, front: Bytes) -> Result<Bytes, Memory>
     requires tellable { IsTellable shown.now }
     requires front { front ≡ front_of true shown.now }
@@ -158,7 +158,7 @@ fn whole_text(shown: &Shown<'_, '_>, front: Bytes) -> Result<Bytes, Memory>
     Ok(text)
 }
 
-// Appends to the front of a connection what else is told of it.
+// Appends to the prefix of a connection's text the remainder of it.
 fn append_rest(out: &mut Bytes, shown: &Shown<'_, '_>) -> Result<(), Memory>
     requires tellable { IsTellable shown.now }
     requires front { out.old ≡ front_of true shown.now }
@@ -170,8 +170,8 @@ fn append_rest(out: &mut Bytes, shown: &Shown<'_, '_>) -> Result<(), Memory>
     }
 }
 
-// Appends to the front of a connection that was bound: false reclaims, what is left of its stream, and which calls
-// stand.
+// Appends to the prefix of a bound connection's text: false reclaims, the remainder of its stream, and its pending
+// calls.
 fn append_served(out: &mut Bytes, served: &ShownConn<'_, '_>) -> Result<(), Memory>
     requires tellable { IsTellableConn served.now }
     requires front { out.old ≡ served_front served.now }
@@ -183,7 +183,7 @@ fn append_served(out: &mut Bytes, served: &ShownConn<'_, '_>) -> Result<(), Memo
     append_standing_calls(out, served.calls)
 }
 
-// What is told behind all connections: the accounts of those that have one, and the counts of all lines.
+// The text after all connections: the accounts of those that have one, and the counts of all lines.
 fn ending(alloc: Global, shown: &[Shown<'_, '_>], totals: &Totals) -> Result<Bytes, Memory>
     ensures text { IfOk result (λ text. text ≡ flat_map rounds_of shown.now ++ totals_text totals.now) }
     ensures totals { IfOk result (λ _. IsTotals totals.now) }
@@ -227,7 +227,7 @@ fn append_rounds_line(out: &mut Bytes, conn: u32, rounds: Rounds) -> Result<(), 
     out.append(b"\n")
 }
 
-// Appends the numbers of an account as further words.
+// Appends the numbers of an account, each after a space.
 fn append_numbers(out: &mut Bytes, rounds: Rounds) -> Result<(), Memory>
     ensures { OnOk result (out.new ≡ out.old ++ rounds_words rounds) }
 {

@@ -1,4 +1,4 @@
--- The definitions on texts, chains and policies at fault that were worked out by hand.
+-- The definitions on faulty texts, chains and policies worked out by hand.
 use Rattle.std.proofs.Common.{◌≡◌, ◌<◌, true, false, pos, List, [], codes, Some, None, refl, inl, inr, sym, ◌∙◌, ◌≤◌, subst, arith, lit≤, lit<}
 use Rattle.engine_core.specs.Chains.{Refusal, Refuses, detaches_none, full, no_place, no_such, order_of, taken}
 use Rattle.engine_core.specs.Chains as chains
@@ -72,7 +72,7 @@ operator =
     member (codes "conn") (integer (pos 1))
     (member (codes "steps") (array (item (string (codes "3 detach x")) no_items)) no_members)
 
--- a number out of its range is the first fault of a scenario with all its keys
+-- a number out of range is the first fault of a scenario with all its keys
 abbrev other_format : Members
 other_format =
     member (codes "mrpc") (integer (pos 2)) (member (codes "schema") (string []) (member (codes "service") (string (codes "S")) no_members))

@@ -1,5 +1,5 @@
--- The definitions on scenarios that were worked out by hand: a client on connection 1 linked with an echo on connection
--- 2, and entries that are at fault.
+-- The definitions on scenarios worked out by hand: a client on connection 1 linked with an echo on connection 2, and
+-- faulty entries.
 use Rattle.std.proofs.Common.{◌≡◌, ℕ, true, false, pos, List, [], ◌∷◌, codes, Some, None, refl, arith, lit≤, lit<}
 use Rattle.mrpc_table.specs.declared.words.Decimal.TheVariants.{Small}
 use Rattle.app_program.specs.declared.program.ProgramLine.TheVariants as program
@@ -47,7 +47,7 @@ all =
     (member (codes "mrpc") (integer (pos 1))
     (member (codes "schema") (string schema) (member (codes "service") (string (codes "S")) no_members))))
 
--- ---- what it says
+-- ---- its meaning
 
 its_keys : has_keys top_keys all ≡ true
 its_keys = refl
@@ -115,7 +115,7 @@ client_says = record {
 link_says : LinkSays link (record { a = 1; b = 2 })
 link_says = record { a = refl; b = refl }
 
--- ---- entries at fault
+-- ---- faulty entries
 
 abbrev bad_program : Members
 bad_program =
@@ -134,7 +134,7 @@ no_service = scenarios.wrong_keys refl refl
 no_list : TopAgainst (member (codes "app") (integer (pos 1)) all) Key
 no_list = scenarios.wrong_keys refl refl
 
--- a service that is no full name
+-- a service that isn't a full name
 no_full_name : TopAgainst (member (codes "service") (string (codes "1S")) no_members) Name
 no_full_name = scenarios.no_name (λ h. cc) refl
 
@@ -165,7 +165,7 @@ again = applications.is_linked 1 (0, lit< tt, refl) (0, lit< tt, refl) refl
 
 -- ---- texts
 
--- what this text says as TOML
+-- this text as TOML
 its_text : parse_document (codes "mrpc = 1\n[[app]]\nconn = 2\nrole = \"echo\"\n")
     ≡ Some (member (codes "app") (array (item (table echo) no_items))
     (member (codes "mrpc") (integer (pos 1)) no_members))

@@ -1,4 +1,4 @@
--- Lists of keys that are the same key by key.
+-- Lists of keys that are equal key by key.
 use Rattle.std.proofs.Common.{◌≡◌, List, ◌∷◌, ◌∙◌, ap}
 use Rattle.scenario_values.specs.Values.{TheKey}
 

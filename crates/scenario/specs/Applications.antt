@@ -1,4 +1,4 @@
--- What stands against applications and links of a scenario (this project's own).
+-- The faults of applications and links of a scenario (this project's own).
 use Rattle.std.specs.Prelude.{◌≡◌, ℕ, ◌+◌, ◌*◌, ◌<◌, true, false, List, [], ◌∷◌, ◌++◌, map, flat_map, sum, codes, Contains, Option, Some, option_and_then, option_to_list, None}
 use Rattle.mrpc_table.specs.Names.{IsName}
 use Rattle.mrpc_table.specs.declared.policy_lines.RuleReason.{RuleReason}
@@ -27,13 +27,13 @@ use Rattle.scenario.specs.declared.form.Kind.TheVariants as kind
 use Rattle.scenario.specs.declared.form.RoleWord.{RoleWord}
 use Rattle.scenario.specs.declared.form.RoleWord.TheVariants as role
 
--- a schema is a proto text without a fault, and this is its table
+-- the schema is a proto text without a fault, and this is its table
 pub record HasTable (text : List ℕ) (T : Table) : Type 0 where
   pub file : File
   pub reads : IsTextOf text file
   pub resolves : Resolves file T
 
--- what a text has for a table; none where it has none
+-- the table that a text defines; none if it defines none
 abbrev pub IsTableIn : List ℕ → Option Table → Type 0
 IsTableIn text (Some T) = HasTable text T
 IsTableIn text None = (T : Table) → HasTable text T → ⊥
@@ -79,7 +79,7 @@ ends_of link = number_in end_a link ∷ number_in end_b link ∷ []
 abbrev pub all_ends : List Members → List ℕ
 all_ends entries = flat_map ends_of entries
 
--- ---- chains
+-- attachments from a position on, each of a declared policy under its own name
 
 -- attachments from a place on, each of a declared policy under its own name
 abbrev pub AreAttached : List NamedPolicy → ℕ → List (List ℕ) → List Op → Type 0
@@ -89,7 +89,7 @@ AreAttached declared at (name ∷ names) (o ∷ ops) =
     × AreAttached declared (at + 1) names ops
 AreAttached declared at _ _ = ⊥
 
--- one of the steps is refused, and those before it aren't
+-- the chain refuses one of the operations, and none before it
 pub record FirstRefused (start : Chain) (ops : List Op) (refusal : Refusal) : Type 0 where
   pub front : List Op
   pub step : Op
@@ -108,13 +108,13 @@ role_submits _ lines = 0
 abbrev pub submissions : Members → ℕ
 submissions ms = role_submits (role_of ms) (program_of ms)
 
--- each call of a client counts twice, for its reply, with as many loads as a call has at most
+-- the loads of all calls: each call of a client counts twice, for its reply, with the maximum loads of one call
 abbrev pub work : Members → List Members → ℕ
 work all entries = 2 * sum (map submissions entries) * number_in loads all
 
 -- ---- applications
 
--- the lines of a policy that is named fail under an application's own schema, for this reason
+-- the lines of a named policy fail under an application's own schema, for this reason
 pub record FailsUnderOwn (all app : Members) (IsNamed : List ℕ → Type 0) (why : RuleReason) : Type 0 where
   pub text : List ℕ
   pub own : text_at (codes "schema") app ≡ Some text
@@ -125,8 +125,8 @@ pub record FailsUnderOwn (all app : Members) (IsNamed : List ℕ → Type 0) (wh
   pub named : IsNamed (name_of policy)
   pub fails : LinesFail (kind_of policy) table policy why
 
--- a reason stands against an application behind others; the declared policies are those of the scenario, read under its
--- table
+-- an application that follows these has a fault with this reason; the declared policies are the scenario's, read
+-- under its table
 pub data AppAgainst (all : Members) (declared : List NamedPolicy) (before : List Members) (ms : Members)
     (reason : ScenarioReason) : Type 0 where
   wrong_keys : has_app_keys (role_of ms) ms ≡ false → reason ≡ Key → AppAgainst all declared before ms reason
@@ -145,23 +145,23 @@ pub data AppAgainst (all : Members) (declared : List NamedPolicy) (before : List
       → AppAgainst all declared before ms reason
   is_refused : (ops : List Op) (refusal : Refusal) → AreAttached declared 0 (chain_of ms) ops
       → FirstRefused empty_chain ops refusal → reason ≡ of_refusal refusal → AppAgainst all declared before ms reason
-  -- what is delivered is judged by access policies alone
+  -- only access policies judge deliveries
   is_other : (policy : Members) → Contains (policy_tables all) policy → text_at (codes "inbound") ms ≡ Some (name_of policy)
       → (kind_of policy ≡ Some kind.Access → ⊥) → reason ≡ OtherKind → AppAgainst all declared before ms reason
-  -- it stands in no link
+  -- the connection is in no link
   is_alone : (Contains (all_ends (link_tables all)) (conn_of ms) → ⊥) → reason ≡ Pair → AppAgainst all declared before ms reason
   too_much : MAX_WORK < work all (before ++ ms ∷ []) → reason ≡ Work → AppAgainst all declared before ms reason
 
 -- ---- links
 
--- a client is on the connection
+-- the application on the connection is a client
 pub record IsClientOn (entries : List Members) (number : ℕ) : Type 0 where
   pub app : Members
   pub there : Contains entries app
   pub on : conn_of app ≡ number
   pub client : role_of app ≡ Some role.Client
 
--- a reason stands against a link behind others
+-- a link that follows these has a fault with this reason
 pub data LinkAgainst (all : Members) (before : List Members) (ms : Members) (reason : ScenarioReason) : Type 0 where
   wrong_keys : has_keys link_keys ms ≡ false → reason ≡ Key → LinkAgainst all before ms reason
   out_of_range : (r : TheRange) → Contains link_ranges r → is_out ms r ≡ true → reason ≡ Number
@@ -169,7 +169,7 @@ pub data LinkAgainst (all : Members) (before : List Members) (ms : Members) (rea
   no_app : (number : ℕ) → Contains (ends_of ms) number → (Contains (conns_of (app_tables all)) number → ⊥) → reason ≡ Unknown
       → LinkAgainst all before ms reason
   to_itself : number_in end_a ms ≡ number_in end_b ms → reason ≡ Pair → LinkAgainst all before ms reason
-  -- an end stands in an earlier link
+  -- an end is in an earlier link
   is_linked : (number : ℕ) → Contains (ends_of ms) number → Contains (all_ends before) number → reason ≡ Pair
       → LinkAgainst all before ms reason
   no_client : ((number : ℕ) → Contains (ends_of ms) number → IsClientOn (app_tables all) number → ⊥) → reason ≡ Pair

@@ -1,4 +1,4 @@
--- The keys of each table of a scenario, with the defaults and the ranges of its numbers (this project's own).
+-- The keys of each table of a scenario, with the defaults and ranges of its numbers (this project's own).
 use Rattle.std.specs.Prelude.{ℕ, ◌-◌, ◌^◌, Bool, true, false, ◌&&◌, ◌||◌, if◌then◌else◌, List, [], ◌∷◌, codes, Option, Some, None}
 use Rattle.std.specs.Str.{bytes_eq}
 use Rattle.mrpc_table.specs.declared.limits.TheConstants.{MIN_HEAP, MAX_HEAP, MAX_LOADS}
@@ -11,7 +11,7 @@ use Rattle.scenario.specs.declared.form.Kind.TheVariants as kind
 use Rattle.scenario.specs.declared.form.RoleWord.{RoleWord}
 use Rattle.scenario.specs.declared.form.RoleWord.TheVariants as role
 
--- ---- the whole
+-- ---- the top table
 
 abbrev pub top_keys : List TheKey
 top_keys =
@@ -37,7 +37,7 @@ top_ranges = format ∷ loads ∷ workers ∷ []
 abbrev pub tenant_keys : List TheKey
 tenant_keys = a_key (codes "name") shape.Text ∷ a_key (codes "per") shape.Integer ∷ []
 
--- milliseconds of a window or a rate
+-- milliseconds of a window or of the period of a rate
 abbrev pub per : TheRange
 per = a_range (codes "per") 1 1 86400000
 

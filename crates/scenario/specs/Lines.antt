@@ -1,4 +1,4 @@
--- What programs and operators say by their lines, beyond each line by itself (this project's own).
+-- What the lines of programs and operators mean together (this project's own).
 use Rattle.std.specs.Prelude.{◌≡◌, ℕ, ◌<◌, Bool, false, true, List, ◌∷◌, ◌++◌, count_by, Option, Some, None}
 use Rattle.scenario_lines.specs.Lines.{form_of}
 use Rattle.scenario_lines.specs.Steps.{StepSays}
@@ -13,7 +13,7 @@ use Rattle.scenario.specs.declared.form.RoleWord.TheVariants as role
 
 -- ---- programs
 
--- whose program an application has; an echo has none
+-- the role whose program an application has; an echo has none
 abbrev pub program_role : RoleWord → Option ProgramRole
 program_role role.Client = Some of.Client
 program_role role.Server = Some of.Server
@@ -23,7 +23,7 @@ abbrev pub is_submit : Option LineForm → Bool
 is_submit (Some line.Submit) = true
 is_submit _ = false
 
--- how many calls a client's program submits
+-- the number of calls that a client's program submits
 abbrev pub submits_of : List (List ℕ) → ℕ
 submits_of lines = count_by (λ text. is_submit (form_of of.Client text)) lines
 
@@ -34,13 +34,13 @@ count_in (text.Attach count at name policy) = count
 count_in (text.Detach count name) = count
 count_in (text.Upgrade count name policy) = count
 
--- the policy that a step names, if it names one
+-- the policy of a step, if it has one
 abbrev pub policy_in : StepText → Option (List ℕ)
 policy_in (text.Attach count at name policy) = Some policy.now
 policy_in (text.Detach count name) = None
 policy_in (text.Upgrade count name policy) = Some policy.now
 
--- a step line that says something comes behind another one, with a lesser count; lines at fault between them say nothing
+-- a valid step line follows another one with a greater count; faulty lines between them don't count
 pub record Falls (lines : List (List ℕ)) : Type 0 where
   pub front : List (List ℕ)
   pub between : List (List ℕ)

@@ -1,4 +1,4 @@
--- What stands against the operators of a scenario (this project's own).
+-- The faults of operators of a scenario (this project's own).
 use Rattle.std.specs.Prelude.{◌≡◌, ℕ, ◌<◌, true, false, List, length, codes, Contains, Some}
 use Rattle.mrpc_table.specs.declared.policy_lines.RuleReason.{RuleReason}
 use Rattle.mrpc_table.specs.Lines.{in_64_bits}
@@ -26,7 +26,7 @@ use Rattle.scenario.specs.declared.fault.ScenarioReason.TheVariants.{Key, Number
 abbrev pub steps_of : Members → List (List ℕ)
 steps_of ms = texts_at (codes "steps") ms
 
--- what a step line says, by its form
+-- what a step line means, by its form
 abbrev pub IsAttach : StepText → ℕ → List ℕ → List ℕ → Type 0
 IsAttach (text.Attach count d name policy) at n p = (d ≡ in_64_bits at) × (name.now ≡ n) × (policy.now ≡ p)
 IsAttach _ at n p = ⊥
@@ -39,7 +39,7 @@ abbrev pub IsUpgrade : StepText → List ℕ → List ℕ → Type 0
 IsUpgrade (text.Upgrade count name policy) n p = (name.now ≡ n) × (policy.now ≡ p)
 IsUpgrade _ n p = ⊥
 
--- a step line is this step of a chain, with a declared policy; its position is any number
+-- a step line means this operation on a chain, with a declared policy; its position is any number
 pub data Steps (declared : List NamedPolicy) (line : List ℕ) (o : Op) : Type 0 where
   attaches : (told : StepText) (at : ℕ) (name : List ℕ) (p : NamedPolicy) → StepSays line told
       → IsAttach told at name p.name → Contains declared p → o ≡ op.Attach at name p.name p.policy → Steps declared line o
@@ -56,8 +56,8 @@ pub record NamesPolicy (lines : List (List ℕ)) (name : List ℕ) : Type 0 wher
   pub says : StepSays line told
   pub policy : policy_in told ≡ Some name
 
--- a reason stands against an operator behind others; the declared policies are those of the scenario, read under its
--- table
+-- an operator that follows these has a fault with this reason; the declared policies are the scenario's, read under
+-- its table
 pub data OperatorAgainst (all : Members) (declared : List NamedPolicy) (before : List Members) (ms : Members)
     (reason : ScenarioReason) : Type 0 where
   wrong_keys : has_keys operator_keys ms ≡ false → reason ≡ Key → OperatorAgainst all declared before ms reason
@@ -75,7 +75,7 @@ pub data OperatorAgainst (all : Members) (declared : List NamedPolicy) (before :
   in_policy : (app : Members) (why : RuleReason) → Contains (app_tables all) app → conn_of app ≡ conn_of ms
       → FailsUnderOwn all app (NamesPolicy (steps_of ms)) why → reason ≡ of_rule why
       → OperatorAgainst all declared before ms reason
-  -- the first refused step, on the chain that the application's attachments and the steps before it made
+  -- the first refused operation, on the chain after the application's attachments and the operations before it
   is_refused : (app : Members) (attached ops : List Op) (start : Chain) (refusal : Refusal) → Contains (app_tables all) app
       → conn_of app ≡ conn_of ms → AreAttached declared 0 (chain_of app) attached
       → Changing empty_chain attached start → Each (Steps declared) (steps_of ms) ops → FirstRefused start ops refusal

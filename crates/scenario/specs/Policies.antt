@@ -1,4 +1,4 @@
--- What tenants and policies of a scenario say, and what stands against them (this project's own).
+-- What tenants and policies of a scenario mean, and their faults (this project's own).
 use Rattle.std.specs.Prelude.{◌≡◌, ℕ, ◌≤◌, Bool, true, false, List, map, length, codes, Contains, Option, Some, position, slice_get}
 use Rattle.std.specs.Str.{bytes_eq}
 use Rattle.mrpc_table.specs.Names.{IsName}
@@ -30,7 +30,7 @@ names_of entries = map name_of entries
 
 -- ---- tenants
 
--- a reason stands against a tenant behind others
+-- a tenant that follows these has a fault with this reason
 pub data TenantAgainst (before : List Members) (ms : Members) (reason : ScenarioReason) : Type 0 where
   wrong_keys : has_keys tenant_keys ms ≡ false → reason ≡ Key → TenantAgainst before ms reason
   out_of_range : is_out ms per ≡ true → reason ≡ Number → TenantAgainst before ms reason
@@ -44,13 +44,13 @@ pub record TenantSays (ms : Members) (t : Tenant) : Type 0 where
 
 -- ---- policies
 
--- of the lines of a policy, this is the reason of the first one at fault, under a table
+-- the first faulty line of a policy has this reason, under a table
 abbrev pub LinesFail : Option Kind → Table → Members → RuleReason → Type 0
 LinesFail (Some kind.Access) T ms why = (line : ℕ) × access_faults.IsFirstFault T (texts_at (codes "rules") ms) line why
 LinesFail (Some kind.Redact) T ms why = (line : ℕ) × redact_faults.IsFirstFault T (texts_at (codes "clears") ms) line why
 LinesFail _ T ms why = ⊥
 
--- a reason stands against a policy behind others, under the scenario's table
+-- a policy that follows these has a fault with this reason, under the scenario's table
 pub data PolicyAgainst (T : Table) (tenants before : List Members) (ms : Members)
     (reason : ScenarioReason) : Type 0 where
   wrong_keys : has_policy_keys (kind_of ms) ms ≡ false → reason ≡ Key → PolicyAgainst T tenants before ms reason
@@ -69,7 +69,7 @@ pub data PolicyAgainst (T : Table) (tenants before : List Members) (ms : Members
 abbrev pub holds : Members → Bool
 holds ms = bytes_eq (word_at (codes "mode") ms) (codes "hold")
 
--- a policy of an entry, read under a table
+-- the policy of an entry, read under a table
 abbrev pub KindSays : Table → List Members → Members → Policy → Type 0
 KindSays T tenants ms (policy.Access p) =
     (kind_of ms ≡ Some kind.Access) × access_texts.IsTextOf T (texts_at (codes "rules") ms) p

@@ -1,4 +1,4 @@
--- The reasons of faults: their words, their order, and those of lines, of policies and of chains among them.
+-- The reasons of faults: their words, their order, and those of lines, policies and chains among them.
 use Rattle.std.specs.Prelude.{ℕ, Bool, nat_le, if◌then◌else◌, List, codes, Option, Some, None, ◌≤◌}
 use Rattle.mrpc_table.specs.declared.policy_lines.RuleReason.{RuleReason}
 use Rattle.mrpc_table.specs.declared.policy_lines.RuleReason.TheVariants as rule
@@ -30,7 +30,7 @@ reason_word OtherKind = codes "OtherKind"
 reason_word Pair = codes "Pair"
 reason_word Work = codes "Work"
 
--- of several reasons at one entry the first in this order counts
+-- the rank of a reason: of several at one entry the one with the lowest counts
 abbrev pub order_of : ScenarioReason → ℕ
 order_of Toml = 0
 order_of Key = 1
@@ -54,22 +54,22 @@ order_of Work = 17
 abbrev pub first_of : ScenarioReason → ScenarioReason → ScenarioReason
 first_of one other = if nat_le (order_of one) (order_of other) then one else other
 
--- the first of two reasons, where there are any
+-- the first of two optional reasons
 abbrev pub earlier : Option ScenarioReason → Option ScenarioReason → Option ScenarioReason
 earlier None other = other
 earlier (Some one) None = Some one
 earlier (Some one) (Some other) = Some (first_of one other)
 
--- the reason, where it holds
+-- the reason, if it holds
 abbrev pub reason_if : Bool → ScenarioReason → Option ScenarioReason
 reason_if holds reason = if holds then Some reason else None
 
--- of the reasons that stand, this is the first
+-- of the reasons that hold, this is the first
 pub record IsFirstReason (Stands : ScenarioReason → Type 0) (reason : ScenarioReason) : Type 0 where
   pub stands : Stands reason
   pub first : (other : ScenarioReason) → Stands other → order_of reason ≤ order_of other
 
--- the first of the reasons that stand, or none
+-- the first of the reasons that hold, or none
 abbrev pub IsSoFar : (ScenarioReason → Type 0) → Option ScenarioReason → Type 0
 IsSoFar Stands None = (reason : ScenarioReason) → Stands reason → ⊥
 IsSoFar Stands (Some reason) = IsFirstReason Stands reason
@@ -90,7 +90,7 @@ of_rule rule.Known = Known
 of_rule rule.Path = Path
 of_rule rule.Default = Default
 
--- the reasons for which a chain refuses a step
+-- the reasons for which a chain refuses an operation
 abbrev pub of_refusal : Refusal → ScenarioReason
 of_refusal (no_such name) = NoSuch
 of_refusal (taken name) = Taken
@@ -98,7 +98,7 @@ of_refusal (no_place at) = At
 of_refusal (full entries) = ChainFull
 of_refusal (other_kind name) = OtherKind
 
--- ---- entries: the whole, and then list by list
+-- ---- entries: the top table, and then list by list
 
 abbrev pub list_of_entry : Entry → ℕ
 list_of_entry entry.Top = 0

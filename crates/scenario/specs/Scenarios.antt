@@ -1,4 +1,4 @@
--- What a scenario says as a plan, entry by entry, and what stands against it (this project's own).
+-- What a scenario means as a plan, entry by entry, and its faults (this project's own).
 use Rattle.std.specs.Prelude.{◌≡◌, ◌⊎◌, ◌↔◌, IsUtf8, ℕ, ◌+◌, ◌<◌, true, false, List, ◌∷◌, ◌++◌, map, length, codes, All, Contains, Option, Some, None, option_to_list, position, slice_get}
 use Rattle.std.specs.Str.{bytes_eq}
 use Rattle.mrpc_table.specs.Names.{IsFullName}
@@ -38,12 +38,12 @@ use Rattle.scenario.specs.declared.fault.ScenarioReason.{ScenarioReason}
 use Rattle.scenario.specs.declared.fault.ScenarioReason.TheVariants.{Toml, Key, Number, Name, Schema}
 use Rattle.scenario.specs.declared.form.RoleWord.TheVariants as role
 
--- ---- what stands against a scenario
+-- ---- the faults of a scenario
 
 abbrev pub schema_of : Members → List ℕ
 schema_of all = word_at (codes "schema") all
 
--- a reason stands against the keys of the whole
+-- the keys of the top table have a fault with this reason
 pub data TopAgainst (all : Members) (reason : ScenarioReason) : Type 0 where
   wrong_keys : has_keys top_keys all ≡ false → reason ≡ Key → TopAgainst all reason
   out_of_range : (r : TheRange) → Contains top_ranges r → is_out all r ≡ true → reason ≡ Number → TopAgainst all reason
@@ -56,13 +56,13 @@ pub record AreDeclared (all : Members) (declared : List NamedPolicy) : Type 0 wh
   pub of_schema : HasTable (schema_of all) table
   pub policies : Each (PolicySays table (tenant_tables all)) (policy_tables all) declared
 
--- an entry stands in a list behind others, and its number counts from 1
+-- an entry follows these in its list, and this is its number, from 1
 pub record StandsAt (entries before : List Members) (ms : Members) (number : ℕ) : Type 0 where
   pub back : List Members
   pub whole : entries ≡ before ++ ms ∷ back
   pub is_number : number ≡ length before + 1
 
--- a reason stands against an entry of a scenario
+-- an entry of a scenario has a fault with this reason
 pub data IsAgainst (all : Members) (at : Entry) (reason : ScenarioReason) : Type 0 where
   top : at ≡ entry.Top → TopAgainst all reason → IsAgainst all at reason
   tenant : (before : List Members) (ms : Members) (n : ℕ) → at ≡ entry.Tenant n → StandsAt (tenant_tables all) before ms n
@@ -79,21 +79,21 @@ pub data IsAgainst (all : Members) (at : Entry) (reason : ScenarioReason) : Type
       → StandsAt (operator_tables all) before ms n → AreDeclared all declared → OperatorAgainst all declared before ms reason
       → IsAgainst all at reason
 
--- entries go by their lists and then by their numbers
+-- entries are ordered by their lists and then by their numbers
 abbrev pub IsBefore : Entry → Entry → Type 0
 IsBefore a b =
     (list_of_entry a < list_of_entry b)
     ⊎ ((list_of_entry a ≡ list_of_entry b) × (number_of_entry a < number_of_entry b))
 
--- the first entry at fault, with its first reason
+-- the first faulty entry, with its first reason
 pub record IsFirst (all : Members) (at : Entry) (reason : ScenarioReason) : Type 0 where
   pub stands : IsAgainst all at reason
   pub first_entry : (other : Entry) (q : ScenarioReason) → IsBefore other at → IsAgainst all other q → ⊥
   pub first_reason : (q : ScenarioReason) → order_of q < order_of reason → IsAgainst all at q → ⊥
 
--- ---- what it says
+-- ---- its meaning
 
--- where the policy of a name stands, counted from 0
+-- the index of the policy with a name
 abbrev pub place_of : Members → List ℕ → Option ℕ
 place_of all name = position (λ ms. bytes_eq (name_of ms) name) (policy_tables all)
 
@@ -104,13 +104,13 @@ RoleSays ms (plan_role.Server program) =
     (role_of ms ≡ Some role.Server) × Each (LineSays program_of_role.Server (number_in heap ms)) (program_of ms) program
 RoleSays ms plan_role.Echo = role_of ms ≡ Some role.Echo
 
--- a policy that an application or an operator of its connection names, by its place
+-- a policy that an application or an operator of its connection names, by its index
 pub data IsUsed (all ms : Members) (place : ℕ) : Type 0 where
   by_app : (name : List ℕ) → Contains (names_in ms) name → place_of all name ≡ Some place → IsUsed all ms place
   by_step : (name : List ℕ) (operator : Members) → Contains (operator_tables all) operator → conn_of operator ≡ conn_of ms
       → NamesPolicy (steps_of operator) name → place_of all name ≡ Some place → IsUsed all ms place
 
--- a policy that is used is read again under an own table
+-- a policy that is used is read again under an application's own table
 pub record OwnPolicySays (all : Members) (own : Table) (p : OwnPolicy) : Type 0 where
   pub entry : Members
   pub there : slice_get (policy_tables all) p.place ≡ Some entry
@@ -143,7 +143,7 @@ pub record LinkSays (ms : Members) (link : Pair) : Type 0 where
   pub a : link.a ≡ number_in end_a ms
   pub b : link.b ≡ number_in end_b ms
 
--- what a step line says, with the place of its policy
+-- what a step line means, with the index of its policy
 abbrev pub StepLineSays : Members → StepText → StepLine → Type 0
 StepLineSays all told (step.Attach at name place) =
     (policy : List ℕ) × IsAttach told at name policy × (place_of all policy ≡ Some place)
@@ -158,7 +158,7 @@ pub record OperatorSays (all ms : Members) (operator : Operator) : Type 0 where
   pub conn : operator.conn ≡ conn_of ms
   pub steps : Each (StepSays all) (steps_of ms) operator.steps
 
--- nothing stands against the scenario, and it says this plan
+-- the scenario has no fault, and means this plan
 pub record Says (all : Members) (plan : Plan) : Type 0 where
   pub free : (at : Entry) (reason : ScenarioReason) → IsAgainst all at reason → ⊥
   pub service : plan.service ≡ word_at (codes "service") all
@@ -178,7 +178,7 @@ pub record Says (all : Members) (plan : Plan) : Type 0 where
 abbrev pub IsTableText : List ℕ → Members → Type 0
 IsTableText text all = IsUtf8 text × (parse_document text ≡ Some all)
 
--- a text says a plan
+-- a text means a plan
 pub record IsTextOf (text : List ℕ) (plan : Plan) : Type 0 where
   pub all : Members
   pub parsed : IsTableText text all
@@ -189,7 +189,7 @@ pub data HasFault (text : List ℕ) (at : Entry) (reason : ScenarioReason) : Typ
   no_toml : ((all : Members) → IsTableText text all → ⊥) → at ≡ entry.Top → reason ≡ Toml → HasFault text at reason
   in_entry : (all : Members) → IsTableText text all → IsFirst all at reason → HasFault text at reason
 
--- what a fault says of a text; running out of memory says nothing
+-- what a fault states of a text; running out of memory states nothing
 abbrev pub IsFaultOf : List ℕ → ScenarioFault → Type 0
 IsFaultOf text (fault.At at reason) = HasFault text at reason
 IsFaultOf text fault.Memory = Unit {0}

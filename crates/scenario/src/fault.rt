@@ -1,4 +1,4 @@
-//! Why a text is no scenario.
+//! Why a text isn't a scenario.
 
 ghost use Rattle.std.specs.Prelude.{◌≡◌};
 ghost use Rattle.scenario.specs.Reasons.{number_of_entry, order_of, reason_word};
@@ -6,49 +6,49 @@ ghost use Rattle.scenario.specs.declared.fault.ScenarioFault.TheVariants.{Memory
 
 use mrpc_table::Memory;
 
-/// What is wrong with an entry. Of several reasons at one entry, the first of this list counts.
+/// The reason of a fault in an entry. Of several reasons at one entry, the first one of this list counts.
 #[derive(Clone, Copy)]
 pub enum ScenarioReason {
-    /// The text is no TOML.
+    /// The text isn't TOML.
     Toml,
-    /// A key that the entry doesn't have, or that it lacks, or whose value is of another type; a `kind`, `role` or `mode`
-    /// that is none.
+    /// A key that entries of this kind don't have, a missing key, a value of another type, or a `kind`, `role` or
+    /// `mode` that isn't known.
     Key,
-    /// A number out of its range, counts of steps that fall, too many stores, or a 17th tenant.
+    /// A number out of range, counts of steps that decrease, too many stores, or a 17th tenant.
     Number,
-    /// A word that is no name where a name stands.
+    /// A word that isn't a name, where a name is required.
     Name,
-    /// What the entry declares stands before.
+    /// An earlier entry declares the same.
     Known,
-    /// What the entry uses isn't declared.
+    /// The entry uses what isn't declared.
     Unknown,
-    /// A schema that has no table.
+    /// A schema without a table.
     Schema,
-    /// A method or a field that the table lacks, or an OP that doesn't go with the field.
+    /// A method or a field that the table lacks, or an OP that doesn't suit the field.
     Path,
-    /// A line behind the default of a policy, or no default.
+    /// A line after the default of a policy, or no default.
     Default,
     /// A line of a policy, a program or an operator that is of no form.
     Word,
-    /// A place that isn't one of the application's heap.
+    /// A place outside the application's heap.
     Place,
     /// No entry of the chain has the name.
     NoSuch,
-    /// An entry of the chain has the name.
+    /// An entry of the chain has the name already.
     Taken,
     /// The chain has no such position.
     At,
-    /// The chain has 8 entries.
+    /// The chain has 8 entries already.
     ChainFull,
-    /// The policy is of another kind than the entry's, or than `inbound` takes.
+    /// The policy is of another kind than the entry's, or isn't an access policy at `inbound`.
     OtherKind,
-    /// Connections that don't stand in pairs with a client in each.
+    /// Connections that aren't paired by links with a client at one end.
     Pair,
-    /// The submissions so far could load too much.
+    /// The calls submitted so far could load too much.
     Work,
 }
 
-/// Which entry is at fault, by its number in its list, from 1.
+/// The faulty entry, by its number in its list, from 1.
 #[derive(Clone, Copy)]
 pub enum Entry {
     Top,
@@ -62,17 +62,17 @@ pub enum Entry {
 /// Why no scenario was read.
 #[derive(Clone, Copy)]
 pub enum ScenarioFault {
-    /// The first entry at fault, with its first reason.
+    /// The first faulty entry, with its first reason.
     At {
         entry: Entry,
         reason: ScenarioReason,
     },
-    /// No memory was found.
+    /// Out of memory.
     Memory,
 }
 
 impl ScenarioReason {
-    /// The word that names the reason in a printed fault.
+    /// The word that names the reason in the text of a fault.
     pub fn word(self) -> &'static str
         ensures { result.now ≡ reason_word self }
     {
@@ -98,7 +98,7 @@ impl ScenarioReason {
         }
     }
 
-    /// Its place in the order: of two reasons the one with the lower number counts.
+    /// Its rank: of two reasons the one with the lower number counts.
     pub fn order(self) -> u8
         ensures { result ≡ order_of self }
     {
@@ -107,7 +107,7 @@ impl ScenarioReason {
 }
 
 impl Entry {
-    /// The number that a printed fault has: that of the entry in its list, from 1, and 0 of the whole.
+    /// The number in the text of a fault: that of the entry in its list, from 1, or 0 for the whole scenario.
     pub fn number(self) -> u64
         ensures { result ≡ number_of_entry self }
     {

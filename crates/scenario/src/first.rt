@@ -7,7 +7,7 @@ use crate::fault::ScenarioReason;
 use mrpc_table::RuleReason;
 use scenario_lines::LineReason;
 
-/// The reason, where it holds.
+/// The reason, if it holds.
 pub fn reason_if(holds: bool, reason: ScenarioReason) -> Option<ScenarioReason>
     ensures { result ≡ reason_if holds reason }
 {
@@ -55,7 +55,7 @@ pub fn of_rule(reason: RuleReason) -> ScenarioReason
     }
 }
 
-/// The first of a reason, where there is one, and another.
+/// The first of an optional reason and another one.
 pub fn earliest(first: Option<ScenarioReason>, reason: ScenarioReason) -> ScenarioReason
     ensures { earlier first (Some reason) ≡ Some result }
 {

@@ -1,4 +1,4 @@
-//! What the words of `kind` and `role` name.
+//! The meanings of the words at `kind` and `role`.
 
 /// The kind of a policy.
 #[derive(Clone, Copy)]

@@ -1,4 +1,4 @@
-//! The keys of each table of a scenario, with the defaults and the ranges of its numbers.
+//! The keys of each table of a scenario, with the defaults and ranges of its numbers.
 
 ghost use Rattle.std.specs.Prelude.{◌≡◌, Some, codes};
 ghost use Rattle.toml.specs.View.{table_view};
@@ -14,52 +14,52 @@ use run_plan::{MAX_CONNECTIONS, MAX_RING, MAX_WEIGHT, MAX_WORKERS};
 use scenario_values::{Key, Range, Shape, has_keys, word_at};
 use toml::Table;
 
-// The longest window, and the longest time of a rate, in milliseconds.
+// The longest window, and the longest period of a rate, in milliseconds.
 const DAY: u64 = 86_400_000;
 
-/// The number of the format.
+/// The version of the format.
 pub fn format() -> Range
     ensures { result ≡ keys.format }
 {
     Range::new("mrpc", 1, 1, 1)
 }
 
-/// How many loads one call makes at most.
+/// The maximum number of loads of one call.
 pub fn loads() -> Range
     ensures { result ≡ keys.loads }
 {
     Range::new("loads", 1024, 1, MAX_LOADS as u64)
 }
 
-/// How many threads serve the connections.
+/// The number of threads that serve the connections.
 pub fn workers() -> Range
     ensures { result ≡ keys.workers }
 {
     Range::new("workers", 2, 1, MAX_WORKERS)
 }
 
-/// The milliseconds of a window or of a rate.
+/// The milliseconds of a window or of the period of a rate.
 pub fn per() -> Range
     ensures { result ≡ keys.per }
 {
     Range::new("per", 1, 1, DAY)
 }
 
-/// How many calls a rate lets pass in its time.
+/// The number of calls that a rate lets pass in its period.
 pub fn amount() -> Range
     ensures { result ≡ keys.amount }
 {
     Range::new("amount", 1, 1, 1_000_000)
 }
 
-/// How many calls a rate lets pass at once.
+/// The number of calls that a rate lets pass at once.
 pub fn burst() -> Range
     ensures { result ≡ keys.burst }
 {
     Range::new("burst", 1, 1, 1_000_000)
 }
 
-/// How many tickets of a window pass.
+/// The number of tickets in a window that pass.
 pub fn cap() -> Range
     ensures { result ≡ keys.cap }
 {
@@ -73,28 +73,28 @@ pub fn conn() -> Range
     Range::new("conn", 0, 1, MAX_CONNECTIONS as u64)
 }
 
-/// The words of a heap that is stored to.
+/// The size in words of a heap that the application stores to.
 pub fn heap() -> Range
     ensures { result ≡ keys.heap }
 {
     Range::new("heap", 64, MIN_HEAP as u64, MAX_HEAP as u64)
 }
 
-/// The words of a heap where messages are delivered.
+/// The size in words of a heap where messages are delivered.
 pub fn receive() -> Range
     ensures { result ≡ keys.receive }
 {
     Range::new("receive", 1024, MIN_HEAP as u64, MAX_HEAP as u64)
 }
 
-/// How many items a ring holds.
+/// The capacity of a ring, in items.
 pub fn ring() -> Range
     ensures { result ≡ keys.ring }
 {
     Range::new("ring", 4, 1, MAX_RING)
 }
 
-/// How much a connection counts among those that are ready.
+/// The weight of a connection among ready ones.
 pub fn weight() -> Range
     ensures { result ≡ keys.weight }
 {
@@ -129,7 +129,7 @@ fn conn_key() -> Key
     Key::required("conn", Shape::Integer)
 }
 
-/// Whether the whole has its keys.
+/// Whether the top table has its keys.
 pub fn has_top_keys(all: &Table) -> bool
     ensures { result ≡ has_keys keys.top_keys (table_view all.now) }
 {
@@ -156,7 +156,7 @@ pub fn has_tenant_keys(entry: &Table) -> bool
     has_keys(&[name_key(), Key::required("per", Shape::Integer)], entry)
 }
 
-/// The kind of a policy; none where it names none.
+/// The kind of a policy; `None` if its word isn't a kind.
 pub fn kind_of(entry: &Table) -> Option<Kind>
     ensures { result ≡ keys.kind_of (table_view entry.now) }
 {
@@ -221,7 +221,7 @@ pub fn holds(entry: &Table) -> bool
     is_word(word_at(entry, "mode"), b"hold")
 }
 
-/// What an application does; none where its word names nothing.
+/// The role of an application; `None` if its word isn't a role.
 pub fn role_of(entry: &Table) -> Option<RoleWord>
     ensures { result ≡ keys.role_of (table_view entry.now) }
 {

@@ -1,10 +1,11 @@
-//! Scenarios: what a run is told, as a TOML table.
+//! Scenarios: the configuration of a run, as a TOML table.
 //!
-//! `specs/Scenarios.antt` says what a table says as a plan, entry by entry, and what stands against each entry; of that
-//! the first counts. The crate has these definitions, the reasons of faults, the keys of entries, the table of a schema
-//! and tenants; `scenario_reader` reads whole texts. It stands on the kit's `toml`, on `proto_schema` and
-//! `schema_resolve` for schemas, on `policy_access` and `policy_redact` for the lines of policies, on `scenario_values`
-//! for what stands at keys, on `scenario_lines` for the lines of programs and operators, and on `run_plan`.
+//! `specs/Scenarios.antt` defines which plan a table means, entry by entry, and which faults each entry has; the
+//! first fault counts. The crate has these definitions, the reasons of faults, the keys of entries, the table of a
+//! schema, and tenants; `scenario_reader` reads whole texts. The crate depends on the kit's `toml`, on `proto_schema`
+//! and `schema_resolve` for schemas, on `policy_access` and `policy_redact` for the lines of policies, on
+//! `scenario_values` for values at keys, on `scenario_lines` for the lines of programs and operators, and on
+//! `run_plan`.
 #![tactic(auto)]
 
 mod fault;

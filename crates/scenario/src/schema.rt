@@ -10,12 +10,12 @@ use proto_schema::{alone_is_ordered, read_proto};
 use schema_resolve::{ResolveFault, resolve};
 use std::alloc::Global;
 
-// The longest text that is read, one byte more. No memory has a text as long.
+// One byte more than the longest text that is read. Such a text fits no machine.
 const TOO_LONG: usize = 1 << 62;
 
-/// The table of a proto text; none where the text has a fault.
+/// The table of a proto text; `None` if the text has a fault.
 pub fn table_in(alloc: Global, text: &[u8]) -> Result<Option<Table>, Memory>
-    // A table is the one that the text has; with none, it has none.
+    // A table is the one that the text defines; `None` if it defines none.
     ensures table { IfOk result (λ t. IsTableIn text.now t) }
     // It is valid.
     ensures valid { IfOk result (λ t. IfSome t IsValid) }

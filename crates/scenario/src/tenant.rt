@@ -11,7 +11,7 @@ use scenario_values::word_at;
 use std::alloc::Global;
 use toml::Table;
 
-/// The tenant that an entry says.
+/// The tenant that an entry declares.
 pub fn tenant_in(alloc: Global, entry: &Table) -> Result<Tenant, Memory>
     ensures { IfOk result (TenantSays (table_view entry.now)) }
 {

@@ -1,4 +1,4 @@
--- The first of the reasons that stand, as it is joined from those of the parts.
+-- The first of the reasons that hold, from those of the parts.
 use Rattle.std.proofs.Common.{◌≡◌, ◌⊎◌, ℕ, ◌≤◌, nat_le, Bool, true, false, if◌then◌else◌, Option, Some, None, inl, inr, refl, sym, ap, subst, arith}
 use Rattle.std.specs.Bool.{Decides}
 use Rattle.std.proofs.lemmas.Bool.{leb-true, leb-false}
@@ -39,7 +39,7 @@ pub flagged : (P : Type 0) (q : ScenarioReason) (b : Bool) → (b ≡ true → P
 flagged P q true given back = record { stands = (given refl, refl); first = λ other s. (let e = ap order_of s.1 in omega (arith, e)) }
 flagged P q false given back = λ other s. absurd (let e = back s.0 in cc)
 
--- one of two reasons stands
+-- one of two reasons holds
 abbrev pub Either : (ScenarioReason → Type 0) → (ScenarioReason → Type 0) → ScenarioReason → Type 0
 Either A B q = A q ⊎ B q
 
@@ -51,7 +51,7 @@ pub same_reasons : (A C : ScenarioReason → Type 0) (x : Option ScenarioReason)
 same_reasons A C None a f g = λ q c. a q (g q c)
 same_reasons A C (Some s) a f g = record { stands = f s a.stands; first = λ q c. a.first q (g q c) }
 
--- a reason that stands where a test says so
+-- a reason that holds exactly if a test passes
 abbrev pub Flag : Type 0 → ScenarioReason → ScenarioReason → Type 0
 Flag P q x = P × (x ≡ q)
 

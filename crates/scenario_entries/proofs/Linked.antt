@@ -1,4 +1,4 @@
--- The first reason against a link is what the tests of the code say.
+-- The first reason of faults in a link is what the tests of the code return.
 use Rattle.std.proofs.Common.{◌≡◌, ◌⊎◌, ℕ, ◌==◌, ◌≤◌, not, true, false, ◌&&◌, ◌||◌, List, [], ◌∷◌, map, Contains}
 use Rattle.std.proofs.Common.{Some, refl, sym, ap, ◌∙◌, subst, inl, inr, arith}
 use Rattle.std.specs.Bool.{Decides}

@@ -1,4 +1,4 @@
--- A chain as the code keeps it takes and refuses the steps that the chain of an engine does.
+-- A chain as the code keeps it applies and refuses the operations that an engine's chain does.
 use Rattle.std.proofs.Common.{◌≡◌, ℕ, zero, suc, ◌+◌, ◌<◌, ◌≤◌, ◌^◌, Bool, true, false, if◌then◌else◌, List, [], ◌∷◌}
 use Rattle.std.proofs.Common.{◌++◌, length, get_or, map, take, drop, set, Contains, Option, Some, None, refl, sym, ap}
 use Rattle.std.proofs.Common.{◌∙◌, subst, inl, inr, arith}
@@ -63,7 +63,7 @@ there_map f (y ∷ ys) x h = elim (there_cases y ys x h) [
   | inr more ↦ there_more (f y) (map f ys) (f x) (there_map f ys x more)
 ]
 
--- of items with distinct names there is one of each name
+-- of items with distinct names, each name has one item
 distinct_same : {X : Type 0} (f : X → List ℕ) (xs : List X) (x y : X) → AreDistinct (map f xs) → Contains xs x → Contains xs y → f x ≡ f y → x ≡ y
 distinct_same f [] x y d h k e = absurd (let within = h.1 in omega (arith, within))
 distinct_same f (z ∷ zs) x y d h k e = elim (there_cases z zs x h) [
@@ -93,7 +93,7 @@ large_by false at e = refl
 pub large_is : (at : ℕ) → Large ≡ in_64_bits at → 2 ^ 64 ≤ at
 large_is at e = ltb-false at (2 ^ 64) (large_by (nat_lt at (2 ^ 64)) at e)
 
--- ---- steps
+-- ---- operations
 
 pub none_from : (o : Option ℕ) → is_some o ≡ false → o ≡ None
 none_from None e = refl

@@ -1,4 +1,4 @@
--- A text has one first fault at most, and none where it says a plan.
+-- A text has at most one first fault, and none if it means a plan.
 use Rattle.std.proofs.Common.{◌≡◌, ◌⊎◌, ℕ, zero, suc, List, refl, sym, ap, ◌∙◌, subst, inl, inr}
 use Rattle.std.proofs.lemmas.Bool.{cases_order}
 use Rattle.std.proofs.lemmas.Option.{same_Some}
@@ -11,7 +11,7 @@ use Rattle.scenario.specs.declared.fault.Entry.TheVariants as entry
 use Rattle.scenario.specs.declared.fault.ScenarioReason.{ScenarioReason}
 use Rattle.scenario.specs.declared.fault.ScenarioReason.TheVariants as reason
 
--- a reason is known by its place in the order
+-- a reason is determined by its rank
 placed : ℕ → ScenarioReason
 placed zero = reason.Toml
 placed (suc zero) = reason.Key
@@ -56,7 +56,7 @@ placed_at reason.Work = refl
 same_reason : (q r : ScenarioReason) → order_of q ≡ order_of r → q ≡ r
 same_reason q r e = sym (placed_at q) ∙ ap placed e ∙ placed_at r
 
--- an entry is known by its list and its number
+-- an entry is determined by its list and its number
 entry_at : ℕ → ℕ → Entry
 entry_at zero n = entry.Top
 entry_at (suc zero) n = entry.Tenant n
@@ -78,7 +78,7 @@ same_entry : (a b : Entry) → list_of_entry a ≡ list_of_entry b → number_of
 same_entry a b lists numbers =
     sym (entry_is a) ∙ ap (λ n. entry_at n (number_of_entry a)) lists ∙ ap (entry_at (list_of_entry b)) numbers ∙ entry_is b
 
--- of two entries one comes first, or they are one
+-- of two entries one comes first, or they are equal
 which : (a b : Entry) → (a ≡ b) ⊎ (IsBefore a b ⊎ IsBefore b a)
 which a b = elim (cases_order (list_of_entry a) (list_of_entry b)) [
   | inl lists ↦ elim (cases_order (number_of_entry a) (number_of_entry b)) [

@@ -1,4 +1,4 @@
--- The numbers of a table are in their ranges, or one of them is out.
+-- The numbers of a table are in range, or one of them is out of range.
 use Rattle.std.proofs.Common.{◌≡◌, true, false, List, [], ◌∷◌, Contains, ap, ◌∙◌, inl, inr}
 use Rattle.std.specs.List.{list_all}
 use Rattle.std.proofs.lemmas.Bool.{and_cases, and_parts, both_ways, cases_Bool, not-true, not_from_false}

@@ -1,4 +1,4 @@
--- What is read of entries, one by one and list by list (this project's own).
+-- The results of reading entries, one by one and list by list (this project's own).
 use Rattle.std.specs.Prelude.{◌≡◌, ℕ, List, map, String, Result, Ok, Err}
 use Rattle.std.specs.BTreeMap.{BTreeMap}
 use Rattle.std.specs.Borrow.{Bor}
@@ -17,17 +17,17 @@ use Rattle.scenario.specs.declared.fault.ScenarioReason.{ScenarioReason}
 abbrev pub views : List (Bor (BTreeMap (String Global) Value)) → List Members
 views entries = map (λ t. table_view t.now) entries
 
--- nothing stands against an entry, and it says this; or this is the first reason against it
+-- the entry has no fault, and means this; or this is the first reason of its faults
 abbrev pub IsEntryRead : {X : Type 0} → (ScenarioReason → Type 0) → (X → Type 0) → Result X ScenarioReason → Type 0
 IsEntryRead Against Says (Ok x) = ((q : ScenarioReason) → Against q → ⊥) × Says x
 IsEntryRead Against Says (Err q) = IsFirstReason Against q
 
--- nothing stands against any of the entries
+-- none of the entries has a fault
 abbrev pub AreFree : (List Members → Members → ScenarioReason → Type 0) → List Members → Type 0
 AreFree Against entries =
     (before : List Members) (ms : Members) (n : ℕ) (q : ScenarioReason) → StandsAt entries before ms n → Against before ms q → ⊥
 
--- nothing stands against the entries before this one, whose first reason is this
+-- no entry before this one has a fault, and this is the first reason of its own
 pub record IsFirstEntry (Against : List Members → Members → ScenarioReason → Type 0) (entries : List Members) (n : ℕ)
     (reason : ScenarioReason) : Type 0 where
   pub before : List Members
@@ -36,7 +36,7 @@ pub record IsFirstEntry (Against : List Members → Members → ScenarioReason �
   pub free : AreFree Against before
   pub first : IsFirstReason (Against before ms) reason
 
--- a fault is that of the first entry at fault
+-- a fault is that of the first faulty entry
 abbrev pub IsFaultIn : (ℕ → Entry) → (List Members → Members → ScenarioReason → Type 0) → List Members → ScenarioFault → Type 0
 IsFaultIn place Against entries (fault.At at reason) = (n : ℕ) × (at ≡ place n) × IsFirstEntry Against entries n reason
 IsFaultIn place Against entries fault.Memory = Unit {0}

@@ -17,7 +17,7 @@ seen_of chain = map (λ e. (e.name, e.policy)) chain.entries
 abbrev pub IsKept : List ChainEntry → Chain → Type 0
 IsKept entries chain = kept_of entries ≡ seen_of chain
 
--- the chain took the step, and these are its entries then; or this is why it refuses it
+-- the chain applied the operation and has these entries now, or refuses it for this reason
 abbrev pub IsChanged : Chain → Op → List ChainEntry → Option ScenarioReason → Type 0
 IsChanged chain op entries None = (after : Chain) × Changes chain op after × IsKept entries after
 IsChanged chain op entries (Some q) = (refusal : Refusal) × Refuses chain op refusal × (q ≡ of_refusal refusal)

@@ -1,4 +1,4 @@
-//! The chain of a connection, as steps make it.
+//! The chain of a connection, as operations change it.
 
 ghost use Rattle.std.specs.Prelude.{◌≡◌, ◌<◌, ◌≤◌, [], ℕ, List, IfOk, IfSome, MatchOption, position};
 ghost use Rattle.std.specs.Str.{bytes_eq};
@@ -12,7 +12,7 @@ use mrpc_table::{Decimal, Memory};
 use scenario::ScenarioReason;
 use std::alloc::Global;
 
-// An entry, with the policy as the scenario's table reads it.
+// An entry, with the policy as read under the scenario's table.
 #[derive(Clone, Copy)]
 pub(crate) struct ChainEntry<'a> {
     name: &'a [u8],
@@ -25,7 +25,7 @@ pub struct Chain<'a> {
     entries: Vec<ChainEntry<'a>>,
 }
 
-// The position of a chain of so many entries, if it has it.
+// The position as an index into a chain with `entries` entries; `None` if it is out of range.
 fn place_in(position: Decimal, entries: usize) -> Option<usize>
     ensures place { (at : ℕ) → position ≡ in_64_bits at
         → MatchOption result (entries < at) (λ p. (p ≡ at) × (at ≤ entries)) }
@@ -44,7 +44,7 @@ fn place_in(position: Decimal, entries: usize) -> Option<usize>
 }
 
 impl<'a> Chain<'a> {
-    /// No entry.
+    /// An empty chain.
     pub fn new(alloc: Global) -> Chain<'a>
         ensures { result.entries.items ≡ [] }
     {
@@ -53,7 +53,7 @@ impl<'a> Chain<'a> {
         }
     }
 
-    /// The same entries.
+    /// A copy of the chain.
     pub fn copied(&self, alloc: Global) -> Result<Chain<'a>, Memory>
         ensures { IfOk result (λ chain. chain.entries.items ≡ self.now.entries.items) }
     {
@@ -62,14 +62,14 @@ impl<'a> Chain<'a> {
         })
     }
 
-    // Where the entry of a name stands.
+    // The position of the entry with a name.
     fn place(&self, name: &[u8]) -> Option<usize>
         ensures { result ≡ position (λ e. bytes_eq e.name.now name.now) self.now.entries.items }
     {
         self.entries.iter().position(|entry| entry.name == name)
     }
 
-    /// Attaches a policy at a position, or tells why the chain refuses it; then it is as before.
+    /// Attaches a policy at a position. If the chain refuses it, returns the reason and leaves the chain unchanged.
     pub fn attach(
         &mut self,
         position: Decimal,
@@ -94,7 +94,8 @@ impl<'a> Chain<'a> {
         Ok(None)
     }
 
-    /// Takes the entry of a name from the chain, or tells why the chain refuses it; then it is as before.
+    /// Removes the entry with a name from the chain. If the chain refuses it, returns the reason and leaves the chain
+    /// unchanged.
     pub fn detach(&mut self, name: &[u8]) -> Option<ScenarioReason>
         ensures { (chain : TheChain) → IsKept self.old.entries.items chain
             → IsChanged chain (op.Detach name.now) self.new.entries.items result }
@@ -108,7 +109,8 @@ impl<'a> Chain<'a> {
         }
     }
 
-    /// Puts another policy into the entry of a name, or tells why the chain refuses it; then it is as before.
+    /// Replaces the policy of the entry with a name. If the chain refuses it, returns the reason and leaves the chain
+    /// unchanged.
     pub fn upgrade(&mut self, name: &[u8], policy: &'a Policy) -> Option<ScenarioReason>
         ensures { (chain : TheChain) (label : List ℕ) → IsChain chain → IsKept self.old.entries.items chain
             → IsChanged chain (op.Upgrade name.now label policy.entry.now) self.new.entries.items result }

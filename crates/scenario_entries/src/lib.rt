@@ -1,10 +1,10 @@
-//! The entries of a scenario as they are read: links, list by list; programs; the chain of a connection, as steps make
-//! it; and the laws of faults.
+//! The entries of a scenario as they are read: links, list by list; programs; the chain of a connection, as
+//! operations change it; and the laws of faults.
 //!
-//! A list gives what all of its entries say, where nothing stands against any of them, or the first entry at fault
-//! with its first reason. `specs/Entries.antt` says this of any list, in terms of what `scenario` says of single entries.
-//! The crate stands on `scenario` and what that stands on. The reader of whole scenarios uses one contract: what a list
-//! gives is what its entries say, and its fault is their first.
+//! Reading a list returns what all of its entries mean, or the first faulty entry with its first reason.
+//! `specs/Entries.antt` defines this for any list, from what `scenario` defines for single entries. The crate depends
+//! on `scenario` and its dependencies. The reader of whole scenarios uses one contract: the result of a list is what
+//! its entries mean, and its fault is their first.
 #![tactic(auto)]
 
 mod chain;

@@ -22,14 +22,14 @@ use scenario_values::are_within;
 use std::alloc::Global;
 use toml::Table;
 
-/// The connection of an application, and what the application does.
+/// The connection of an application, and the application's role.
 #[derive(Clone, Copy)]
 pub struct Port {
     pub conn: u64,
     pub role: RoleWord,
 }
 
-// Whether an application of this role is a client.
+// Whether a role is that of a client.
 fn is_client(role: RoleWord) -> bool
     ensures { result ≡ is_client role }
 {
@@ -43,7 +43,7 @@ pub fn has_port(ports: &[Port], conn: u64) -> bool
     ports.iter().any(|port| port.conn == conn)
 }
 
-// Whether a client is on the connection.
+// Whether the application on the connection is a client.
 fn has_client(ports: &[Port], conn: u64) -> bool
     ensures { result ≡ has_client ports.now conn }
 {
@@ -52,14 +52,14 @@ fn has_client(ports: &[Port], conn: u64) -> bool
         .any(|port| port.conn == conn && is_client(port.role))
 }
 
-// Whether the connection is at an end of one of the links.
+// Whether the connection is an end of one of the links.
 fn is_linked(links: &[Pair], conn: u64) -> bool
     ensures { result ≡ is_linked links.now conn }
 {
     links.iter().any(|link| u64::from(link.a) == conn || u64::from(link.b) == conn)
 }
 
-// The first reason against a link of two connections behind others, among these applications.
+// The first reason of faults in a link of two connections that follows other links, among these applications.
 fn link_reason(ports: &[Port], before: &[Pair], a: u64, b: u64) -> Option<ScenarioReason>
     ensures { result ≡ link_first ports.now before.now a b }
 {
@@ -72,7 +72,7 @@ fn link_reason(ports: &[Port], before: &[Pair], a: u64, b: u64) -> Option<Scenar
     )
 }
 
-// Whether the ends of a link are in their range.
+// Whether the ends of a link are in range.
 fn has_ends(entry: &Table) -> bool
     ensures { result ≡ list_all (is_within_at (table_view entry.now)) link_ranges }
 {
@@ -93,7 +93,7 @@ fn second_end(entry: &Table) -> u64
     end_b().number(entry)
 }
 
-// The link of an entry behind others, among these applications, or the first reason against it.
+// The link of an entry that follows other links, among these applications, or the first reason of its faults.
 fn read_link(ports: &[Port], before: &[Pair], entry: &Table) -> Result<Pair, ScenarioReason>
     ensures { (all : Members) (links : List Members) → Each IsPortOf (app_tables all) ports.now
         → Each LinkSays links before.now

@@ -14,7 +14,7 @@ use scenario::RoleWord;
 use scenario_lines::{LineReason, ProgramReader, ProgramRole};
 use std::alloc::Global;
 
-/// The program of a role that the lines are, for a heap of so many words, or the first reason against them.
+/// The program of the lines for a role and a heap with this many words, or the first reason of their faults.
 pub fn read_program(
     alloc: Global,
     role: ProgramRole,
@@ -41,7 +41,7 @@ fn is_submission(line: &[u8]) -> bool
     }
 }
 
-// How many of the lines of a client have the form of a submission.
+// The number of a client's lines that have the form of a submission.
 fn submissions_in(lines: &[&[u8]]) -> u64
     ensures count { result ≡ submits_of (map (λ t. t.now) lines.now) }
     ensures few { result ≤ length lines.now }
@@ -55,7 +55,7 @@ fn submissions_in(lines: &[&[u8]]) -> u64
     count
 }
 
-/// How many calls the lines of an application submit.
+/// The number of calls that an application's lines submit.
 pub fn submissions(role: RoleWord, lines: &[&[u8]]) -> u64
     ensures count { result ≡ role_submits (Some role) (map (λ t. t.now) lines.now) }
     ensures few { result ≤ length lines.now }

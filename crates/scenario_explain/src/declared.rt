@@ -12,7 +12,7 @@ use scenario_values::{items_at, tables_at, word_at};
 use std::alloc::Global;
 use toml::Table;
 
-// The tenants and the policies of a scenario; none where one of them is at fault.
+// The tenants and the policies of a scenario; `None` if one of them is at fault.
 pub(crate) fn declared_in(alloc: Global, all: &Table) -> Result<Option<Declarations>, Memory> {
     match table_in(alloc, word_at(all, "schema"))? {
         Some(table) => free_of_fault(declared_under(alloc, &table, all)),
@@ -30,7 +30,7 @@ fn declared_under(alloc: Global, table: &Schema, all: &Table) -> Result<Declarat
     read_policies(alloc, table, declared, policies.as_slice())
 }
 
-// What was read; none where an entry is at fault.
+// The declarations; `None` if an entry is at fault.
 fn free_of_fault(
     read: Result<Declarations, ScenarioFault>,
 ) -> Result<Option<Declarations>, Memory> {
@@ -41,13 +41,13 @@ fn free_of_fault(
     }
 }
 
-// The declared policy of a name; none where none has it.
+// The declared policy with this name; `None` if there is none.
 pub(crate) fn named_in<'a>(declared: &'a Declarations, name: &[u8]) -> Option<&'a NamedPolicy> {
     declared.policies().get(declared.policy(name)?)
 }
 
-// Of each policy of a scenario, whether an application or the steps of an operator name it; of none where what is
-// declared is at fault.
+// For each policy of a scenario, whether an application or a step of an operator names it; empty if the
+// declarations are at fault.
 pub(crate) fn marks_of(alloc: Global, site: &Site<'_>) -> Result<Vec<bool>, Memory> {
     match declared_in(alloc, site.all)? {
         Some(declared) => marks_in(alloc, &declared, site.entry),

@@ -1,4 +1,4 @@
-//! What the entries of a scenario take: their keys, with what may stand at each.
+//! The keys of a scenario's entries, and the values that each takes.
 
 use mrpc_table::{MAX_HEAP, MAX_LOADS, MIN_HEAP};
 use run_plan::{MAX_CONNECTIONS, MAX_RING, MAX_WEIGHT, MAX_WORKERS};
@@ -6,24 +6,24 @@ use scenario::keys::{kind_of, role_of};
 use scenario::{Entry, Kind, RoleWord};
 use toml::Table;
 
-// What may stand at a key.
+// The values that a key takes.
 #[derive(Clone, Copy)]
 pub(crate) enum Takes {
     Text,
-    // A number from the first of these to the second.
+    // A number in this range, both ends included.
     Number(u64, u64),
     Flag,
     Texts,
     Tables,
 }
 
-// A key, what may stand at it, and whether it has to be there. Those that have to be come first in a table.
+// A key, the values that it takes, and whether it is required. Required keys come first in a table.
 pub(crate) type Key = (&'static str, Takes, bool);
 
-// The longest window, and the longest time of a rate, in milliseconds.
+// The longest window and the longest period of a rate, in milliseconds.
 const DAY: u64 = 86_400_000;
 
-// How many calls a rate lets pass, at the most.
+// The most calls that a rate lets pass.
 const MOST_CALLS: u64 = 1_000_000;
 
 // The largest cap of a window.
@@ -115,7 +115,7 @@ const OPERATOR: [Key; 2] = [
     ("steps", Takes::Texts, true),
 ];
 
-// The keys of an entry; none where its kind or its role isn't known.
+// The keys of an entry; empty if its kind or its role isn't known.
 pub(crate) fn keys_of(at: Entry, entry: &Table) -> &'static [Key] {
     match at {
         Entry::Top => &TOP,
@@ -146,7 +146,7 @@ fn app_keys(entry: &Table) -> &'static [Key] {
     }
 }
 
-// A key at which one of a few words stands, and these words.
+// A key that takes one of a few words, and these words.
 pub(crate) type Choice = (&'static str, &'static str);
 
 const KIND: Choice = (
@@ -158,7 +158,7 @@ const ROLE: Choice = ("role", "\"client\", \"server\" or \"echo\"");
 
 const MODE: Choice = ("mode", "\"hold\" or \"deny\"");
 
-// The choice that an entry has besides its keys.
+// The choice that an entry has besides its keys; `None` if it has none.
 pub(crate) fn choice_of(at: Entry, entry: &Table) -> Option<Choice> {
     match at {
         Entry::Policy(_) => match kind_of(entry) {

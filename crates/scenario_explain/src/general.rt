@@ -1,4 +1,4 @@
-//! What a reason says of any entry.
+//! Texts for reasons that fit any entry.
 
 use findings::Row;
 use scenario::ScenarioReason;
@@ -43,7 +43,7 @@ const WORK: &str =
     ": too much could be loaded: the calls of the clients up to here, each counted twice for its reply, times loads pass \
      16777216";
 
-// What a reason says, where it isn't known of which part of the entry.
+// The text for a reason if the part of the entry at fault isn't known.
 pub(crate) fn general_words(reason: ScenarioReason) -> &'static str {
     words_for(&WORDS, reason, WORK)
 }

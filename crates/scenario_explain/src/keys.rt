@@ -1,4 +1,4 @@
-//! Keys that are none of an entry's, that are missing, or that have a value of another type.
+//! Keys that the entry doesn't have, keys that are missing, and values of another type.
 
 use crate::forms::{Choice, Key, Takes, choice_of, keys_of};
 use crate::site::{Said, Site, Spot, say_at};
@@ -7,7 +7,7 @@ use mrpc_table::{Bytes, is_word};
 use scenario_words::{Part, say};
 use toml::{Table, Value};
 
-// Says which key of an entry is at fault.
+// Appends which key of an entry is at fault.
 pub(crate) fn say_key<'a>(out: &mut Bytes, site: &Site<'a>) -> Said<'a> {
     let keys = keys_of(site.at, site.entry);
     if !keys.is_empty() {
@@ -21,8 +21,8 @@ pub(crate) fn say_key<'a>(out: &mut Bytes, site: &Site<'a>) -> Said<'a> {
     }
 }
 
-// Says what is wrong with the first key that is none of these, or whose value is of another type, or which of them is
-// missing.
+// Appends the first fault: a key that isn't in the list or whose value has another type, or else a missing
+// key.
 fn say_against<'a>(out: &mut Bytes, keys: &[Key], entry: &'a Table) -> Said<'a> {
     for (name, value) in entry.iter() {
         if let Some(spot) = say_wrong(out, keys, name.as_str(), value)? {
@@ -37,7 +37,7 @@ fn say_against<'a>(out: &mut Bytes, keys: &[Key], entry: &'a Table) -> Said<'a> 
     Ok(None)
 }
 
-// Says that a key is none of these, or that its value is of another type.
+// Appends that a key isn't in the list, or that its value has another type.
 fn say_wrong<'a>(out: &mut Bytes, keys: &[Key], name: &'a str, value: &Value) -> Said<'a> {
     match taken_at(keys, name) {
         Some(takes) if fits(takes, value) => Ok(None),
@@ -46,7 +46,7 @@ fn say_wrong<'a>(out: &mut Bytes, keys: &[Key], name: &'a str, value: &Value) ->
     }
 }
 
-// What may stand at a key; none where it is none of these.
+// The values that a key takes; `None` if it isn't in the list.
 fn taken_at(keys: &[Key], name: &str) -> Option<Takes> {
     for key in keys {
         if is_word(key.0.as_bytes(), name.as_bytes()) {
@@ -66,7 +66,7 @@ fn say_no_key<'a>(out: &mut Bytes, keys: &[Key], name: &'a str) -> Said<'a> {
     Ok(Some(Spot { key: name, line: 0 }))
 }
 
-// Says that a key is missing.
+// Appends that a key is missing.
 fn say_missing(out: &mut Bytes, key: &str) -> Said<'static> {
     say_at(
         out,
@@ -79,7 +79,7 @@ fn say_missing(out: &mut Bytes, key: &str) -> Said<'static> {
     )
 }
 
-// Says what is wrong with the word at a key, where one of a few has to stand.
+// Appends what is wrong with the word at a key that takes one of a few words.
 fn say_choice(out: &mut Bytes, entry: &Table, choice: Choice) -> Said<'static> {
     let (key, choices) = choice;
     let Some(value) = entry.get(key) else {

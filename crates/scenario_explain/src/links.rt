@@ -1,4 +1,4 @@
-//! Connections that don't stand in pairs.
+//! Connections that aren't in a pair.
 
 use crate::site::{Said, Site, say_at};
 use mrpc_table::Bytes;
@@ -7,7 +7,7 @@ use scenario::keys::{conn, end_a, end_b};
 use scenario_words::Part;
 use toml::{Table, Value};
 
-// Says why a connection doesn't stand in a pair.
+// Appends why a connection isn't in a pair.
 pub(crate) fn say_pair(out: &mut Bytes, site: &Site<'_>) -> Said<'static> {
     match site.at {
         Entry::App(_) => {

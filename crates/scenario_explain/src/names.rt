@@ -1,4 +1,4 @@
-//! Names that are none, that are used already, or that nothing has.
+//! Names that are invalid, in use already, or undeclared.
 
 use crate::declared::declared_in;
 use crate::site::{Said, Site, first_on, key_of_name, name_at, names_of, say_at};
@@ -17,10 +17,10 @@ const FULL_FORM: &str = ", which is no full name: names joined by dots, 255 byte
 const FORM: &str =
     ", which is no name: a letter or \"_\", then letters, digits and \"_\", 64 bytes at the most";
 
-// Keys at which a name stands, with how a sentence of each begins.
+// Keys that take a name, with the start of a sentence about each.
 const NAMES: [Row; 2] = [("name", ": name is "), ("tenant", ": tenant is ")];
 
-// Says which name of an entry is none, apart from those in lines.
+// Appends which name of an entry is invalid, except names in lines.
 pub(crate) fn say_name(out: &mut Bytes, site: &Site<'_>) -> Said<'static> {
     match site.at {
         Entry::Top => say_service(out, site.entry),
@@ -37,7 +37,7 @@ fn say_service(out: &mut Bytes, all: &Table) -> Said<'static> {
     say_formless(out, "service", ": service is ", word, FULL_FORM)
 }
 
-// Says that the name of an entry, or that of its tenant, is none.
+// Appends that the name of an entry, or that of its tenant, is invalid.
 fn say_no_name(out: &mut Bytes, entry: &Table) -> Said<'static> {
     for row in &NAMES {
         if let Some(word) = text_at(entry, row.0) {
@@ -49,7 +49,7 @@ fn say_no_name(out: &mut Bytes, entry: &Table) -> Said<'static> {
     Ok(None)
 }
 
-// Says which word that an application has for a policy is no name.
+// Appends which word that an application uses for a policy is no valid name.
 fn say_no_policy_name(out: &mut Bytes, entry: &Table) -> Said<'static> {
     for place in 0..names_of(entry) {
         if let Some(name) = name_at(entry, place) {
@@ -73,7 +73,7 @@ fn say_formless(
     say_at(out, key, &parts)
 }
 
-// Says which entry in front of one declares the same.
+// Appends which earlier entry declares the same.
 pub(crate) fn say_known(out: &mut Bytes, site: &Site<'_>) -> Said<'static> {
     match site.at {
         Entry::Tenant(_) | Entry::Policy(_) => say_known_name(out, site),
@@ -112,7 +112,7 @@ fn say_known_conn(out: &mut Bytes, site: &Site<'_>) -> Said<'static> {
     }
 }
 
-// Says that the entry of a number in the same list has something.
+// Appends that the entry with this number in the same list uses something already.
 fn say_used<'w>(
     out: &mut Bytes,
     at: Entry,
@@ -136,7 +136,7 @@ fn say_used<'w>(
     )
 }
 
-// The number of the first entry of a name, from 1.
+// The number of the first entry with this name, from 1.
 fn first_named(entries: &[Value], name: &[u8]) -> Option<u64> {
     let mut number = 0u64;
     for item in entries {
@@ -150,7 +150,7 @@ fn first_named(entries: &[Value], name: &[u8]) -> Option<u64> {
     None
 }
 
-// Says which name or connection of an entry is that of nothing, apart from those in lines.
+// Appends which name or connection of an entry is undeclared, except those in lines.
 pub(crate) fn say_unknown(alloc: Global, out: &mut Bytes, site: &Site<'_>) -> Said<'static> {
     match site.at {
         Entry::Policy(_) => say_unknown_tenant(out, site),
@@ -177,7 +177,7 @@ fn say_unknown_policy(alloc: Global, out: &mut Bytes, site: &Site<'_>) -> Said<'
     }
 }
 
-// Says which of the names of an application is that of no policy.
+// Appends which name in an application is that of no policy.
 fn say_undeclared(out: &mut Bytes, declared: &Declarations, entry: &Table) -> Said<'static> {
     for place in 0..names_of(entry) {
         if let Some(name) = name_at(entry, place) {
@@ -197,7 +197,7 @@ fn say_unknown_end(out: &mut Bytes, site: &Site<'_>) -> Said<'static> {
     say_no_app(out, site.all, "b", end_b().number(site.entry))
 }
 
-// Says that no application is on a connection, where none is.
+// Appends that no application is on a connection, if there is none.
 fn say_no_app(out: &mut Bytes, all: &Table, key: &'static str, number: u64) -> Said<'static> {
     if first_on(items_at(all, "app"), number).is_some() {
         return Ok(None);

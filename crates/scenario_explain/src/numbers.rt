@@ -9,7 +9,7 @@ use scenario_values::Range;
 use scenario_words::Part;
 use toml::Table;
 
-// Says which number of an entry is out of its range, apart from those in lines.
+// Appends which number of an entry is out of its range, except those in lines.
 pub(crate) fn say_number(out: &mut Bytes, site: &Site<'_>) -> Said<'static> {
     if matches!(site.at, Entry::Tenant(number) if number > MAX_TENANTS as u64) {
         let words = ": a scenario has 16 tenants at the most";
@@ -25,12 +25,12 @@ pub(crate) fn say_number(out: &mut Bytes, site: &Site<'_>) -> Said<'static> {
     Ok(None)
 }
 
-// Whether the number at the key is out of its range. One that isn't there counts as none.
+// Whether the number at the key is out of its range. A missing number is not.
 fn is_out(entry: &Table, key: &'static str, least: u64, most: u64) -> bool {
     Range::new(key, least, least, most).is_out(entry)
 }
 
-// Says which number stands at the key, and from where to where it may go.
+// Appends the number at the key, and its range.
 fn say_range(
     out: &mut Bytes,
     entry: &Table,
@@ -52,7 +52,7 @@ fn say_range(
     )
 }
 
-// The number at the key, if one is there.
+// The number at the key, if there is one.
 fn number_at(entry: &Table, key: &str) -> Part<'static> {
     let Some(value) = entry.get(key) else {
         return Part::Text("");

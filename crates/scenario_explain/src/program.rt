@@ -26,7 +26,8 @@ const COUNTED: &str = " times at the most, a \"spin\" counted twice for each N";
 
 const LAST: &str = ": the one \"reply ADDR\" of a server's program is its last line";
 
-// Says which line of an application's program a reason is of, or what it says of all lines.
+// Appends which line of an application's program has this reason, or the text of the reason if it is about
+// all lines.
 pub(crate) fn say_program(
     out: &mut Bytes,
     site: &Site<'_>,
@@ -61,7 +62,7 @@ fn say_lines(
     say_whole(out, role, reason)
 }
 
-// Whether the first reason against a line is this one.
+// Whether this is the first reason of a line.
 fn is_against(role: ProgramRole, heap: u32, line: &[u8], reason: ScenarioReason) -> bool {
     match read_line(role, heap, line) {
         Ok(_) => false,
@@ -69,7 +70,7 @@ fn is_against(role: ProgramRole, heap: u32, line: &[u8], reason: ScenarioReason)
     }
 }
 
-// What a reason says of a line.
+// The text of a reason about a line.
 fn line_words(role: ProgramRole, heap: u32, reason: ScenarioReason) -> [Part<'static>; 2] {
     match (reason, role) {
         (ScenarioReason::Number, _) => [Part::Text(RANGES), Part::Text("")],
@@ -82,7 +83,7 @@ fn line_words(role: ProgramRole, heap: u32, reason: ScenarioReason) -> [Part<'st
     }
 }
 
-// Says what a reason says of all lines, where it is one of theirs.
+// Appends the text of a reason, if it is about all lines.
 fn say_whole(out: &mut Bytes, role: ProgramRole, reason: ScenarioReason) -> Said<'static> {
     let most = match role {
         ProgramRole::Client => MAX_STORES,

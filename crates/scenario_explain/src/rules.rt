@@ -1,4 +1,4 @@
-//! Lines of policies, under the schema of the scenario or under that of an application.
+//! Lines of policies, under the scenario's schema or that of an application.
 
 ghost use Rattle.mrpc_table.specs.Valid.{IsValid};
 
@@ -22,7 +22,7 @@ struct LineFault {
     reason: ScenarioReason,
 }
 
-// Says which line of a policy a reason is of.
+// Appends which line of a policy has this reason.
 pub(crate) fn say_rules(
     alloc: Global,
     out: &mut Bytes,
@@ -35,7 +35,7 @@ pub(crate) fn say_rules(
     }
 }
 
-// Says which line of which of the policies that an entry names a reason is of, under the schema of an application.
+// Appends which line of a policy that an entry names has this reason under an application's schema.
 pub(crate) fn say_own_rules(
     alloc: Global,
     out: &mut Bytes,
@@ -116,7 +116,7 @@ fn say_own(
     }
 }
 
-// Says which line of a policy a reason is of, under a table, behind the words in front.
+// Appends which line of a policy has this reason under a table, after some words.
 fn say_under(
     alloc: Global,
     out: &mut Bytes,
@@ -138,7 +138,7 @@ fn say_under(
     say_against(out, front, key, &lines, fault, reason)
 }
 
-// The first fault of the lines, which are rules or paths to be cleared.
+// The first fault of the lines, which are rules or paths to clear.
 fn fault_in(
     alloc: Global,
     table: &Schema,
@@ -176,7 +176,7 @@ fn copy_all(alloc: Global, texts: &[Value], lines: &mut Lines) -> Result<(), Mem
     Ok(())
 }
 
-// Says the line at fault and what is wrong with it, where it is at fault for this reason.
+// Appends the line at fault and its fault, if that has this reason.
 fn say_against(
     out: &mut Bytes,
     front: &[Part<'_>],
@@ -195,7 +195,7 @@ fn say_against(
     }
 }
 
-// The line of a number; behind the last line one is missing.
+// The line with this number; past the last line, the words for a missing one.
 fn line_of(lines: &Lines, number: u64) -> Part<'_> {
     match lines.as_slice().get(number.saturating_sub(1) as usize) {
         Some(line) => Part::Line(number, line.as_slice()),

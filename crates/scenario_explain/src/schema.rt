@@ -10,7 +10,7 @@ use schema_resolve::{ResolveFault, resolve};
 use std::alloc::Global;
 use toml::Table;
 
-// The longest schema that is read again, one byte more. No scenario has a text as long.
+// One byte more than the longest schema that is read again. No scenario has a text this long.
 const TOO_LONG: usize = 0x1000_0000;
 
 // The first fault of a schema: its line, and the word of its reason.
@@ -22,7 +22,7 @@ struct SchemaFault {
 
 const MORE: &str = ", of which \"mrpc check\" says more where the schema is a file";
 
-// Says in which line the schema of an entry is at fault.
+// Appends on which line the schema of an entry is at fault.
 pub(crate) fn say_schema(alloc: Global, out: &mut Bytes, entry: &Table) -> Said<'static> {
     match fault_of(alloc, word_at(entry, "schema"))? {
         None => Ok(None),

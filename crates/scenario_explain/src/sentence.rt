@@ -1,4 +1,4 @@
-//! What a reason says of an entry.
+//! Sentences for reasons.
 
 use crate::general::general_words;
 use crate::keys::say_key;
@@ -15,7 +15,7 @@ use scenario::{Entry, ScenarioReason};
 use scenario_words::{Part, say};
 use std::alloc::Global;
 
-// Says what a reason says of an entry, and gives the part of the entry that it is of.
+// Appends the text for a reason at an entry, and returns the part of the entry that it is about.
 pub(crate) fn say_reason<'a>(
     alloc: Global,
     out: &mut Bytes,
@@ -32,7 +32,7 @@ pub(crate) fn say_reason<'a>(
     Ok(Spot { key: "", line: 0 })
 }
 
-// Says what is wrong with the value at one key of an entry, apart from lines.
+// Appends what is wrong with the value at one key of an entry, except lines.
 fn say_of_keys<'a>(
     alloc: Global,
     out: &mut Bytes,
@@ -51,7 +51,7 @@ fn say_of_keys<'a>(
     }
 }
 
-// Says what is wrong with a line of an entry, or with the chain of an application.
+// Appends what is wrong with a line of an entry, or with the chain of an application.
 fn say_of_lines(
     alloc: Global,
     out: &mut Bytes,
@@ -66,7 +66,7 @@ fn say_of_lines(
     }
 }
 
-// Says what is wrong with the program, the chain or the schema of an application.
+// Appends what is wrong with the program, the chain or the schema of an application.
 fn say_of_app(
     alloc: Global,
     out: &mut Bytes,
@@ -82,7 +82,7 @@ fn say_of_app(
     say_chain(out, site.entry, reason)
 }
 
-// Says what is wrong with a line of an operator.
+// Appends what is wrong with a line of an operator.
 fn say_of_operator(
     alloc: Global,
     out: &mut Bytes,

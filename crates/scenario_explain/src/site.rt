@@ -1,4 +1,4 @@
-//! Where a fault stands in the table of a scenario, and what is said of it there.
+//! Where in the table of a scenario a fault is, and its text there.
 
 use mrpc_table::{Bytes, Memory};
 use scenario::Entry;
@@ -14,28 +14,28 @@ pub(crate) struct Site<'a> {
     pub all: &'a Table,
     // Which entry it is.
     pub at: Entry,
-    // Its table; that of the whole stands for itself.
+    // Its table; for the whole scenario the same as `all`.
     pub entry: &'a Table,
 }
 
 // A part of an entry.
 #[derive(Clone, Copy)]
 pub(crate) struct Spot<'a> {
-    // The key at whose value something is wrong; the empty one where that is none.
+    // The key whose value is at fault; empty if there is none.
     pub key: &'a str,
-    // The number of a line in the list there, from 1; 0 where it is none.
+    // The number of a line in the list there, from 1; 0 if there is none.
     pub line: u64,
 }
 
-// The part of a site of which something was said; none where nothing was.
+// The part of a site that a text was appended for; `None` if nothing was appended.
 pub(crate) type Said<'a> = Result<Option<Spot<'a>>, Memory>;
 
-// Says this of the value at a key; of the entry itself where the key is the empty one.
+// Appends these parts for the value at a key, or for the entry itself if the key is empty.
 pub(crate) fn say_at<'a>(out: &mut Bytes, key: &'a str, parts: &[Part<'_>]) -> Said<'a> {
     say_in(out, key, 0, parts)
 }
 
-// Says this of the line of a number in the list at a key.
+// Appends these parts for the line with this number in the list at a key.
 pub(crate) fn say_in<'a>(out: &mut Bytes, key: &'a str, line: u64, parts: &[Part<'_>]) -> Said<'a> {
     match say(out, parts) {
         Ok(()) => Ok(Some(Spot { key, line })),
@@ -44,7 +44,7 @@ pub(crate) fn say_in<'a>(out: &mut Bytes, key: &'a str, line: u64, parts: &[Part
 }
 
 impl<'a> Site<'a> {
-    // The entry of a scenario; none where it has no such entry.
+    // The entry of a scenario; `None` if the scenario doesn't have it.
     pub(crate) fn of(all: &'a Table, at: Entry) -> Option<Site<'a>> {
         let entry = if let Entry::Top = at {
             all
@@ -54,7 +54,7 @@ impl<'a> Site<'a> {
         Some(Site { all, at, entry })
     }
 
-    // The entries in front of it in its list.
+    // The entries before it in its list.
     pub(crate) fn before(&self) -> &'a [Value] {
         let list = items_at(self.all, list_of(self.at));
         let before = self.at.number().saturating_sub(1);
@@ -66,7 +66,7 @@ impl<'a> Site<'a> {
     }
 }
 
-// The text that a value is; the empty one where it is none.
+// The text that a value is; empty if it is no text.
 pub(crate) fn text_of(item: &Value) -> &[u8] {
     match item.as_str() {
         Some(text) => text.as_bytes(),
@@ -74,7 +74,7 @@ pub(crate) fn text_of(item: &Value) -> &[u8] {
     }
 }
 
-// The entry of a number, from 1.
+// The entry with this number, from 1.
 fn entry_at(entries: &[Value], number: u64) -> Option<&Table> {
     entries.get(number.saturating_sub(1) as usize)?.as_table()
 }
@@ -93,8 +93,8 @@ pub(crate) fn first_on(entries: &[Value], conn_number: u64) -> Option<(u64, &Tab
     None
 }
 
-// The name of a policy at a place among those of an application: those of its chain, and then that of the policy that
-// judges what it is delivered.
+// The policy name with this index in an application: first the names of its chain, and then the policy that
+// judges its deliveries.
 pub(crate) fn name_at(entry: &Table, place: usize) -> Option<&[u8]> {
     let chain = items_at(entry, "chain");
     if place < chain.len() {
@@ -103,7 +103,7 @@ pub(crate) fn name_at(entry: &Table, place: usize) -> Option<&[u8]> {
     Some(text_at(entry, "inbound")?.as_bytes())
 }
 
-// How many names of policies an application has, and one more where none judges what it is delivered.
+// The number of policy names of an application, plus one if no policy judges its deliveries.
 pub(crate) fn names_of(entry: &Table) -> usize {
     items_at(entry, "chain").len().saturating_add(1)
 }

@@ -20,7 +20,7 @@ const FORMS: &str =
 
 const LOWER: &str = "its count is lower than that of a line before it";
 
-// Says which line of an operator a reason of lines is of.
+// Appends which line of an operator has this reason.
 pub(crate) fn say_step(out: &mut Bytes, entry: &Table, reason: ScenarioReason) -> Said<'static> {
     let mut number = 0u64;
     let mut most = 0;
@@ -37,8 +37,8 @@ pub(crate) fn say_step(out: &mut Bytes, entry: &Table, reason: ScenarioReason) -
     Ok(None)
 }
 
-// The count of a line, or 0 where it has none, and what stands against it for a reason, behind lines of these counts at
-// the most.
+// The count of a line, or 0 if it has none, and the text of the reason if the line is at fault for it. `most`
+// is the largest count of the lines before.
 fn judged(line: &[u8], most: u64, reason: ScenarioReason) -> (u64, Option<&'static str>) {
     match read_step(line) {
         Err(why) if of_line(why).order() == reason.order() => (0, Some(step_words(reason))),
@@ -72,7 +72,7 @@ pub(crate) fn policy_of(line: &[u8]) -> Option<&[u8]> {
     }
 }
 
-// Says which line of an operator names a policy that there isn't.
+// Appends which line of an operator names a policy that isn't declared.
 pub(crate) fn say_unknown_step(alloc: Global, out: &mut Bytes, site: &Site<'_>) -> Said<'static> {
     match declared_in(alloc, site.all)? {
         Some(declared) => say_undeclared_line(out, &declared, items_at(site.entry, "steps")),
@@ -96,7 +96,7 @@ fn say_undeclared_line(out: &mut Bytes, declared: &Declarations, lines: &[Value]
     Ok(None)
 }
 
-// Says which line of which policy that an operator names a reason is of, under the schema of its application.
+// Appends which line of a policy that an operator names has this reason, under the schema of its application.
 pub(crate) fn say_step_rules(
     alloc: Global,
     out: &mut Bytes,
@@ -115,7 +115,7 @@ fn app_of<'a>(site: &Site<'a>) -> Option<&'a Table> {
     Some(app)
 }
 
-// Says which line of an operator the chain of its connection refuses.
+// Appends which line of an operator the chain of its connection rejects.
 pub(crate) fn say_refused(
     alloc: Global,
     out: &mut Bytes,
@@ -159,7 +159,7 @@ fn say_which(out: &mut Bytes, refused: &Refused<'_>, reason: ScenarioReason) -> 
     say_in(out, "steps", refused.number, &parts)
 }
 
-// Says why the chain of an application is none, or which policy can't judge what it is delivered.
+// Appends why the chain of an application is invalid, or which policy can't judge its deliveries.
 pub(crate) fn say_chain(out: &mut Bytes, entry: &Table, reason: ScenarioReason) -> Said<'static> {
     match reason {
         ScenarioReason::Taken => say_twice(out, items_at(entry, "chain")),
@@ -181,7 +181,7 @@ fn say_no_access(out: &mut Bytes, entry: &Table) -> Said<'static> {
     say_at(out, "inbound", &parts)
 }
 
-// Says which name of a chain stands before already. No more than 8 are entries.
+// Appends which name is in a chain twice. At most 8 names are entries.
 fn say_twice(out: &mut Bytes, names: &[Value]) -> Said<'static> {
     let first = &names[..names.len().min(9)];
     for place in 0..first.len() {

@@ -1,4 +1,4 @@
-//! The first fault of a scenario, in a sentence.
+//! The first fault of a scenario, as a sentence.
 
 ghost use Rattle.std.specs.Prelude.{◌≡◌, IfOk, IfNone, IfSome};
 ghost use Rattle.run_plan.specs.declared.plan.Plan.{Plan};
@@ -17,29 +17,29 @@ use toml::de::Error;
 use toml::{Table, table_from_slice};
 use toml_places::{Sought, Span, place_of};
 
-/// What stands against a scenario.
+/// The first fault of a scenario, and a sentence about it.
 #[derive(Drop)]
 pub struct Told {
     /// The first entry at fault.
     pub at: Entry,
-    /// The first reason against it.
+    /// Its first reason.
     pub reason: ScenarioReason,
-    /// The words for the entry, with which the sentence begins.
+    /// The words for the entry, with which the sentence starts.
     pub front: Bytes,
-    /// The rest of the sentence. What it quotes stands as it is in the text.
+    /// The remainder of the sentence. It quotes the text byte for byte.
     pub rest: Bytes,
-    /// Where in the text, as far as that is known.
+    /// The span in the text, if it is known.
     pub place: Option<Span>,
 }
 
-/// What stands against the text of a scenario; none where nothing does. It takes time in proportion to the text, but
-/// for look-ups.
+/// The first fault of a scenario's text as a diagnostic; `None` if the scenario is valid. Takes time linear
+/// in the text, apart from look-ups.
 pub fn tell_fault(alloc: Global, text: &[u8]) -> Result<Option<Told>, Memory>
-    // Where nothing is said, the text says a plan.
+    // `None` means that the text has a plan.
     ensures plan { IfOk result (λ told. IfNone told ((plan : Plan) × IsTextOf text.now plan)) }
-    // What is told of is the first fault of the text.
+    // A diagnostic is about the first fault of the text.
     ensures fault { IfOk result (λ told. IfSome told (λ t. HasFault text.now t.at t.reason)) }
-    // The sentence begins with the words for the entry.
+    // The sentence starts with the words for the entry.
     ensures front { IfOk result (λ told. IfSome told (λ t. t.front ≡ entry_words t.at)) }
 {
     match read_scenario(alloc, text) {
@@ -52,7 +52,7 @@ pub fn tell_fault(alloc: Global, text: &[u8]) -> Result<Option<Told>, Memory>
     }
 }
 
-// What a reason says of an entry.
+// The diagnostic for a reason at an entry.
 fn told_of(alloc: Global, text: &[u8], at: Entry, reason: ScenarioReason) -> Result<Told, Memory>
     ensures at { IfOk result (λ told. (told.at ≡ at) × (told.reason ≡ reason)) }
     ensures front { IfOk result (λ told. told.front ≡ entry_words at) }
@@ -69,7 +69,7 @@ fn told_of(alloc: Global, text: &[u8], at: Entry, reason: ScenarioReason) -> Res
     })
 }
 
-// Says what stands behind the words for the entry, and gives the place.
+// Appends the sentence after the words for the entry, and returns the span.
 fn say_rest(
     alloc: Global,
     out: &mut Bytes,
@@ -83,7 +83,7 @@ fn say_rest(
     }
 }
 
-// Says it of a text that is TOML.
+// Like `say_rest`, for a text that is TOML.
 fn say_entry(
     alloc: Global,
     out: &mut Bytes,
@@ -110,7 +110,7 @@ fn say_entry(
     }
 }
 
-// Says why a text is no TOML.
+// Appends why a text isn't TOML.
 fn say_no_toml(out: &mut Bytes, error: &Error) -> Result<Option<Span>, Memory> {
     say(
         out,

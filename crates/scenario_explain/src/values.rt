@@ -1,4 +1,4 @@
-//! Values of another type than their keys take.
+//! Values of another type than their key takes.
 
 use crate::forms::Takes;
 use crate::site::{Said, say_at};
@@ -6,7 +6,7 @@ use mrpc_table::Bytes;
 use scenario_words::Part;
 use toml::Value;
 
-// Whether a value is of a type.
+// Whether a value has the type that a key takes.
 pub(crate) fn fits(takes: Takes, value: &Value) -> bool {
     match takes {
         Takes::Text => value.is_str(),
@@ -35,7 +35,7 @@ fn holds_all(value: &Value, tables: bool) -> bool {
     true
 }
 
-// Says that the value at a key is of another type.
+// Appends that the value at a key has another type.
 pub(crate) fn say_type<'a>(
     out: &mut Bytes,
     name: &'a str,

@@ -1,4 +1,4 @@
-//! The steps of an operator, one after another, on the chain of its connection.
+//! The operations of an operator, applied in order to the chain of its connection.
 
 use crate::declared::named_in;
 use crate::site::text_of;
@@ -11,7 +11,7 @@ use scenario_values::items_at;
 use std::alloc::Global;
 use toml::{Table, Value};
 
-// Where the first step that is refused stands, from 1, and the name that it tells.
+// The number of the first rejected operation, from 1, and the name that it is about.
 #[derive(Clone, Copy)]
 pub(crate) struct Refused<'a> {
     pub number: u64,
@@ -19,7 +19,7 @@ pub(crate) struct Refused<'a> {
     pub name: &'a [u8],
 }
 
-// The first step of an operator that the chain of an application refuses.
+// The first operation of an operator that the chain of an application rejects.
 pub(crate) fn refused_on<'a>(
     alloc: Global,
     declared: &'a Declarations,
@@ -31,7 +31,7 @@ pub(crate) fn refused_on<'a>(
     first_refused(&mut chain, declared, items_at(operator, "steps"))
 }
 
-// Attaches the declared policies of these names, each under its own name; as far as the chain takes them.
+// Attaches the declared policies with these names, each under its own name, as far as the chain accepts them.
 fn attach_all<'a>(
     chain: &mut Chain<'a>,
     declared: &'a Declarations,
@@ -53,7 +53,7 @@ fn attach_all<'a>(
     Ok(())
 }
 
-// The first of the lines whose step the chain refuses.
+// The first of the lines whose operation the chain rejects.
 fn first_refused<'a>(
     chain: &mut Chain<'a>,
     declared: &'a Declarations,
@@ -73,7 +73,7 @@ fn first_refused<'a>(
     Ok(None)
 }
 
-// Takes a step, or tells why the chain refuses it.
+// Applies an operation, or returns why the chain rejects it.
 fn take_step<'a>(
     chain: &mut Chain<'a>,
     declared: &'a Declarations,

@@ -1,4 +1,4 @@
--- Chains that differ in their policies alone, and not in the policies' sorts, take and refuse the same steps.
+-- Chains that differ only in their policies, but not in the policies' sorts, apply and refuse the same operations.
 use Rattle.std.proofs.Common.{◌≡◌, ◌⊎◌, ℕ, zero, suc, ◌+◌, Bool, true, false, not, cond, if◌then◌else◌, List, [], ◌∷◌}
 use Rattle.std.proofs.Common.{◌++◌, length, map, filter, take, drop, Contains, refl, sym, ap, ◌∙◌, subst, inl, inr}
 use Rattle.std.proofs.Common.{arith, bytes_eq}
@@ -16,7 +16,7 @@ use Rattle.scenario_lines.specs.Programs.{Each}
 use Rattle.scenario_laws.proofs.Lists.{there_map, there_unmap}
 use Rattle.scenario_laws.proofs.Sorts.{PolicySort, same_kinds, sort_of}
 
--- ---- laws of chains that are called
+-- ---- the laws of chains in use
 
 pub record Laws : Type 0 where
   pub either : (before : Chain) (o : Op) → IsChain before → ((after : Chain) × Changes before o after) ⊎ ((refusal : Refusal) × Refuses before o refusal)
@@ -24,12 +24,12 @@ pub record Laws : Type 0 where
   pub only : (before after : Chain) (o : Op) → IsChain before → Changes before o after → after ≡ changed o before
   pub unless_refused : (before : Chain) (o : Op) → IsChain before → ((refusal : Refusal) → Refuses before o refusal → ⊥) → Changes before o (changed o before)
 
--- ---- what is seen of a chain
+-- ---- a chain without its policies
 
 abbrev pub seen_of : List Entry → List (List ℕ × PolicySort)
 seen_of entries = map (λ e. (e.name, sort_of e.policy)) entries
 
--- steps that differ in their policies alone, and not in the policies' sorts
+-- operations that differ only in their policies, but not in the policies' sorts
 pub data AreAlike (o o' : Op) : Type 0 where
   attaches : (at : ℕ) (n l l' : List ℕ) (p p' : Policy) → sort_of p ≡ sort_of p' → o ≡ op.Attach at n l p → o' ≡ op.Attach at n l' p' → AreAlike o o'
   detaches : (n : List ℕ) → o ≡ op.Detach n → o' ≡ op.Detach n → AreAlike o o'
@@ -65,7 +65,7 @@ map_map : {X Y : Type 0} (f : X → Y) (g : X → X) (h : Y → Y) → ((x : X) 
 map_map f g h same [] = refl
 map_map {Y = Y} f g h same (x ∷ xs) = ap (λ (y : Y). y ∷ map f (map g xs)) (same x) ∙ ap (λ (ys : List Y). h (f x) ∷ ys) (map_map f g h same xs)
 
--- ---- what a step makes
+-- ---- the effect of an operation
 
 with_sort : List ℕ → PolicySort → List ℕ × PolicySort → List ℕ × PolicySort
 with_sort n s k = if bytes_eq k.0 n then (k.0, s) else k
@@ -117,7 +117,7 @@ module _ (c c' : Chain) (same : seen_of c.entries ≡ seen_of c'.entries) where
       ∙ sym (seen_upgraded n p' c'.entries)
       ∙ sym (ap (λ (x : Op). seen_of (changed x c').entries) is')
 
-  -- ---- what stands against a step
+  -- ---- refusals of an operation
 
   names_same : names_of c.entries ≡ names_of c'.entries
   names_same =
@@ -137,7 +137,7 @@ module _ (c c' : Chain) (same : seen_of c.entries ≡ seen_of c'.entries) where
   named_from : (n : List ℕ) → Contains (names_of c'.entries) n → Contains (names_of c.entries) n
   named_from n h = subst (λ (ns : List (List ℕ)). Contains ns n) (sym names_same) h
 
-  -- an entry of the other chain has one here of its name and sort
+  -- an entry of the other chain has one here with its name and sort
   entry_from : (e : Entry) → Contains c'.entries e → (f : Entry) × Contains c.entries f × (f.name ≡ e.name) × (sort_of f.policy ≡ sort_of e.policy)
   entry_from e h =
       let seen : Entry → List ℕ × PolicySort = λ x. (x.name, sort_of x.policy) in
@@ -145,7 +145,7 @@ module _ (c c' : Chain) (same : seen_of c.entries ≡ seen_of c'.entries) where
       let f = there_unmap seen c.entries (seen e) there in
       (f.0, f.1, ap (λ (k : List ℕ × PolicySort). k.0) f.2, ap (λ (k : List ℕ × PolicySort). k.1) f.2)
 
-  -- what stands against the other step, stands against this one
+  -- a refusal of the other operation is one of this operation
   against_alike : (o o' : Op) (r : Refusal) → AreAlike o o' → IsAgainst c'.entries o' r → (q : Refusal) × IsAgainst c.entries o q
   against_alike o o' r (attaches at n l l' p p' sorts is is') h = elim h [
     | chains.detaches_none m e none why ↦ absurd (let no : op.Attach at n l' p' ≡ op.Detach m = sym is' ∙ e in cc)
@@ -187,10 +187,10 @@ module _ (c c' : Chain) (same : seen_of c.entries ≡ seen_of c'.entries) where
         (chains.other_kind n, chains.is_other n l p g.0 is g.1 (g.2 ∙ named ∙ sym name) (kinds ∙ kind) refl)
   ]
 
--- ---- steps one after another
+-- ---- operations one after another
 
 module _ (laws : Laws) where
-  -- steps of which none is refused all change the chain
+  -- operations of which none is refused all change the chain
   pub walk : (start : Chain) (ops : List Op) → IsChain start → ((r : Refusal) → FirstRefused start ops r → ⊥) → (after : Chain) × Changing start ops after
   walk start [] sound none = (start, refl)
   walk start (o ∷ ops) sound none = elim (laws.either start o sound) [

@@ -1,4 +1,4 @@
--- Applications against which nothing stands are those of a plan.
+-- Applications without faults are those of a plan.
 use Rattle.std.proofs.Common.{◌≡◌, ℕ, ◌+◌, ◌*◌, ◌<◌, ◌≤◌, List, [], ◌∷◌, ◌++◌, length, map, sum, All, Contains}
 use Rattle.std.proofs.Common.{Option, Some, None, IfSome, option_and_then, option_to_list, refl, sym, ap, ◌∙◌, subst}
 use Rattle.std.proofs.Common.{inl, inr, arith}
@@ -96,7 +96,7 @@ module _ (all : Members) (plan : Plan) (says : Says all plan)
   pub are_applications : All (IsApplication plan) plan.applications
   are_applications = all_by (IsApplication plan) plan.applications one_application
 
--- ---- what they submit
+-- ---- the calls that they submit
 
 last_of : {X : Type 0} (x : X) (xs : List X) → (front : List X) × (last : X) × (x ∷ xs ≡ front ++ last ∷ [])
 last_of x [] = ([], x, refl)

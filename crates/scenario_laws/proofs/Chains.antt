@@ -1,4 +1,4 @@
--- Chains of applications, and the steps of operators on them, against which nothing stands, never refuse.
+-- Chains of applications without faults, with the steps of operators on them, never refuse.
 use Rattle.std.proofs.Common.{◌≡◌, ◌==◌, ℕ, ◌+◌, List, [], ◌∷◌, ◌++◌, map, All, Contains, Option, Some, None, option_map, refl, sym, ap, ◌∙◌, subst, arith}
 use Rattle.std.specs.Prelude.{codes, option_to_list, unwrap_or}
 use Rattle.std.proofs.lemmas.Bool.{eqb-true}
@@ -42,7 +42,7 @@ use Rattle.scenario_laws.proofs.Placed.{IsHad, is_had, named_at}
 pub empty_sound : IsChain empty_chain
 empty_sound = record { few = omega arith; names = tt; attachments = tt; numbered = All-nil _ }
 
--- ---- steps, as they are told
+-- ---- steps, by their text
 
 told_attach : (told : StepText) (at : ℕ) (name policy : List ℕ) → IsAttach told at name policy → policy_in told ≡ Some policy
 told_attach (text.Attach count d n p) at name policy h = ap (λ (x : List ℕ). Some x) h.2
@@ -64,7 +64,7 @@ module _ (all : Members) (plan : Plan) (says : Says all plan)
   abbrev D : List NamedPolicy
   D = plan.declared.policies
 
-  -- lines stand for these steps on the connection, which are alike these with the policies of the plan's table
+  -- lines mean these operations on the connection, which are alike these with the policies of the plan's table
   record AreOps (lines : List StepLine) (ops : List Op) : Type 0 where
     own : List Op
     stand_for : map (op_of plan app) lines ≡ map Some own
@@ -103,7 +103,7 @@ module _ (all : Members) (plan : Plan) (says : Says all plan)
   had : (name : List ℕ) (place : ℕ) → IsUsed all ms place → place_of all name ≡ Some place → IsHad D app.own place
   had name place used e = is_had all plan.table D says.policies own_is ms app name place is used e
 
-  -- the name of the policy at the place of a name
+  -- the name of the policy at the index of a name
   had_name : (name : List ℕ) (place : ℕ) (h : IsHad D app.own place) → place_of all name ≡ Some place → h.p.name ≡ name
   had_name name place h e =
       let at = named_at all plan.table D says.policies own_is name place e in
@@ -221,7 +221,7 @@ module _ (all : Members) (plan : Plan) (says : Says all plan)
     start_sound : IsChain begun.0
     start_sound = changing_sound laws empty_chain begun.0 first.ops empty_sound begun.1
 
-    -- steps on the plan's policies change the chain, so those on the connection's own do
+    -- operations with the plan's policies change the chain, so those with the connection's own do
     never : (lines : List StepLine) (ops : List Op) (after : Chain) → AreOps lines ops → Changing empty_chain ops after → NeverRefuses plan app lines
     never lines ops after are change =
         let own = follow laws empty_chain empty_chain ops are.own after empty_sound empty_sound refl are.alike change in

@@ -1,4 +1,4 @@
--- Nothing stands against any entry of a scenario that says a plan.
+-- No entry of a scenario that means a plan has a fault.
 use Rattle.std.proofs.Common.{refl}
 use Rattle.run_plan.specs.declared.plan.Plan.{Plan}
 use Rattle.toml.specs.Data.{Members}

@@ -1,4 +1,4 @@
--- Lists, and lists of which one says another item by item.
+-- Lists, and lists related item by item.
 use Rattle.std.proofs.Common.{◌≡◌, ◌⊎◌, ℕ, zero, suc, ◌+◌, ◌<◌, Bool, true, false, cond, List, [], ◌∷◌, ◌++◌, length}
 use Rattle.std.proofs.Common.{get_or, map, All, Contains, Some, find, refl, sym, ap, ◌∙◌, subst, inl, inr, arith}
 use Rattle.std.proofs.Common.{append_assoc}
@@ -38,7 +38,7 @@ there_map f (y ∷ ys) x h = elim (there_cases y ys x h) [
   | inr more ↦ there_more (f y) (map f ys) (f x) (there_map f ys x more)
 ]
 
--- what is in a list of images is the image of something
+-- what is in a list of images is the image of an item
 pub there_unmap : {X Y : Type 0} (f : X → Y) (xs : List X) (y : Y) → Contains (map f xs) y → (x : X) × Contains xs x × (f x ≡ y)
 there_unmap f [] y h = absurd (none_in y h)
 there_unmap f (x ∷ xs) y h = elim (there_cases (f x) (map f xs) y h) [
@@ -135,7 +135,7 @@ module _ {X Y : Type 0} (f : X → Y) where
         record { before = x ∷ s.before; item = s.item; back = s.back; whole = ap (λ (zs : List X). x ∷ zs) s.whole; named = s.named }
   ]
 
-  -- where no item has the name of one before it, names are distinct
+  -- if no item has the name of an earlier one, names are distinct
   pub distinct_from : (front xs : List X)
       → ((before : List X) (x : X) (back : List X) → front ++ xs ≡ before ++ x ∷ back → Contains (map f before) (f x) → ⊥) → AreDistinct (map f xs)
   distinct_from front [] new = tt
@@ -164,7 +164,7 @@ module _ {X Y : Type 0} (R : X → Y → Type 0) where
   each_map f g same (x ∷ xs) [] e = absurd e
   each_map f g same (x ∷ xs) (y ∷ ys) e = ap (λ z. z ∷ map f xs) (same x y e.0) ∙ ap (λ zs. g y ∷ zs) (each_map f g same xs ys e.1)
 
-  -- what one says another from, and what it says
+  -- the item that has this one as its meaning
   pub each_right : (xs : List X) (ys : List Y) (y : Y) → Each R xs ys → Contains ys y → (x : X) × Contains xs x × R x y
   each_right [] [] y e h = absurd (none_in y h)
   each_right [] (z ∷ ys) y e h = absurd e
@@ -190,7 +190,7 @@ module _ {X Y : Type 0} (R : X → Y → Type 0) where
   each_at (w ∷ xs) (z ∷ ys) zero x e at = (z, refl, subst (λ (v : X). R v z) (same_Some w x at) e.0)
   each_at (w ∷ xs) (z ∷ ys) (suc i) x e at = each_at xs ys i x e.1 at
 
-  -- items that are said by one list alone are one list
+  -- lists with the same unique meanings are equal
   pub each_one : (xs : List X) → ((x : X) (y z : Y) → Contains xs x → R x y → R x z → y ≡ z) → (ys zs : List Y) → Each R xs ys → Each R xs zs → ys ≡ zs
   each_one [] one [] [] e f = refl
   each_one [] one (y ∷ ys) zs e f = absurd e
@@ -208,7 +208,7 @@ stands entries ms there =
     let s = split_there entries ms there in
     (s.0, length s.0 + 1, record { back = s.1; whole = s.2; is_number = refl })
 
--- nothing stands against an entry behind those before it
+-- an entry that follows the earlier ones has no fault
 pub free_of : (Against : List Members → Members → ScenarioReason → Type 0) (entries : List Members) → AreFree Against entries → (ms : Members)
     → Contains entries ms → (before : List Members) × ((q : ScenarioReason) → Against before ms q → ⊥)
 free_of Against entries free ms there = let s = stands entries ms there in (s.0, λ q h. free s.0 ms s.1 q s.2 h)

@@ -1,4 +1,4 @@
--- Numbers of entries are in their ranges, and connections are few.
+-- Numbers of entries are in range, and connections are few.
 use Rattle.std.proofs.Common.{◌≡◌, ℕ, ℤ, pos, zero, suc, ◌<◌, ◌≤◌, true, false, List, [], ◌∷◌, length, Contains, sym, subst, arith, eqb, inl, inr}
 use Rattle.std.specs.List.{IsDistinct, list_any, AllByRecursion}
 use Rattle.std.proofs.lemmas.Bool.{and_parts, eqb-true, false_from_ne_true, leb-true, ne_eqb, not-false, or_cases}

@@ -1,4 +1,4 @@
--- A line says one thing: one line of a program, one step of an operator, but for a position beyond any chain.
+-- A line has one meaning: one line of a program, one step of an operator, except for a position beyond any chain.
 use Rattle.std.proofs.Common.{◌≡◌, ℕ, ◌<◌, ◌^◌, Bool, if◌then◌else◌, List, Some, sym, ap, ◌∙◌, subst}
 use Rattle.std.proofs.lemmas.Bool.{lt-ltb}
 use Rattle.std.proofs.lemmas.Option.{same_Some}
@@ -52,7 +52,7 @@ says_one heap line.Reply ms _ k h j = absurd h
 
 -- ---- steps
 
--- a position on a chain, and no larger number
+-- a position in a chain, and no larger number
 abbrev pub IsBounded : StepLine → Type 0
 IsBounded (step_line.Attach at name place) = at < 2 ^ 64
 IsBounded _ = Unit {0}
@@ -63,7 +63,7 @@ small_in n h = ap (λ (b : Bool). if b then Small n else Large) (lt-ltb n (2 ^ 6
 same_position : (m n : ℕ) (d : Decimal) → d ≡ in_64_bits m → d ≡ in_64_bits n → m < 2 ^ 64 → n < 2 ^ 64 → m ≡ n
 same_position m n d e f within within' = (let same : Small m ≡ Small n = sym (small_in m within) ∙ sym e ∙ f ∙ small_in n within' in cc)
 
--- what two texts tell alike: their counts, their forms, and their names
+-- two texts of steps agree in their counts, their forms, and their names
 abbrev AreTold : StepText → StepText → Type 0
 AreTold (text.Attach c d n p) (text.Attach c' d' n' p') = (c ≡ c') × (d ≡ d') × (n.now ≡ n'.now) × (p.now ≡ p'.now)
 AreTold (text.Detach c n) (text.Detach c' n') = (c ≡ c') × (n.now ≡ n'.now)

@@ -1,4 +1,4 @@
--- The policies of an application's own schema are one list: their places are, and what stands at each.
+-- The policies of an application's own schema are one list: their indices are unique, and so is the policy at each.
 use Rattle.std.proofs.Common.{◌≡◌, ℕ, ◌<◌, List, [], ◌∷◌, map, Contains, Option, Some, None, refl, sym, ap, ◌∙◌, subst, inl, inr, arith}
 use Rattle.std.specs.Prelude.{slice_get}
 use Rattle.std.proofs.lemmas.List.Elements.{All-contains}
@@ -24,7 +24,7 @@ OneDeclaration =
     (T : Table) (tenants entries : List Members) (policies others : List NamedPolicy) → Each (PolicySays T tenants) entries policies
     → Each (PolicySays T tenants) entries others → policies ≡ others
 
--- ---- places
+-- ---- indices
 
 abbrev Ascend : List OwnPolicy → Type 0
 Ascend ps = Ascends (λ p q. p.place < q.place) ps

@@ -1,4 +1,4 @@
--- A scenario says one plan.
+-- A scenario means one plan.
 use Rattle.std.proofs.Common.{◌≡◌, ℕ, List, [], ◌∷◌, map, Contains, Option, Some, None, option_to_list, refl, sym, ap, ◌∙◌, subst}
 use Rattle.std.specs.Prelude.{codes}
 use Rattle.std.proofs.lemmas.Option.{same_Some}
@@ -78,7 +78,7 @@ same_plan : (a b : Plan) → a.service ≡ b.service → a.loads ≡ b.loads →
     })
 same_plan a b service loads workers weighted table declared applications links operators = cc
 
--- ---- places
+-- ---- indices
 
 same_somes : (xs ys : List ℕ) → map Some xs ≡ map Some ys → xs ≡ ys
 same_somes [] [] e = refl

@@ -1,4 +1,4 @@
--- Operators against which nothing stands are those of a plan.
+-- Operators without faults are those of a plan.
 use Rattle.std.proofs.Common.{◌≡◌, ℕ, zero, suc, ◌+◌, ◌≤◌, List, [], ◌∷◌, ◌++◌, length, map, All, Contains, Some, refl, sym, subst, inl, inr, arith, append_assoc}
 use Rattle.std.specs.Prelude.{slice_get}
 use Rattle.std.proofs.lemmas.Bool.{cases_lt}

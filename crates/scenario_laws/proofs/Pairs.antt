@@ -1,4 +1,4 @@
--- Connections of applications against which nothing stands are distinct, and links pair them.
+-- Connections of applications without faults are distinct, and links pair them.
 use Rattle.std.proofs.Common.{◌≡◌, ◌⊎◌, ℕ, ◌+◌, List, [], ◌∷◌, ◌++◌, length, Contains, Option, Some, refl, sym, ap, ◌∙◌, subst, inl, inr, append_assoc}
 use Rattle.std.proofs.lemmas.Bool.{cases_eq}
 use Rattle.std.proofs.lemmas.List.Elements.{Contains-append_right}
@@ -88,7 +88,7 @@ ends_same (m ∷ tables) (l ∷ links) e =
     ∙ ap (λ (n : ℕ). l.a ∷ n ∷ all_ends tables) (sym e.0.b)
     ∙ ap (λ (ns : List ℕ). l.a ∷ l.b ∷ ns) (ends_same tables links e.1)
 
--- where each link has two ends, of which none is one of a link before it, all ends are distinct
+-- if each link has two ends, of which none is one of an earlier link, all ends are distinct
 ends_distinct : (front xs : List Members) → ((before : List Members) (ms : Members) (back : List Members) → front ++ xs ≡ before ++ ms ∷ back
     → (number_in end_a ms ≡ number_in end_b ms → ⊥) × ((n : ℕ) → Contains (ends_of ms) n → Contains (all_ends before) n → ⊥))
     → AreDistinct (all_ends xs)
@@ -156,7 +156,7 @@ module _ (all : Members) (plan : Plan) (says : Says all plan) where
       (distinct_from conn_of [] (app_tables all) (λ before ms back e there.
       apps_free all plan says before ms (length before + 1) Known (record { back = back; whole = e; is_number = refl }) (against.is_known there refl)))
 
-  -- a connection that an entry has to have, is there
+  -- a connection that an entry must have exists
   pub on_application : (n : ℕ) → ((Contains (conns_of (app_tables all)) n → ⊥) → ⊥) → Contains (connections_of plan.applications) n
   on_application n h = subst (λ (ns : List ℕ). Contains ns n) conns_same (there_unless (conns_of (app_tables all)) n h)
 

@@ -1,4 +1,5 @@
--- Policies that an application uses are there, as they judge on its connection, and are of their sorts under the plan's table.
+-- Policies that an application uses exist, as they judge on its connection, and have their sorts under the plan's
+-- table.
 use Rattle.std.proofs.Common.{◌≡◌, ℕ, ◌==◌, List, All, Contains, Option, Some, None, option_map, refl, sym, ap, ◌∙◌, bytes_eq, get_or}
 use Rattle.std.specs.Prelude.{codes, slice_get}
 use Rattle.std.proofs.lemmas.Bool.{eq-eqb, eqb-true}
@@ -33,7 +34,7 @@ use Rattle.scenario_laws.proofs.Sorts.{access, is_access_sort, same_sort, sort_o
 
 -- ---- entries of policies
 
--- where a name has a place, the entry there has the name
+-- if a name has an index, the entry there has the name
 record IsPlaced (all : Members) (name : List ℕ) (place : ℕ) : Type 0 where
   entry : Members
   at : slice_get (policy_tables all) place ≡ Some entry
@@ -63,7 +64,7 @@ access_says T tenants ms (policy.Quota t w c) h e = absurd (let no : Some kind.Q
 access_says T tenants ms policy.Count h e = absurd (let no : Some kind.Count ≡ Some kind.Access = sym h ∙ e in cc)
 access_says T tenants ms (policy.Redact p) h e = absurd (let no : Some kind.Redact ≡ Some kind.Access = sym h.0 ∙ e in cc)
 
--- a policy stands at a place, and one of its sort judges there on the connection of an application
+-- a policy is at an index, and one of its sort judges there on the connection of an application
 pub record IsHad (policies : List NamedPolicy) (own : Option OwnSchema) (place : ℕ) : Type 0 where
   pub p : NamedPolicy
   pub at : slice_get policies place ≡ Some p
@@ -74,7 +75,7 @@ pub record IsHad (policies : List NamedPolicy) (own : Option OwnSchema) (place :
 module _ (all : Members) (shared : Table) (policies : List NamedPolicy)
     (says : Each (PolicySays shared (tenant_tables all)) (policy_tables all) policies)
     (own_is : (own : Table) (read : List OwnPolicy) → All (OwnPolicySays all own) read → All (IsOwnPolicy shared policies own) read) where
-  -- the policy at the place of a name has the name
+  -- the policy at the index of a name has the name
   pub record IsNamedAt (name : List ℕ) (place : ℕ) : Type 0 where
     pub entry : Members
     pub at : slice_get (policy_tables all) place ≡ Some entry

@@ -1,4 +1,4 @@
--- Lines that say a program, against which nothing stands, are one of their role.
+-- Lines without faults that mean a program are one of their role.
 use Rattle.std.proofs.Common.{◌≡◌, ◌⊎◌, ℕ, ◌+◌, ◌<◌, ◌≤◌, ◌^◌, true, false, not, List, [], ◌∷◌, ◌++◌, length, All}
 use Rattle.std.proofs.Common.{Contains, Option, Some, refl, sym, ap, ◌∙◌, subst, inl, inr, length-append, bytes_eq}
 use Rattle.std.specs.Prelude.{cond}
@@ -148,7 +148,7 @@ module _ (words : ℕ) (text : List ℕ) (said : ProgramLine) (h : LineSays Serv
         absurd (both_ways (is_reply text) e (reply_first text h.form has.1 ∙ ap (λ (g : LineForm). bytes_eq (first_word g) (first_word line.Reply)) reply))
   ]
 
--- stores, and one reply behind them
+-- stores, followed by one reply
 record Ends (words : ℕ) (lines : List ProgramLine) : Type 0 where
   front : List ProgramLine
   addr : ℕ

@@ -1,4 +1,4 @@
--- Policies of one sort are refused and taken alike: policies of one kind are of one sort, where the tenant of a quota
+-- Policies of one sort are refused and applied alike: policies of one kind are of one sort, and the tenant of a quota
 -- belongs to its sort.
 use Rattle.std.proofs.Common.{◌≡◌, ◌==◌, ℕ, Bool, true, false, refl, ap, ◌∙◌, sym}
 use Rattle.mrpc_table.specs.declared.table.Table.{Table}

@@ -1,4 +1,4 @@
--- What a scenario says is a sound plan.
+-- The plan of a scenario is valid.
 use Rattle.std.proofs.Common.{ℕ, ◌≤◌, ◌&&◌, List, length, All, Contains, refl, sym, subst, inl, inr, arith}
 use Rattle.std.specs.Prelude.{codes}
 use Rattle.std.proofs.lemmas.Bool.{and_from, and_parts, both_ways, cases_Bool}
@@ -34,7 +34,7 @@ use Rattle.scenario_laws.proofs.Numbers.{few_below, within}
 use Rattle.scenario_laws.proofs.Operators.{are_operators, operators_distinct}
 use Rattle.scenario_laws.proofs.Pairs.{are_paired, conns_are_distinct}
 
--- what entries declare against which nothing stands, and own policies, by the laws that are called
+-- the declarations of entries without faults, and own policies, by the laws in use
 pub record Declaring : Type 0 where
   pub sound : (T : Table) (tenants entries : List Members) (d : Declared) → AreFree TenantAgainst tenants → AreFree (PolicyAgainst T tenants) entries
       → Each TenantSays tenants d.tenants → Each (PolicySays T tenants) entries d.policies → IsSound d

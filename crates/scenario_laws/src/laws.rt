@@ -1,4 +1,4 @@
-//! What a scenario says is a plan that a run may rely on, and it says one at most.
+//! A scenario means at most one plan, which is valid.
 
 ghost use Rattle.std.specs.Prelude.{◌≡◌, ℕ, List};
 ghost use Rattle.run_plan.specs.Plans.{IsPlan};
@@ -13,7 +13,7 @@ use scenario_entries::{not_both, one_fault};
 use scenario_policies::{declared_is_sound, one_declaration, one_table, own_is_sound};
 use script_words::one_judgement;
 
-/// What a scenario says is a sound plan: nothing of what a plan promises to those who run it is asked again.
+/// The plan of a scenario is valid, so a run need not check what a plan guarantees.
 pub fn a_said_plan_is_sound()
     ensures said { (all : Members) (plan : Plan) → Says all plan → IsPlan plan }
     ensures sound { (text : List ℕ) (plan : Plan) → IsTextOf text plan → IsPlan plan }
@@ -25,7 +25,7 @@ pub fn a_said_plan_is_sound()
     change_is_changed();
 }
 
-/// A text says one plan at most, has one first fault at most, and never both.
+/// A text means at most one plan, has at most one first fault, and never both.
 pub fn one_scenario()
     ensures one_plan { (text : List ℕ) (plan other : Plan) → IsTextOf text plan → IsTextOf text other → plan ≡ other }
     ensures one_fault { (text : List ℕ) (a b : Entry) (q r : ScenarioReason) → HasFault text a q → HasFault text b r

@@ -1,10 +1,10 @@
-//! Laws of whole scenarios. These functions do nothing; their clauses hold.
+//! Laws of whole scenarios. These functions do nothing; their contracts are the laws.
 //!
-//! What a scenario says is a sound plan: each promise of `IsPlan` in `run_plan` follows from that nothing stands against
-//! any entry, a lemma for each reason (`proofs/`). A text says one plan at most. The crate reads nothing: it stands on the
-//! definitions of `scenario`, on the laws of what is declared in `scenario_policies`, on those of faults in
-//! `scenario_entries`, and on those of chains in `engine_core`. The layers above use one contract: who has a plan that a
-//! text says may run it.
+//! The plan of a scenario is valid: each guarantee of `IsPlan` in `run_plan` follows because no entry has a fault,
+//! with a lemma for each reason (`proofs/`). A text means at most one plan. The crate reads nothing: it depends on
+//! the definitions of `scenario`, on the laws of declarations in `scenario_policies`, on those of faults in
+//! `scenario_entries`, and on those of chains in `engine_core`. The layers above use one contract: a plan that a text
+//! means may be run.
 #![tactic(auto)]
 
 mod laws;

@@ -15,7 +15,7 @@ use Rattle.scenario_lines.specs.declared.form.ProgramRole.{ProgramRole}
 use Rattle.scenario_lines.specs.declared.reason.LineReason.{LineReason}
 use Rattle.scenario_lines.specs.declared.reason.LineReason.TheVariants.{Word, Place}
 
--- the law of words that a reader calls
+-- the law of words that a reader uses
 abbrev pub NotBoth : Type 0
 NotBoth = (sorts : List Sort) (words : List (List ℕ)) (ms : List Meaning) (r : ScriptReason)
     → AreSaid sorts words ms → IsAgainst sorts words r → ⊥
@@ -44,7 +44,7 @@ words_first one r heap text f reason form h = record { stands = in_words f form 
       (subst (λ (x : LineForm). AreSaid (sorts_of x) (behind (words_of text)) ms) (same_form r text f g form is.form) is.said)
       h.stands.1)
 
--- a line of one word has none behind it, and each form has some
+-- a line of one word has none after it, and each form has some
 some_sorts : (f : LineForm) → length (sorts_of f) ≢ 0
 some_sorts line.Store e = absurd (omega (arith, e))
 some_sorts line.Spin e = absurd (omega (arith, e))

@@ -1,4 +1,4 @@
--- Which reasons stand against words, and which of them are no names.
+-- Which reasons words have, and which of them aren't names.
 use Rattle.std.proofs.Common.{◌≡◌, ◌⊎◌, ℕ, ◌≤◌, Bool, true, false, ◌&&◌, ◌||◌, not, List, [], ◌∷◌, length, Some, inl, inr, refl, sym, ap, subst, arith}
 use Rattle.std.proofs.lemmas.Grind.{common_steps}
 use Rattle.mrpc_table.specs.Names.{IsName, is_name_form, is_short}
@@ -17,7 +17,7 @@ use Rattle.scenario_lines.specs.declared.reason.LineReason.TheVariants.{Number, 
 
 -- ---- names
 
--- what was found before stays found, where the words are as many as the sorts
+-- what was found before stays found, if there are as many words as sorts
 stays : (sorts : List Sort) (words : List (List ℕ)) → length words ≡ length sorts → lacks_name true sorts words ≡ true
 stays [] [] same = refl
 stays [] (w ∷ words) same = absurd (omega (arith, same))
@@ -38,7 +38,7 @@ found_or : (found : Bool) → (found || true) ≡ true
 found_or true = refl
 found_or false = refl
 
--- a word that is no name
+-- a word that isn't a name
 no_name : (w : List ℕ) → (IsName w → ⊥) → not (is_name_form w && is_short w) ≡ true
 no_name w isnt = go (is_name_form w) (is_short w) refl refl where
   go : (form short : Bool) → is_name_form w ≡ form → is_short w ≡ short → not (form && short) ≡ true
@@ -53,7 +53,7 @@ is_none w e is = go (is_name_form w) (is_short w) refl refl e where
   go true false a b f = grind (arith, common_steps, is.short)
   go false short a b f = grind (arith, common_steps, is.form)
 
--- a name that stands against the words is found
+-- a word that should be a name, and isn't, is found
 name_found : (found : Bool) (sorts : List Sort) (words : List (List ℕ)) → length words ≡ length sorts
     → OneOffends sorts words script.Name → lacks_name found sorts words ≡ true
 name_found found [] words same offends = absurd offends
@@ -72,7 +72,7 @@ name_found found (sort.Name ∷ sorts) (w ∷ words) same (inl h) =
     let bad = no_name w h.0 in
     rw bad (rw (found_or found) (stays sorts words (omega (arith, same))))
 
--- what is found was found before, or stands against a word
+-- what is found was found before, or is a fault of a word
 split : (found : Bool) (s : Sort) (w : List ℕ) → (found || is_no_name s w) ≡ true
     → (found ≡ true) ⊎ Offends s w script.Name
 split true s w e = inl refl
@@ -134,7 +134,7 @@ three sorts ws r (in_word count h) = of_one sorts ws r h
 
 -- ---- the first of them
 
--- a reason that isn't Number comes no earlier than Name, and Word no earlier than Word where no name is lacked
+-- a reason other than Number ranks at least as Name, and Word at least as Word if no name is lacking
 at_least : (why : ScriptReason) (other : LineReason) → of_words why ≡ Some other → (why ≡ script.Number → ⊥) → 1 ≤ order_of other
 at_least script.Number other e isnt = absurd (isnt refl)
 at_least script.Name Number e isnt = absurd cc
@@ -157,7 +157,7 @@ last script.Word Word e isnt named = omega arith
 last script.Word Place e isnt named = omega arith
 last _ other e isnt named = absurd cc
 
--- a reason of words that is first in a script isn't Number, so no Number stands
+-- if a reason of words other than Number is first in a script, none is Number
 no_number : (sorts : List Sort) (ws : List (List ℕ)) (r why : ScriptReason) → scripts.IsFirst (IsAgainst sorts ws) r
     → (r ≡ script.Name) ⊎ (r ≡ script.Word) → IsAgainst sorts ws why → why ≡ script.Number → ⊥
 no_number sorts ws r why h (inl e) against is =

@@ -223,7 +223,7 @@ ends_more (t ∷ u ∷ texts) text =
       go true b c = refl
       go false b c = refl
 
--- ---- a line more
+-- ---- one more line
 
 abbrev not_of : Bool → Bool
 not_of b = not b

@@ -1,4 +1,4 @@
--- What lines of programs say, and what stands against them, on small ones.
+-- What lines of programs mean, and their faults, on small ones.
 use Rattle.std.proofs.Common.{◌≡◌, true, false, [], ◌∷◌, codes, None, refl, arith, lit≤, lit<}
 use Rattle.mrpc_table.specs.declared.words.Decimal.TheVariants.{Small}
 use Rattle.app_program.specs.declared.program.ProgramLine.TheVariants as program
@@ -12,7 +12,7 @@ use Rattle.scenario_lines.specs.declared.form.LineForm.TheVariants as line
 use Rattle.scenario_lines.specs.declared.form.ProgramRole.TheVariants.{Client, Server}
 use Rattle.scenario_lines.specs.declared.reason.LineReason.TheVariants.{Word, Place}
 
--- ---- lines that say something
+-- ---- lines with a meaning
 
 stores_a_word : LineSays Client 64 (codes "store 2 150") (program.Store 2 150)
 stores_a_word = record {
@@ -38,7 +38,7 @@ gives_a_reply = record {
   says = refl;
 }
 
--- ---- lines at fault
+-- ---- faulty lines
 
 misspelled : ProgramAgainst Client 64 (codes "stare 2 150" ∷ []) Word
 misspelled = in_line (codes "stare 2 150") (0, lit< tt, refl) (no_form refl refl)

@@ -1,4 +1,4 @@
--- The words of a line, one after another, and whether one of them that is to be a name is none.
+-- The words of a line, one after another, and whether one of them is required to be a name, and isn't one.
 use Rattle.std.proofs.Common.{◌≡◌, ℕ, ◌+◌, ◌<◌, ◌≤◌, ◌==◌, Bool, true, false, cond, not, ◌||◌, List, [], ◌∷◌, get_or}
 use Rattle.std.proofs.Common.{drop, length, Option, Some, None, refl, sym, ap, ◌∙◌}
 use Rattle.std.specs.Borrow.{Bor}
@@ -20,7 +20,7 @@ has_word (x ∷ xs) =
       | false ↦ (x ∷ rest.0, rest.1, ap (onto_first x) rest.2)
     ]
 
--- the words end before the sorts
+-- there are fewer words than sorts
 pub lacks_short : (found : Bool) (sorts : List Sort) (i : ℕ) (d : Sort) (rest : Option (Bor (List ℕ))) (b : Bool)
     → i < length sorts → rest ≡ None → lacks_name found (drop i sorts) (words_in rest) ≡ b → false ≡ b
 lacks_short found sorts i d rest b within none so_far =
@@ -28,7 +28,7 @@ lacks_short found sorts i d rest b within none so_far =
     sym (ap (λ (x : List Sort). lacks_name found x (words_in rest)) front
     ∙ ap (λ r. lacks_name found (get_or sorts i d ∷ drop (i + 1) sorts) (words_in r)) none) ∙ so_far
 
--- a word more
+-- one more word
 pub lacks_more : (found next : Bool) (sorts : List Sort) (i : ℕ) (d : Sort) (before after : List (List ℕ)) (w : List ℕ) (b : Bool)
     → i < length sorts → before ≡ w ∷ after → next ≡ (found || is_no_name (get_or sorts i d) w)
     → lacks_name found (drop i sorts) before ≡ b → lacks_name next (drop (i + 1) sorts) after ≡ b
@@ -48,7 +48,7 @@ end_by : (rest : Option (Bor (List ℕ))) → not (is_some rest) ≡ lacks_name 
 end_by None = refl
 end_by (Some text) = let p = has_word text.now in sym (ap (lacks_name true []) p.2)
 
--- the sorts end
+-- there are fewer sorts than words
 pub lacks_end : (sorts : List Sort) (i : ℕ) (rest : Option (Bor (List ℕ))) (none b : Bool) → length sorts ≤ i
     → is_some rest ≡ not none → lacks_name true (drop i sorts) (words_in rest) ≡ b → none ≡ b
 lacks_end sorts i rest none b past is so_far =

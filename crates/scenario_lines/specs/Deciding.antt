@@ -1,4 +1,4 @@
--- The code's own: the numbers that words of a form say are in range.
+-- The code's own: the numbers in the words of a form are in range.
 use Rattle.std.specs.Prelude.{◌≤◌, List}
 use Rattle.script_words.specs.Sorts.{Meaning, number_at}
 use Rattle.scenario_lines.specs.declared.form.LineForm.{LineForm}

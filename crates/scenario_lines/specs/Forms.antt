@@ -1,4 +1,4 @@
--- The forms of program lines and of step lines, as tables (this project's own).
+-- The forms of program lines and of step lines (this project's own).
 use Rattle.std.specs.Prelude.{ℕ, ◌/◌, ◌^◌, List, [], ◌∷◌, codes, Option}
 use Rattle.std.specs.List.{find}
 use Rattle.std.specs.Str.{bytes_eq}
@@ -16,7 +16,7 @@ use Rattle.scenario_lines.specs.declared.form.ProgramRole.TheVariants as role
 use Rattle.scenario_lines.specs.declared.form.StepForm.{StepForm}
 use Rattle.scenario_lines.specs.declared.form.StepForm.TheVariants as step
 
--- ---- program lines: a first word, and words behind it
+-- ---- program lines: a first word, and the words after it
 
 abbrev pub first_word : LineForm → List ℕ
 first_word line.Store = codes "store"
@@ -25,14 +25,14 @@ first_word line.Submit = codes "submit"
 first_word line.Reclaim = codes "reclaim"
 first_word line.Reply = codes "reply"
 
--- a line that spins stores twice as often as it says, and no program stores more
+-- a line that spins stores twice as often as its number, and no program stores more
 abbrev pub times : Sort
 times = sort.Number 0 (MAX_STORES / 2)
 
 abbrev pub block : Sort
 block = sort.Number 1 (2 ^ 63)
 
--- the words behind the first one; a place is a number of any size, since it depends on the heap which there are
+-- the words after the first one; a place is a number of any size, since its range depends on the heap
 abbrev pub sorts_of : LineForm → List Sort
 sorts_of line.Store = sort.Unbounded ∷ sort.Value ∷ []
 sorts_of line.Spin = times ∷ sort.Unbounded ∷ sort.Value ∷ sort.Value ∷ []
@@ -49,7 +49,7 @@ forms_of role.Server = line.Store ∷ line.Spin ∷ line.Reply ∷ []
 abbrev pub line_form : ProgramRole → List ℕ → Option LineForm
 line_form r word = find (λ f. bytes_eq word (first_word f)) (forms_of r)
 
--- ---- step lines: a count of calls, and a word that says what is done
+-- ---- step lines: a count of calls, and a word that names the action
 
 abbrev pub step_word : StepForm → Keyword
 step_word step.Attach = keyword.Attach

@@ -1,4 +1,4 @@
--- The code's own: whether a word of a line that is to be a name is none.
+-- The code's own: whether a word of a line is required to be a name, and isn't one.
 use Rattle.std.specs.Prelude.{ℕ, Bool, false, ◌&&◌, ◌||◌, not, if◌then◌else◌, List, [], ◌∷◌}
 use Rattle.mrpc_table.specs.Names.{is_name_form, is_short}
 use Rattle.script_words.specs.declared.fault.ScriptReason.{ScriptReason}
@@ -8,18 +8,18 @@ use Rattle.script_words.specs.declared.sort.Sort.TheVariants as sort
 use Rattle.scenario_lines.specs.declared.reason.LineReason.{LineReason}
 use Rattle.scenario_lines.specs.declared.reason.LineReason.TheVariants.{Number, Name, Word}
 
--- the word has to be a name, and is none
+-- the word is required to be a name, and isn't one
 abbrev pub is_no_name : Sort → List ℕ → Bool
 is_no_name sort.Name word = not (is_name_form word && is_short word)
 is_no_name _ word = false
 
--- one of the words, which are as many as the sorts, or one that was found before
+-- one of the words is such, given as many sorts, or an earlier one was
 abbrev pub lacks_name : Bool → List Sort → List (List ℕ) → Bool
 lacks_name found [] [] = found
 lacks_name found (s ∷ sorts) (w ∷ words) = lacks_name (found || is_no_name s w) sorts words
 lacks_name found _ _ = false
 
--- which reason comes first here, by the first one of scripts
+-- which reason comes first here, from the first one by the order of scripts
 abbrev pub ordered : ScriptReason → Bool → LineReason
 ordered script.Number lacks = Number
 ordered _ lacks = if lacks then Name else Word

@@ -1,4 +1,4 @@
--- What the lines of programs say, and what stands against them (this project's own).
+-- What the lines of programs mean, and their faults (this project's own).
 use Rattle.std.specs.Prelude.{◌≡◌, ℕ, List, [], ◌∷◌, Option, Some, None}
 use Rattle.mrpc_table.specs.Lines.{words_of}
 use Rattle.mrpc_table.specs.declared.words.Decimal.{Decimal}
@@ -20,7 +20,7 @@ use Rattle.scenario_lines.specs.declared.reason.LineReason.TheVariants.{Word, Pl
 
 -- ---- words
 
--- no word where a line ends in front of it; each line has a first one
+-- the empty word if no word is left; each line has a first word
 abbrev pub first_of : List (List ℕ) → List ℕ
 first_of [] = []
 first_of (w ∷ words) = w
@@ -29,7 +29,7 @@ abbrev pub behind : List (List ℕ) → List (List ℕ)
 behind [] = []
 behind (w ∷ words) = words
 
--- a reason of words stands against these
+-- these words have a fault with this reason
 abbrev pub WordsAgainst : List Sort → List (List ℕ) → LineReason → Type 0
 WordsAgainst sorts words reason = (why : ScriptReason) × IsAgainst sorts words why × (of_words why ≡ Some reason)
 
@@ -39,24 +39,24 @@ WordsAgainst sorts words reason = (why : ScriptReason) × IsAgainst sorts words 
 abbrev pub form_of : ProgramRole → List ℕ → Option LineForm
 form_of r text = line_form r (first_of (words_of text))
 
--- a line of a role has the form, and its words say this
+-- a line of a role has this form, and its words mean this
 pub record IsLine (r : ProgramRole) (text : List ℕ) (f : LineForm) (ms : List Meaning) : Type 0 where
   pub form : form_of r text ≡ Some f
   pub said : AreSaid (sorts_of f) (behind (words_of text)) ms
 
--- the place that a line names, where it names one
+-- the place in a line, if it has one
 abbrev pub place_in : LineForm → List Meaning → Option Decimal
 place_in line.Store ms = Some (unbounded_at ms 0)
 place_in line.Spin ms = Some (unbounded_at ms 1)
 place_in _ ms = None
 
--- it isn't one of a heap of so many words: word 0 belongs to nobody, and the heap ends
+-- the place is outside a heap with this many words: word 0 is reserved, and the heap ends
 abbrev pub IsNoPlace : ℕ → Option Decimal → Type 0
 IsNoPlace heap None = ⊥
 IsNoPlace heap (Some (Small place)) = IsPlace heap place → ⊥
 IsNoPlace heap (Some Large) = Unit {0}
 
--- words of a form say a line, for a heap of so many words
+-- the words of a form mean this line, for a heap with this many words
 abbrev pub FormSays : ℕ → LineForm → List Meaning → ProgramLine → Type 0
 FormSays heap line.Store ms (program.Store place value) =
     (unbounded_at ms 0 ≡ Small place) × IsPlace heap place × (value ≡ number_at ms 1)
@@ -68,14 +68,14 @@ FormSays heap line.Reclaim ms (program.Reclaim block) = block ≡ number_at ms 0
 FormSays heap line.Reply ms (program.Reply addr) = addr ≡ number_at ms 0
 FormSays heap _ ms _ = ⊥
 
--- a line of a role, whose heap has so many words, says this
+-- a line of a role means this, for a heap with this many words
 pub record LineSays (r : ProgramRole) (heap : ℕ) (text : List ℕ) (said : ProgramLine) : Type 0 where
   pub form : LineForm
   pub meanings : List Meaning
   pub is_line : IsLine r text form meanings
   pub says : FormSays heap form meanings said
 
--- a reason stands against a line of a role, whose heap has so many words
+-- a line of a role has a fault with this reason, for a heap with this many words
 pub data LineAgainst (r : ProgramRole) (heap : ℕ) (text : List ℕ) (reason : LineReason) : Type 0 where
   no_form : form_of r text ≡ None → reason ≡ Word → LineAgainst r heap text reason
   in_words : (f : LineForm) → form_of r text ≡ Some f → WordsAgainst (sorts_of f) (behind (words_of text)) reason

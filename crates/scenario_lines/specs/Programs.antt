@@ -1,4 +1,4 @@
--- What the lines of a program say together, and what stands against them (this project's own).
+-- What the lines of a program mean together, and their faults (this project's own).
 use Rattle.std.specs.Prelude.{◌≡◌, ◌⊎◌, ℕ, ◌<◌, ◌≤◌, Bool, true, false, ◌&&◌, not, List, [], ◌∷◌, length, Contains}
 use Rattle.std.specs.Str.{bytes_eq}
 use Rattle.mrpc_table.specs.Lines.{words_of}
@@ -13,13 +13,13 @@ use Rattle.scenario_lines.specs.declared.form.ProgramRole.TheVariants.{Client, S
 use Rattle.scenario_lines.specs.declared.reason.LineReason.{LineReason}
 use Rattle.scenario_lines.specs.declared.reason.LineReason.TheVariants.{Number, Word}
 
--- one list says another, item by item
+-- the relation holds between the items of two lists, item by item
 abbrev pub Each : {X Y : Type 0} → (X → Y → Type 0) → List X → List Y → Type 0
 Each R [] [] = Unit {0}
 Each R (x ∷ xs) (y ∷ ys) = R x y × Each R xs ys
 Each R _ _ = ⊥
 
--- what the lines without a fault say, in order
+-- what the lines without a fault mean, in order
 abbrev pub SomeSay : ProgramRole → ℕ → List (List ℕ) → List ProgramLine → Type 0
 SomeSay r heap [] said = said ≡ []
 SomeSay r heap (text ∷ texts) said =
@@ -27,7 +27,7 @@ SomeSay r heap (text ∷ texts) said =
     × SomeSay r heap texts rest)
     ⊎ (((reason : LineReason) × LineAgainst r heap text reason) × SomeSay r heap texts said)
 
--- how often a program stores at most; a server's, for each request
+-- the maximum number of stores of a program; of a server's, for each request
 abbrev pub most_stores : ProgramRole → ℕ
 most_stores Client = MAX_STORES
 most_stores Server = MAX_REQUEST_STORES
@@ -42,17 +42,17 @@ ends_in_reply [] = false
 ends_in_reply (text ∷ []) = is_reply text
 ends_in_reply (text ∷ texts) = not (is_reply text) && ends_in_reply texts
 
--- the lines are a program of a role for a heap of so many words
+-- the lines are a program of a role, for a heap with this many words
 pub record ProgramSays (r : ProgramRole) (heap : ℕ) (texts : List (List ℕ)) (lines : List ProgramLine) : Type 0 where
   pub said : Each (LineSays r heap) texts lines
   pub stores : length (stores_of lines) ≤ most_stores r
   pub few : length lines ≤ MAX_LINES
   pub reply : r ≡ Server → ends_in_reply texts ≡ true
 
--- a reason stands against lines as a program of a role, for a heap of so many words
+-- the lines have a fault with this reason as a program of a role, for a heap with this many words
 pub data ProgramAgainst (r : ProgramRole) (heap : ℕ) (texts : List (List ℕ)) (reason : LineReason) : Type 0 where
   in_line : (text : List ℕ) → Contains texts text → LineAgainst r heap text reason → ProgramAgainst r heap texts reason
-  -- lines at fault say nothing, so they aren't counted
+  -- faulty lines have no meaning, so they aren't counted
   too_many_stores : (said : List ProgramLine) → SomeSay r heap texts said → most_stores r < length (stores_of said)
       → reason ≡ Number → ProgramAgainst r heap texts reason
   too_many_lines : (said : List ProgramLine) → SomeSay r heap texts said → MAX_LINES < length said → reason ≡ Number

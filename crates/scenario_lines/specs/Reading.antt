@@ -1,4 +1,4 @@
--- What a reader of a program has read (this project's own).
+-- The state of a reader of a program (this project's own).
 use Rattle.std.specs.Prelude.{◌≡◌, ℕ, ◌<◌, ◌≤◌, List, length, Contains, Option, Some, None}
 use Rattle.std.specs.List.{list_any}
 use Rattle.app_program.specs.Programs.{stores_of}
@@ -10,7 +10,7 @@ use Rattle.scenario_lines.specs.declared.form.ProgramRole.{ProgramRole}
 use Rattle.scenario_lines.specs.declared.program.ProgramReader.{ProgramReader}
 use Rattle.scenario_lines.specs.declared.reason.LineReason.{LineReason}
 
--- the first of the reasons that stand, or none
+-- the first of the reasons that hold, or none
 abbrev pub IsSoFar : (LineReason → Type 0) → Option LineReason → Type 0
 IsSoFar Stands None = (reason : LineReason) → Stands reason → ⊥
 IsSoFar Stands (Some reason) = IsFirst Stands reason
@@ -18,7 +18,7 @@ IsSoFar Stands (Some reason) = IsFirst Stands reason
 abbrev pub LinesAgainst : ProgramRole → ℕ → List (List ℕ) → LineReason → Type 0
 LinesAgainst r heap texts reason = (text : List ℕ) × Contains texts text × LineAgainst r heap text reason
 
--- a reader of a program of a role, for a heap of so many words, has read these lines
+-- the reader of a program of a role, for a heap with this many words, has read these lines
 pub record HasRead (r : ProgramRole) (heap : ℕ) (texts : List (List ℕ)) (reader : ProgramReader) : Type 0 where
   pub of_role : reader.role ≡ r
   pub of_heap : reader.heap ≡ heap

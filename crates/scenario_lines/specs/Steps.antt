@@ -1,4 +1,4 @@
--- What the lines of operators say, and what stands against them (this project's own).
+-- What the lines of operators mean, and their faults (this project's own).
 use Rattle.std.specs.Prelude.{◌≡◌, ℕ, List, Option, Some, None}
 use Rattle.mrpc_table.specs.Lines.{words_of}
 use Rattle.script_words.specs.Lines.{AreSaid}
@@ -16,7 +16,7 @@ use Rattle.scenario_lines.specs.declared.step.StepText.TheVariants as text
 abbrev pub step_form_of : List ℕ → Option StepForm
 step_form_of line = step_form (first_of (behind (words_of line)))
 
--- words of a form say a step
+-- the words of a form mean this step
 abbrev pub FormTells : StepForm → List Meaning → StepText → Type 0
 FormTells step.Attach ms (text.Attach count at name policy) =
     (count ≡ number_at ms 0) × (at ≡ unbounded_at ms 2) × (name.now ≡ name_at ms 3) × (policy.now ≡ name_at ms 4)
@@ -25,7 +25,7 @@ FormTells step.Upgrade ms (text.Upgrade count name policy) =
     (count ≡ number_at ms 0) × (name.now ≡ name_at ms 2) × (policy.now ≡ name_at ms 3)
 FormTells _ ms _ = ⊥
 
--- a line says this
+-- a line means this
 pub record StepSays (line : List ℕ) (told : StepText) : Type 0 where
   pub form : StepForm
   pub meanings : List Meaning
@@ -33,7 +33,7 @@ pub record StepSays (line : List ℕ) (told : StepText) : Type 0 where
   pub said : AreSaid (step_sorts form) (words_of line) meanings
   pub tells : FormTells form meanings told
 
--- a reason stands against a line
+-- a line has a fault with this reason
 pub data StepAgainst (line : List ℕ) (reason : LineReason) : Type 0 where
   no_form : step_form_of line ≡ None → reason ≡ Word → StepAgainst line reason
   in_words : (f : StepForm) → step_form_of line ≡ Some f → WordsAgainst (step_sorts f) (words_of line) reason

@@ -1,4 +1,4 @@
--- The code's own: what one line more makes of a reader of a program, and which reason stands against what it has read.
+-- The code's own: how one more line changes the reader of a program, and which reason the lines read so far have.
 use Rattle.std.specs.Prelude.{◌≡◌, ℕ, [], ◌∷◌, ◌++◌, ◌+◌, ◌*◌, nat_lt, nat_le, Bool, false, ◌&&◌, ◌||◌, not, if◌then◌else◌, List, length, Option, Some, None}
 use Rattle.app_program.specs.declared.program.ProgramLine.{ProgramLine}
 use Rattle.app_program.specs.declared.program.ProgramLine.TheVariants.{Store, Spin}
@@ -49,7 +49,8 @@ blamed reader reason = record reader { first = earlier reader.first (Some reason
 abbrev pub noted : ProgramReader → Bool → ProgramReader
 noted reader replies = record reader { replied = reader.replied || replies; ends = not reader.replied && replies }
 
--- a line more was read, but for whether it has the form of a reply: what it says was kept, or the first reason against it
+-- one more line was read, except whether it has the form of a reply: its meaning was kept, or the first reason of its
+-- faults
 pub data Takes (old : ProgramReader) (text : List ℕ) (new : ProgramReader) : Type 0 where
   keeps : (line : ProgramLine) → LineSays old.role old.heap text line
       → new ≡ kept old line → Takes old text new

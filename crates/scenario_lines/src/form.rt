@@ -1,4 +1,4 @@
-//! The forms of lines, by the word that says what is done.
+//! The forms of lines, by the word that names the action.
 
 ghost use Rattle.std.specs.Prelude.{◌≡◌, ◌≤◌, length};
 ghost use Rattle.scenario_lines.specs.Forms.{line_form, first_word, forms_of, sorts_of, step_form, step_sorts, step_word};
@@ -6,7 +6,7 @@ ghost use Rattle.scenario_lines.specs.Forms.{line_form, first_word, forms_of, so
 use app_program::MAX_STORES;
 use script_words::{Keyword, Sort};
 
-/// Whose program a line is of.
+/// The role whose program a line belongs to.
 #[derive(Clone, Copy)]
 pub enum ProgramRole {
     Client,
@@ -45,7 +45,7 @@ const ANY: Sort = Sort::Number {
     most: u64::MAX,
 };
 
-// How often a line stores two values at most.
+// How often a line may store two values.
 const TIMES: Sort = Sort::Number {
     least: 0,
     most: MAX_STORES / 2,
@@ -80,7 +80,7 @@ impl ProgramRole {
 }
 
 impl LineForm {
-    // The word that stands first.
+    // The first word.
     fn first_word(self) -> &'static [u8]
         ensures { result.now ≡ first_word self }
     {
@@ -93,7 +93,7 @@ impl LineForm {
         }
     }
 
-    // The form of a role's line with this first word; none where it has no form.
+    // The form of a role's line with this first word; `None` if no form has it.
     pub(crate) fn of(role: ProgramRole, word: &[u8]) -> Option<LineForm>
         ensures { result ≡ line_form role word.now }
     {
@@ -103,7 +103,7 @@ impl LineForm {
             .find(|form| word == form.first_word())
     }
 
-    // The sorts of the words behind the first one.
+    // The sorts of the words after the first one.
     pub(crate) fn sorts(self) -> &'static [Sort]
         ensures sorts { result.now ≡ sorts_of self }
         ensures few { length result.now ≤ 9 }
@@ -121,7 +121,7 @@ impl LineForm {
 const STEP_FORMS: [StepForm; 3] = [StepForm::Attach, StepForm::Detach, StepForm::Upgrade];
 
 impl StepForm {
-    // The word that stands second.
+    // The second word.
     fn step_word(self) -> Keyword
         ensures { result ≡ step_word self }
     {
@@ -132,7 +132,7 @@ impl StepForm {
         }
     }
 
-    // The form of a line with this second word; none where it has no form.
+    // The form of a line with this second word; `None` if no form has it.
     pub(crate) fn of(word: &[u8]) -> Option<StepForm>
         ensures { result ≡ step_form word.now }
     {

@@ -1,11 +1,11 @@
-//! The lines of a scenario: what a line of a program says for an application of a role and the words of its heap, what
-//! a line of an operator says, and what is wrong with them.
+//! The lines of a scenario: what a line of a program means for an application's role and heap size, what a line of an
+//! operator means, and which fault comes first.
 //!
-//! `specs/Forms.antt` has the forms of lines as tables. `specs/Lines.antt` says what a line of a program says and what
-//! stands against it, `specs/Steps.antt` the same of a line of an operator, and `specs/Programs.antt` which lines are a
-//! program, read line by line by a [`ProgramReader`]. The crate stands on `mrpc_table`, on `app_program` for programs,
-//! and on `script_words` for words.
-//! The layers above use one contract: a line says one thing, or one reason against it comes first.
+//! `specs/Forms.antt` lists the forms of lines. `specs/Lines.antt` defines what a line of a program means and which
+//! faults it has, `specs/Steps.antt` does so for a line of an operator, and `specs/Programs.antt` for the lines of a
+//! whole program, which a [`ProgramReader`] reads line by line. The crate depends on `mrpc_table`, on `app_program`
+//! for programs, and on `script_words` for words. The layers above use one contract: a line has one meaning, or one
+//! first reason why it is faulty.
 #![tactic(auto)]
 
 mod form;

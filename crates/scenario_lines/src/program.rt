@@ -1,4 +1,4 @@
-//! A program, which is read line by line.
+//! A reader of a program, line by line.
 
 ghost use Rattle.std.specs.Prelude.{◌≡◌, ◌≤◌, ◌++◌, ◌∷◌, ℕ, List, [], MatchResult, OnErr, OnOk};
 ghost use Rattle.scenario_lines.specs.Programs.{ProgramAgainst, ProgramSays, is_reply, most_stores};
@@ -15,19 +15,19 @@ use mrpc_table::{Memory, is_word};
 use script_words::{first_word, one_judgement};
 use std::alloc::Global;
 
-/// What was read of a program so far: the lines that say something, and the first reason against the others.
+/// The state of reading a program: the lines without a fault, and the first reason of the others.
 #[derive(Drop)]
 pub struct ProgramReader {
     role: ProgramRole,
-    // The words of the application's heap.
+    // The size of the application's heap in words.
     heap: u32,
     lines: Program,
     first: Option<LineReason>,
-    // How often the lines store. Once they do so too often, they aren't counted on.
+    // How often the lines store. Once it exceeds the limit, it is no longer counted.
     stores: u64,
     // Whether a line has the form of a reply.
     replied: bool,
-    // Whether the last line alone has it.
+    // Whether the last line has it, and no other.
     ends: bool,
 }
 
@@ -51,7 +51,7 @@ fn store_count(line: ProgramLine) -> u64
     }
 }
 
-// How often lines store, and one more. More than a program may are as many as there are.
+// The number of stores, plus those of a line. Saturates once it exceeds the limit of programs.
 fn added(stores: u64, line: ProgramLine) -> u64
     ensures { result ≡ added stores line }
 {
@@ -78,7 +78,7 @@ fn earlier(one: Option<LineReason>, other: Option<LineReason>) -> Option<LineRea
 }
 
 impl ProgramReader {
-    /// Of a program of a role, for a heap of so many words, no line was read. It takes no memory.
+    /// A reader that hasn't read a line of a program yet, for a role and a heap size in words. Doesn't allocate.
     pub fn new(alloc: Global, role: ProgramRole, heap: u32) -> ProgramReader
         ensures { HasRead role heap [] result }
     {
@@ -93,7 +93,7 @@ impl ProgramReader {
         }
     }
 
-    // Keeps what a line says.
+    // Keeps what a line means.
     fn keep(&mut self, said: ProgramLine) -> Result<(), Memory>
         ensures kept { OnOk result (self.new ≡ kept self.old said) }
         ensures refused { OnErr result (self.new ≡ self.old) }
@@ -103,7 +103,7 @@ impl ProgramReader {
         Ok(())
     }
 
-    // Keeps what a line says, or the first reason against it.
+    // Keeps what a line means, or the first reason of its faults.
     fn take(&mut self, line: &[u8]) -> Result<(), Memory>
         ensures taken { OnOk result (Takes self.old line.now self.new) }
         ensures refused { OnErr result (self.new ≡ self.old) }
@@ -117,7 +117,7 @@ impl ProgramReader {
         }
     }
 
-    // Notes whether a line more has the form of a reply.
+    // Notes whether one more line has the form of a reply.
     fn note_reply(&mut self, replies: bool)
         ensures { self.new ≡ noted self.old replies }
     {
@@ -125,11 +125,11 @@ impl ProgramReader {
         self.replied = self.replied || replies;
     }
 
-    /// Reads one line more.
+    /// Reads one more line.
     ///
     /// # Errors
     ///
-    /// Where no memory was found, the line wasn't read, and the reader is as before.
+    /// `Memory`: the line wasn't read, and the reader is unchanged.
     pub fn read(&mut self, line: &[u8]) -> Result<(), Memory>
         ensures read { OnOk result ((role : TheRole) (heap : ℕ) (lines : List (List ℕ)) → HasRead role heap lines self.old
             → HasRead role heap (lines ++ line.now ∷ []) self.new) }
@@ -152,7 +152,7 @@ impl ProgramReader {
         self.stores > self.role.most_stores() || self.lines.len() as u64 > MAX_LINES
     }
 
-    // Whether the lines are of a server, and their last one isn't their one reply.
+    // Whether the lines are a server's, and their last one isn't their only reply.
     fn lacks_reply(&self) -> bool
         ensures { result ≡ lacks_reply self.now.role self.now.ends }
     {
@@ -162,7 +162,7 @@ impl ProgramReader {
         }
     }
 
-    // The first reason against the lines.
+    // The first reason of all faults of the lines.
     fn first_reason(&self) -> Option<LineReason>
         ensures { result ≡ first_reason self.now }
     {
@@ -173,7 +173,7 @@ impl ProgramReader {
         earlier(counted, reason_if(self.lacks_reply(), LineReason::Word))
     }
 
-    /// The program that the lines are, or the first reason against them.
+    /// The program of the lines, or the first reason of their faults.
     pub fn finish(self) -> Result<Program, LineReason>
         ensures { (role : TheRole) (heap : ℕ) (lines : List (List ℕ)) → HasRead role heap lines self
             → MatchResult result (ProgramSays role heap lines) (IsFirst (ProgramAgainst role heap lines)) }
@@ -186,7 +186,7 @@ impl ProgramReader {
     }
 }
 
-// The reason, where it holds.
+// The reason, if it holds.
 fn reason_if(holds: bool, reason: LineReason) -> Option<LineReason>
     ensures { result ≡ reason_if holds reason }
 {
@@ -194,7 +194,7 @@ fn reason_if(holds: bool, reason: LineReason) -> Option<LineReason>
 }
 
 impl ProgramRole {
-    // How often its program stores at most.
+    // The maximum number of stores of its program.
     fn most_stores(self) -> u64
         ensures { result ≡ most_stores self }
     {

@@ -15,7 +15,7 @@ use app_program::ProgramLine;
 use mrpc_table::Decimal;
 use script_words::{Said, first_word, number_at, one_judgement, unbounded_at};
 
-// A place of a heap that has so many words.
+// A place of a heap with this many words.
 fn place_in(heap: u32, place: Decimal) -> Option<u32>
     ensures { MatchOption result (IsNoPlace heap (Some place))
         (λ p. (place ≡ Small p) × IsPlace heap p) }
@@ -32,7 +32,7 @@ fn place_in(heap: u32, place: Decimal) -> Option<u32>
     }
 }
 
-// What the words of a form say, for a heap of so many words; none where they name no place of it.
+// What the words of a form mean for a heap with this many words; `None` if they name no place of it.
 fn said_by(heap: u32, form: LineForm, words: &[Said<'_>]) -> Option<ProgramLine>
     requires fits { Fits form (meanings_of words.now) }
     ensures { MatchOption result (IsNoPlace heap (place_in form (meanings_of words.now)))
@@ -62,8 +62,8 @@ fn said_by(heap: u32, form: LineForm, words: &[Said<'_>]) -> Option<ProgramLine>
     }
 }
 
-/// What a line of a program says, for an application of a role whose heap has so many words, or the first reason
-/// against it. It takes no memory, and time in proportion to the line.
+/// What a line of a program means, for an application's role and a heap with this many words, or the first reason of
+/// its faults. Doesn't allocate, and takes time in proportion to the line.
 pub fn read_line(role: ProgramRole, heap: u32, line: &[u8]) -> Result<ProgramLine, LineReason>
     ensures { MatchResult result (LineSays role heap line.now) (IsFirst (LineAgainst role heap line.now)) }
 {

@@ -11,23 +11,23 @@ use crate::words::judge_words;
 use mrpc_table::Decimal;
 use script_words::{Said, first_word, name_at, number_at, unbounded_at};
 
-/// What a line of an operator says, with its names as they stand in the text. A step comes once the connection has
-/// taken `count` calls.
+/// What a line of an operator means, with its names as in the text. A step is due once the connection has taken
+/// `count` calls.
 #[derive(Clone, Copy)]
 pub enum StepText<'a> {
-    /// The policy is attached at a position of the chain, of any size, under a name.
+    /// Attaches the policy at a position of the chain, of any size, under a name.
     Attach {
         count: u64,
         at: Decimal,
         name: &'a [u8],
         policy: &'a [u8],
     },
-    /// The entry of a name is taken from the chain.
+    /// Removes the entry with a name from the chain.
     Detach {
         count: u64,
         name: &'a [u8],
     },
-    /// Another policy is put into the entry of a name.
+    /// Replaces the policy of the entry with a name.
     Upgrade {
         count: u64,
         name: &'a [u8],
@@ -35,7 +35,7 @@ pub enum StepText<'a> {
     },
 }
 
-// What the words of a form say.
+// What the words of a form mean.
 fn told_by<'a>(form: StepForm, words: &[Said<'a>]) -> StepText<'a>
     ensures { FormTells form (meanings_of words.now) result }
 {
@@ -58,8 +58,8 @@ fn told_by<'a>(form: StepForm, words: &[Said<'a>]) -> StepText<'a>
     }
 }
 
-/// What a line of an operator says, or the first reason against it. It takes no memory, and time in proportion to the
-/// line.
+/// What a line of an operator means, or the first reason of its faults. Doesn't allocate, and takes time in
+/// proportion to the line.
 pub fn read_step<'a>(line: &'a [u8]) -> Result<StepText<'a>, LineReason>
     ensures { MatchResult result (StepSays line.now) (IsFirst (StepAgainst line.now)) }
 {

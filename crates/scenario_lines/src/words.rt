@@ -12,7 +12,7 @@ use crate::reason::LineReason;
 use mrpc_table::{is_name_form, is_short};
 use script_words::{Judged, ScriptReason, Sort, first_word, judge};
 
-// Whether a word that has to be a name is none.
+// Whether a word is required to be a name, and isn't one.
 fn is_no_name(sort: Sort, word: &[u8]) -> bool
     ensures { result ≡ is_no_name sort word.now }
 {
@@ -22,7 +22,7 @@ fn is_no_name(sort: Sort, word: &[u8]) -> bool
     }
 }
 
-// Whether a word of a line that is to be a name is none. A line with another number of words has no such word.
+// Whether a line has such a word. A line with another number of words has none.
 fn lacks_name(sorts: &[Sort], line: &[u8]) -> bool
     ensures { result ≡ lacks_name false sorts.now (words_of line.now) }
 {
@@ -40,7 +40,7 @@ fn lacks_name(sorts: &[Sort], line: &[u8]) -> bool
     lacks && rest.is_none()
 }
 
-// The reason that comes first here: a word that is no name counts before one of no form.
+// The reason that comes first here: a word that isn't a name counts before one of no form.
 fn ordered(reason: ScriptReason, lacks_name: bool) -> LineReason
     ensures { result ≡ ordered reason lacks_name }
 {
@@ -51,7 +51,7 @@ fn ordered(reason: ScriptReason, lacks_name: bool) -> LineReason
     }
 }
 
-// What the words of a line say, each judged by its sort, or the first reason against them.
+// What the words of a line mean, each judged by its sort, or the first reason of their faults.
 pub(crate) fn judge_words<'a>(sorts: &[Sort], line: &'a [u8]) -> Result<Judged<'a>, LineReason>
     requires { length sorts.now ≤ 9 }
     ensures { MatchResult result (λ said. AreSaid sorts.now (words_of line.now) (meanings_of said.items))

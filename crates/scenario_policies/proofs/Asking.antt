@@ -1,4 +1,4 @@
--- The first reason against names of policies.
+-- The first reason of faults in names of policies.
 use Rattle.std.proofs.Common.{◌≡◌, ℕ, ◌||◌, not, Bool, List, [], ◌∷◌, map, Contains, Option, Some, None, refl, sym, ap, subst, inl, inr}
 use Rattle.std.specs.Bool.{Decides}
 use Rattle.std.specs.Prelude.{is_none, is_some}

@@ -1,4 +1,4 @@
--- The first reasons against tenants and policies are what the tests of the code say.
+-- The first reasons of faults in tenants and policies are what the tests of the code return.
 use Rattle.std.proofs.Common.{◌≡◌, ◌⊎◌, ◌↔◌, ℕ, ◌<◌, ◌≤◌, not, Bool, true, false, ◌&&◌, ◌||◌, List, [], ◌∷◌, length}
 use Rattle.std.proofs.Common.{get_or, map, Contains, Option, Some, None, Result, Ok, Err, refl, sym, ap, ◌∙◌, subst}
 use Rattle.std.proofs.Common.{inl, inr, arith, IsTrue}
@@ -44,7 +44,7 @@ no_form word = (
   λ none. not_from_false _ (false_from_ne_true _ (λ e. let both = and_parts _ _ e in none (record { form = both.0; short = leb-true _ _ both.1 }))),
 )
 
--- what a test for a name tells
+-- the result of a test for a name
 pub name_told : (word : List ℕ) (b : Bool) → IsTrue b ↔ IsName word → not b ≡ is_no_name word
 name_told word true h = let name = h.0 refl in sym (not_from_true _ (and_from _ _ name.form (le-leb _ _ name.short)))
 name_told word false h =
@@ -134,7 +134,7 @@ module _ (before : List Members) (ms : Members) where
       (place_there (λ (t : Tenant). t.name) (name_of ms) d.tenants (names_of before) (tenants_named before d says))))
       from_parts to_parts
 
--- an entry against which nothing stands is a new tenant, and there is room
+-- an entry without faults is a new tenant, and there is room for it
 pub tenant_new : (d : Declared) (ms : Members) (t : Tenant) → tenant_first d ms ≡ None → t.name ≡ name_of ms
     → (tenant_place d t.name ≡ None) × (length d.tenants < 16)
 tenant_new d ms t none name =
@@ -285,7 +285,7 @@ module _ (T : Table) (tenants before : List Members) (ms : Members) where
       (head_is k d says names) (lines_is k r read))
       (from_policy k is_kind keys) (to_policy k is_kind keys)
 
--- ---- what policies say
+-- ---- what policies mean
 
 module _ (T : Table) (tenants : List Members) (ms : Members) (Q : Type 0) where
   pub access_says : (lined : Option Policy) → kind_of ms ≡ Some kind.Access → IsLined kind.Access T ms lined → MatchOption lined Q (KindSays T tenants ms)
@@ -304,7 +304,7 @@ module _ (T : Table) (tenants : List Members) (ms : Members) (Q : Type 0) where
   redact_says (Some policy.Count) e h = absurd h
   redact_says (Some (policy.Redact p)) e h = (e, h)
 
--- a tenant that is found among those that are declared stands at the same place among the entries
+-- a tenant found among the declared ones has the same index among the entries
 pub tenant_at : (tenants : List Members) (ts : List Tenant) (word : List ℕ) (i : ℕ) → Each TenantSays tenants ts
     → position (λ t. bytes_eq t.name word) ts ≡ Some i → position (λ t. bytes_eq (name_of t) word) tenants ≡ Some i
 tenant_at tenants ts word i says found =
@@ -312,14 +312,14 @@ tenant_at tenants ts word i says found =
     ∙ ap (position (λ n. bytes_eq n word)) (each_map TenantSays name_of (λ t. t.name) (λ x y r. sym r.name) tenants ts says)
     ∙ sym (position_map (λ (t : Tenant). t.name) (λ n. bytes_eq n word) ts) ∙ found
 
--- a policy that nothing stands against is new
+-- a policy without faults is new
 pub policy_new : (d : Declared) (k : Kind) (ms : Members) → head_first d k ms ≡ None → policy_place d (name_of ms) ≡ None
 policy_new d k ms none =
     let isnt = none_flag (is_some (policy_place d (name_of ms))) Known (none_parts _ _ (none_parts _ _ none).0).1 in
     naming.place_none (λ (p : NamedPolicy). p.name) (name_of ms) d.policies
     (λ h. both_ways _ isnt (naming.found (λ (p : NamedPolicy). p.name) (name_of ms) d.policies h))
 
--- nor does it lack its tenant
+-- and its tenant is declared
 pub tenant_found : (d : Declared) (ms : Members) → head_first d kind.Quota ms ≡ None → tenant_place d (tenant_of ms) ≡ None → ⊥
 tenant_found d ms none absent =
     let isnt = none_flag (not (is_some (tenant_place d (tenant_of ms)))) Unknown (none_parts _ _ (none_parts _ _ none).1).1 in
@@ -346,7 +346,7 @@ pub earlier_none : (x : Option ScenarioReason) → earlier x None ≡ x
 earlier_none None = refl
 earlier_none (Some q) = refl
 
--- what was named, where nothing stands against it
+-- the named policy, if it has no fault
 pub named_new : (d : Declared) (ms : Members) (r : Result (Result NamedPolicy ScenarioReason) Memory) → IfOk r (λ x. IfOk x (λ p. p.name ≡ name_of ms))
     → policy_place d (name_of ms) ≡ None → IfOk r (λ x. IfOk x (λ p. policy_place d p.name ≡ None))
 named_new d ms (Ok (Ok p)) name none = ap (policy_place d) name ∙ none

@@ -28,7 +28,7 @@ module _ {X : Type 0} (f : X → List ℕ) where
     | inr more ↦ there_more (f y) (map f ys) (f x) (there_map ys x more)
   ]
 
-  -- of items with distinct names there is one of each name
+  -- of items with distinct names, each name has one item
   pub distinct_same : (xs : List X) (x y : X) → AreDistinct (map f xs) → Contains xs x → Contains xs y → f x ≡ f y → x ≡ y
   distinct_same [] x y d h k e = absurd (none_in x h)
   distinct_same (z ∷ zs) x y d h k e = elim (there_cases z zs x h) [
@@ -42,7 +42,7 @@ module _ {X : Type 0} (f : X → List ℕ) where
     ]
   ]
 
-  -- where something of a name stands in a list
+  -- where a list has an item with a name
   record Split (xs : List X) (name : List ℕ) : Type 0 where
     before : List X
     item : X
@@ -59,7 +59,7 @@ module _ {X : Type 0} (f : X → List ℕ) where
         record { before = x ∷ s.before; item = s.item; back = s.back; whole = ap (λ (zs : List X). x ∷ zs) s.whole; named = s.named }
   ]
 
-  -- no item has the name of one before it
+  -- no item has the name of an earlier one
   abbrev pub AreNew : List X → Type 0
   AreNew xs = (before : List X) (x : X) (back : List X) → xs ≡ before ++ x ∷ back → Contains (map f before) (f x) → ⊥
 

@@ -1,4 +1,4 @@
--- Lists of which one says another item by item, and lists of entries that grow by one.
+-- Lists related item by item, and lists of entries that grow by one.
 use Rattle.std.proofs.Common.{◌≡◌, ◌⊎◌, ℕ, zero, suc, ◌+◌, ◌<◌, List, [], ◌∷◌, ◌++◌, length, get_or, map, take}
 use Rattle.std.proofs.Common.{Contains, Some, None, refl, sym, ap, ◌∙◌, subst, inl, inr, arith}
 use Rattle.std.specs.Prelude.{slice_get, cond, nat_lt, not, Bool, position}
@@ -63,7 +63,7 @@ module _ {X Y : Type 0} (R : X → Y → Type 0) where
   each_left (w ∷ xs) (z ∷ ys) zero x e at = (z, refl, subst (λ (v : X). R v z) (same_Some w x at) e.0)
   each_left (w ∷ xs) (z ∷ ys) (suc i) x e at = each_left xs ys i x e.1 at
 
--- ---- places
+-- ---- indices
 
 module _ {X Z : Type 0} (f : X → Z) (p : Z → Bool) where
   prefix_map : (xs : List X) → prefix_len (λ x. not (p (f x))) xs ≡ prefix_len (λ z. not (p z)) (map f xs)
@@ -79,7 +79,7 @@ module _ {X Z : Type 0} (f : X → Z) (p : Z → Bool) where
       ap (λ n. cond (nat_lt n (length xs)) (Some n) None) (prefix_map xs)
       ∙ ap (λ n. cond (nat_lt (prefix_len (λ z. not (p z)) (map f xs)) n) (Some (prefix_len (λ z. not (p z)) (map f xs))) None) (length_map xs)
 
--- ---- lists of which the last item is looked at
+-- ---- lists with a last item
 
 pub snoc_split : {X : Type 0} (xs before : List X) (m ms : X) (back : List X) → xs ++ m ∷ [] ≡ before ++ ms ∷ back
     → ((before ≡ xs) × (ms ≡ m)) ⊎ ((rest : List X) × (xs ≡ before ++ ms ∷ rest))

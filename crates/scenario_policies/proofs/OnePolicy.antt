@@ -1,4 +1,4 @@
--- Entries say one list of policies at most, and what they say under two tables is the same.
+-- Entries mean at most one list of policies, and what they mean under two tables is the same.
 use Rattle.std.proofs.Common.{◌≡◌, ℕ, List, [], ◌∷◌, Some, refl, sym, ap, ◌∙◌, subst}
 use Rattle.std.specs.Prelude.{codes, option_map, slice_get}
 use Rattle.std.proofs.lemmas.Option.{same_Some}
@@ -29,7 +29,7 @@ use Rattle.scenario_policies.proofs.Lists.{each_left}
 quota_same : (t u w x c e : ℕ) → t ≡ u → w ≡ x → c ≡ e → policy.Quota t w c ≡ policy.Quota u x e
 quota_same t u w x c e p q r = cc
 
--- the window is that of the tenant at a place
+-- the window is that of the tenant at an index
 window_same : (tenants : List Members) (at w x : ℕ) → (t : Members) × (slice_get tenants at ≡ Some t) × (w ≡ number_in per t)
     → (t : Members) × (slice_get tenants at ≡ Some t) × (x ≡ number_in per t) → w ≡ x
 window_same tenants at w x h k = h.2 ∙ ap (number_in per) (same_Some h.0 k.0 (sym h.1 ∙ k.1)) ∙ sym k.2

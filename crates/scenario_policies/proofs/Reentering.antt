@@ -1,4 +1,4 @@
--- The entry and the policy at a place.
+-- The entry and the policy at an index.
 use Rattle.std.proofs.Common.{◌≡◌, ℕ, ◌<◌, List, Some, get_or, length, refl, sym, ◌∙◌, subst}
 use Rattle.std.specs.Prelude.{String, slice_get}
 use Rattle.std.specs.BTreeMap.{BTreeMap}

@@ -1,4 +1,4 @@
--- The policies that are marked, read again one after another.
+-- Marked policies, read again one after another.
 use Rattle.std.proofs.Common.{◌≡◌, ◌⊎◌, ℕ, zero, suc, ◌+◌, ◌<◌, Bool, true, false, List, [], ◌∷◌, ◌++◌, length}
 use Rattle.std.proofs.Common.{get_or, map, take, Contains, Option, Some, None, Ok, Err, refl, sym, ap, ◌∙◌, subst}
 use Rattle.std.proofs.Common.{inl, inr, arith}
@@ -54,7 +54,7 @@ module _ (entries tenants : List Members) (own : Table) (marks : List Bool) wher
     is = h.is;
   }
 
-  -- a place that isn't marked, or whose policy has no fault
+  -- an index that isn't marked, or whose policy has no fault
   fine_more : (x : Bool) (f : Option ScenarioReason)
       → ((entry : Members) (why : RuleReason) → x ≡ true → slice_get entries (length marks) ≡ Some entry → LinesFail (kind_of entry) own entry why → ⊥)
       → IsSoFar (MarkedFails entries own marks) f → IsSoFar (MarkedFails entries own (marks ++ x ∷ [])) f
@@ -141,7 +141,7 @@ module _ (entries tenants : List Members) (own : Table) (marks : List Bool) wher
             | inr more ↦ there_more y.place (map (λ (q : OwnPolicy). q.place) ys) x.place (map_there ys x more)
           ]
 
--- ---- one place further
+-- ---- the next index
 
 module _ (entries tenants : List Members) (own : Table) (marks : List Bool) (i : ℕ) (within : i < length marks) (first : Option ScenarioReason)
     (policies : List OwnPolicy) (h : HasRead entries tenants own (take i marks) first policies) where

@@ -1,4 +1,4 @@
--- The definitions on small scenarios that were worked out by hand: three policies, and words that name some of them.
+-- The definitions on small scenarios worked out by hand: three policies, and words that name some of them.
 use Rattle.std.proofs.Common.{◌≡◌, ℕ, zero, suc, ◌<◌, List, [], ◌∷◌, get_or, Contains, Some, codes, refl, sym, ap, subst, inl, inr, arith, lit<}
 use Rattle.std.proofs.lemmas.Option.{same_Some}
 use Rattle.mrpc_table.specs.declared.policy_lines.RuleReason.TheVariants as rule
@@ -56,7 +56,7 @@ is_missing = no_policy (codes "x") (1, lit< tt, refl) missing refl
 is_nameless : NamesAgainst (policy_tables all) (codes "a b" ∷ []) Name
 is_nameless = no_name (codes "a b") (0, lit< tt, refl) (λ h. absurd (let e = h.form in cc)) refl
 
--- ---- policies under an own table
+-- ---- policies under an application's own table
 
 abbrev read : List OwnPolicy
 read = record { place = 1; policy = policy.Count } ∷ []
@@ -93,7 +93,7 @@ are_own own = record {
   policies = at_first own;
 }
 
--- the lines of a policy that is named fail under each table that the schema has
+-- the lines of a named policy fail under each table that the schema has
 fails : (own : Table) → HasTable (codes "a") own → NamedFails all app (Contains (codes "r" ∷ [])) Word
 fails own has = (
   rule.Word,

@@ -1,4 +1,4 @@
--- What is declared is sound: names are distinct, numbers are in their ranges, and the tenants of quotas are declared.
+-- Declarations are valid: names are distinct, numbers are in range, and the tenants of quotas are declared.
 use Rattle.std.proofs.Common.{◌≡◌, ℕ, ℤ, pos, zero, suc, ◌+◌, ◌<◌, ◌≤◌, Bool, true, List, [], ◌∷◌, ◌++◌, length}
 use Rattle.std.proofs.Common.{get_or, take, drop, All, Contains, Option, Some, refl, sym, ap, ◌∙◌, subst, inl, inr}
 use Rattle.std.proofs.Common.{arith}
@@ -145,7 +145,7 @@ module _ (T : Table) (tenants entries : List Members) (d : Declared) (none : Are
     policy_window policy.Count h = tt
     policy_window (policy.Redact p) h = tt
 
-  -- what holds of a policy and its entry holds of each one
+  -- what holds of a policy with its entry holds of each one
   each_policy : (P : Policy → Type 0) → ((i : ℕ) (ms : Members) → slice_get entries i ≡ Some ms → (p : Policy) → KindSays T tenants ms p → P p)
       → All (λ (p : NamedPolicy). P p.policy) d.policies
   each_policy P h = λ k p in_list.

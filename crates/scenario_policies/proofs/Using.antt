@@ -1,4 +1,4 @@
--- Policies that are marked and read again are those that are named, as an application's own schema has them.
+-- Policies that are marked and read again are the named ones, as an application's own schema has them.
 use Rattle.std.proofs.Common.{◌≡◌, ℕ, ◌+◌, Bool, List, [], length, Contains, Some, Result, Ok, Err, refl, sym, ap, ◌∙◌, subst}
 use Rattle.std.specs.Prelude.{IfOk, MatchResult, codes, position}
 use Rattle.std.specs.Str.{bytes_eq}

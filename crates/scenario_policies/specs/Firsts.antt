@@ -1,4 +1,4 @@
--- The code's own: the first reasons against entries, by the tests of the code.
+-- The code's own: the first reasons of faults in entries, by the tests of the code.
 use Rattle.std.specs.Prelude.{◌≡◌, ℕ, nat_le, ◌&&◌, ◌||◌, not, Bool, List, codes, length, is_some, Option, Some, None, Result, Ok, Err}
 use Rattle.std.specs.List.{list_all}
 use Rattle.mrpc_table.specs.Names.{is_name_form, is_short}
@@ -35,7 +35,7 @@ tenant_first d ms =
 
 -- ---- policies
 
--- the tenant that a quota names
+-- the tenant of a quota
 abbrev pub tenant_of : Members → List ℕ
 tenant_of ms = word_at (codes "tenant") ms
 
@@ -44,7 +44,7 @@ quota_first kind.Quota d ms =
     earlier (reason_if (is_no_name (tenant_of ms)) Name) (reason_if (not (is_some (tenant_place d (tenant_of ms)))) Unknown)
 quota_first _ d ms = None
 
--- but for its keys and its lines
+-- the first reason, apart from its keys and its lines
 abbrev pub head_first : Declared → Kind → Members → Option ScenarioReason
 head_first d k ms =
     earlier
@@ -53,7 +53,7 @@ head_first d k ms =
     (reason_if (is_some (policy_place d (name_of ms))) Known))
     (quota_first k d ms)
 
--- what the lines of a policy say under a table; policies of other kinds have none
+-- what the lines of a policy mean under a table; policies of other kinds have none
 abbrev pub IsLined : Kind → Table → Members → Option Policy → Type 0
 IsLined kind.Access T ms (Some (policy.Access p)) = access_texts.IsTextOf T (texts_at (codes "rules") ms) p
 IsLined kind.Redact T ms (Some (policy.Redact p)) = redact_texts.IsTextOf T (texts_at (codes "clears") ms) p
@@ -62,13 +62,13 @@ IsLined kind.Quota T ms None = Unit {0}
 IsLined kind.Count T ms None = Unit {0}
 IsLined _ T ms _ = ⊥
 
--- what was read of the lines of a policy that has some
+-- the result of reading the lines of a policy whose kind has lines
 abbrev pub IsRuled : Kind → Table → Members → Result Policy RuleReason → Type 0
 IsRuled k T ms (Ok p) = IsLined k T ms (Some p) × ((why : RuleReason) → LinesFail (Some k) T ms why → ⊥)
 IsRuled k T ms (Err why) =
     LinesFail (Some k) T ms why × ((other : RuleReason) → LinesFail (Some k) T ms other → other ≡ why)
 
--- what was read of those lines, or the reason of the first one at fault, which is one
+-- the result of reading a policy's lines, or the reason of the first faulty one
 abbrev pub IsLinesRead : Kind → Table → Members → Result (Option Policy) RuleReason → Type 0
 IsLinesRead k T ms (Ok lined) = IsLined k T ms lined × ((why : RuleReason) → LinesFail (Some k) T ms why → ⊥)
 IsLinesRead k T ms (Err why) =

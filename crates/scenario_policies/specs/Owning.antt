@@ -1,4 +1,4 @@
--- The policies that are named, by their places, and how they are read under a table of their own.
+-- Named policies, by their indices, and how they are read under an application's own table.
 use Rattle.std.specs.Prelude.{◌≡◌, ◌↔◌, ℕ, ◌<◌, List, map, All, Contains, Some}
 use Rattle.mrpc_table.specs.Names.{IsName}
 use Rattle.mrpc_table.specs.Valid.{Ascends}
@@ -15,7 +15,7 @@ use Rattle.scenario.specs.declared.fault.ScenarioReason.TheVariants.{Name, Unkno
 
 -- ---- names of policies
 
--- a reason stands against names of policies
+-- names of policies have a fault with this reason
 pub data NamesAgainst (policies : List Members) (names : List (List ℕ)) (reason : ScenarioReason) : Type 0 where
   no_name : (name : List ℕ) → Contains names name → (IsName name → ⊥) → reason ≡ Name → NamesAgainst policies names reason
   no_policy : (name : List ℕ) → Contains names name → (Contains (names_of policies) name → ⊥) → reason ≡ Unknown
@@ -23,15 +23,15 @@ pub data NamesAgainst (policies : List Members) (names : List (List ℕ)) (reaso
 
 -- ---- policies under a table of an application's own
 
--- the lines of a policy that is named fail under the application's own schema, and this is why
+-- the lines of a named policy fail under the application's own schema, and this is the reason
 abbrev pub NamedFails : (all app : Members) → (List ℕ → Type 0) → ScenarioReason → Type 0
 NamedFails all app IsNamed reason = (why : RuleReason) × FailsUnderOwn all app IsNamed why × (reason ≡ of_rule why)
 
--- the policy at a place has one of the names
+-- the policy at an index has one of the names
 abbrev pub IsNamed : Members → List (List ℕ) → ℕ → Type 0
 IsNamed all names place = (name : List ℕ) × Contains names name × (place_of all name ≡ Some place)
 
--- the policies that have one of the names, each as its entry says it under an own table
+-- the policies that have one of the names, each as its entry means it under the application's own table
 pub record AreOwn (all : Members) (own : Table) (names : List (List ℕ)) (read : List OwnPolicy) : Type 0 where
   pub used : (place : ℕ) → Contains (map (λ p. p.place) read) place ↔ IsNamed all names place
   pub ascend : Ascends (λ p q. p.place < q.place) read

@@ -1,4 +1,4 @@
-//! Laws of what is declared. These functions do nothing; their clauses hold.
+//! Laws of declarations. These functions do nothing; their contracts are the laws.
 
 ghost use Rattle.std.specs.Prelude.{◌≡◌, ℕ, List, All, Contains, None, Some, position};
 ghost use Rattle.std.specs.Str.{bytes_eq};
@@ -20,7 +20,7 @@ use policy_redact::one_policy as one_redact;
 use proto_schema::{alone_is_ordered, one_file};
 use schema_resolve::one_table as one_resolved;
 
-/// A schema has one table at most.
+/// A schema has at most one table.
 pub fn one_table()
     ensures { (text : List ℕ) (T U : Table) → HasTable text T → HasTable text U → T ≡ U }
 {
@@ -29,7 +29,7 @@ pub fn one_table()
     one_resolved();
 }
 
-/// Entries say one list of policies at most under a table.
+/// Entries declare at most one list of policies under a table.
 pub fn one_declaration()
     ensures { (T : Table) (tenants entries : List Members) (policies others : List NamedPolicy)
         → Each (PolicySays T tenants) entries policies → Each (PolicySays T tenants) entries others
@@ -39,7 +39,7 @@ pub fn one_declaration()
     one_redact();
 }
 
-/// A policy is found by its name among those that are declared where its entry stands.
+/// The index of a declared policy's name is that of its entry.
 pub fn same_names()
     ensures names { (T : Table) (tenants entries : List Members) (d : Declared)
         → Each (PolicySays T tenants) entries d.policies → policy_names d ≡ names_of entries }
@@ -51,7 +51,7 @@ pub fn same_names()
         → policy_place d name ≡ None → Contains (names_of entries) name → ⊥ }
 {}
 
-/// What entries declare against which nothing stands is what a plan wants of it.
+/// The declarations of entries without faults satisfy what a plan guarantees of them.
 pub fn declared_is_sound()
     ensures sound { (T : Table) (tenants entries : List Members) (d : Declared) → AreFree TenantAgainst tenants
         → AreFree (PolicyAgainst T tenants) entries → Each TenantSays tenants d.tenants
@@ -64,7 +64,8 @@ pub fn declared_is_sound()
         → Each (PolicySays T tenants) entries d.policies → All (λ p. HasWindow d.tenants p.policy) d.policies }
 {}
 
-/// What an application's own schema has is what a plan wants of it: its policies say the same as those of the plan.
+/// An application's own schema satisfies what a plan guarantees of it: its policies mean the same as those of the
+/// plan.
 pub fn own_is_sound()
     ensures { (all : Members) (shared own : Table) (policies : List NamedPolicy) (read : List OwnPolicy)
         → Each (PolicySays shared (tenant_tables all)) (policy_tables all) policies → All (OwnPolicySays all own) read

@@ -1,12 +1,12 @@
-//! The tenants and the policies of a scenario, and its policies as they are read under the schema of an application.
+//! The tenants and the policies of a scenario, and its policies as read under the schema of an application.
 //!
-//! A list gives what all of its entries say, where nothing stands against any of them, or the first entry at fault with
-//! its first reason (`scenario_entries` has the words). Policies that a connection uses are read again under the schema
-//! of its application, all of them or with the first reason against them (`specs/Owning.antt`). The crate stands on
-//! `scenario`, on `policy_access` and `policy_redact` for the lines of policies, on `policy_blocks` for what is
-//! declared, on `run_plan`, and on `proto_schema` and `schema_resolve` for the law that a schema has one table. The
-//! reader of whole scenarios uses one contract: what is declared is what the entries say, under either table, and a
-//! fault is their first.
+//! Reading a list returns what all of its entries mean, or the first faulty entry with its first reason
+//! (`scenario_entries` defines both). Policies that a connection uses are read again under the schema of its
+//! application: the result is all of them, or the first reason of their faults (`specs/Owning.antt`). The crate
+//! depends on `scenario`, on `policy_access` and `policy_redact` for the lines of policies, on `policy_blocks` for
+//! declarations, on `run_plan`, and on `proto_schema` and `schema_resolve` for the law that a schema has one table.
+//! The reader of whole scenarios uses one contract: the declarations are what the entries mean, under either table,
+//! and a fault is their first.
 #![tactic(auto)]
 
 mod laws;

@@ -1,4 +1,4 @@
-//! What the lines of policies say under a table.
+//! What the lines of policies mean under a table.
 
 ghost use Rattle.std.specs.Prelude.{◌≡◌, List, IfOk};
 ghost use Rattle.mrpc_table.specs.Valid.{IsValid};
@@ -31,7 +31,7 @@ fn lines_at(alloc: Global, entry: &Table, key: &str) -> Result<Lines, Memory>
     Ok(lines)
 }
 
-// The access policy of an entry, or the reason of its first line at fault.
+// The access policy of an entry, or the reason of its first faulty line.
 pub(crate) fn access_in(
     alloc: Global,
     table: &Schema,
@@ -50,7 +50,7 @@ pub(crate) fn access_in(
     }
 }
 
-// The redacting policy of an entry, or the reason of its first line at fault.
+// The redacting policy of an entry, or the reason of its first faulty line.
 pub(crate) fn redact_in(
     alloc: Global,
     table: &Schema,
@@ -69,7 +69,7 @@ pub(crate) fn redact_in(
     }
 }
 
-// What lines say, as what a policy has that may have none.
+// The result of reading lines, as that of a policy that may have none.
 fn lined_by(ruled: Result<Policy, RuleReason>) -> Result<Option<Policy>, RuleReason>
     ensures { (k : TheKind) (T : TheTable) (ms : Members) → IsRuled k T ms ruled → IsLinesRead k T ms result }
 {
@@ -79,8 +79,8 @@ fn lined_by(ruled: Result<Policy, RuleReason>) -> Result<Option<Policy>, RuleRea
     }
 }
 
-// The policy of an entry as its lines say it under a table, or the reason of the first of them at fault; none where a
-// policy of its kind has no lines.
+// The policy that the lines of an entry mean under a table, or the reason of the first faulty one; `None` for a
+// policy whose kind has no lines.
 pub(crate) fn lined_policy(
     alloc: Global,
     table: &Schema,

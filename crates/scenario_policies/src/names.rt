@@ -13,28 +13,28 @@ use mrpc_table::is_name;
 use policy_blocks::Declarations;
 use scenario::{ScenarioReason, earlier, reason_if};
 
-// Whether the word is no name.
+// Whether the word isn't a name.
 pub(crate) fn is_no_name(word: &[u8]) -> bool
     ensures { result ≡ is_no_name word.now }
 {
     !is_name(word)
 }
 
-// Whether one of the words is no name.
+// Whether one of the words isn't a name.
 fn lacks_form(names: &[&[u8]]) -> bool
     ensures { result ≡ list_any (λ n. is_no_name n.now) names.now }
 {
     names.iter().any(|name| is_no_name(name))
 }
 
-/// Whether one of the names is that of no policy.
+/// Whether one of the names isn't that of a policy.
 pub fn lacks_policy(declared: &Declarations, names: &[&[u8]]) -> bool
     ensures { result ≡ list_any (λ n. is_none (policy_place declared.now n.now)) names.now }
 {
     names.iter().any(|name| declared.policy(name).is_none())
 }
 
-/// The first reason against names of policies: one that is no name, or one that no policy has.
+/// The first reason of faults in names of policies: one that isn't a name, or one that no policy has.
 pub fn names_reason(declared: &Declarations, names: &[&[u8]]) -> Option<ScenarioReason>
     ensures { (policies : List Members) → policy_names declared.now ≡ names_of policies
         → IsSoFar (NamesAgainst policies (map (λ n. n.now) names.now)) result }

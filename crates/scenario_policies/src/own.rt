@@ -1,4 +1,4 @@
-//! The policies that a connection uses, as they are read under the schema of its application.
+//! The policies that a connection uses, as read under the schema of its application.
 
 ghost use Rattle.std.specs.Prelude.{◌≡◌, ℕ, List, Some, IfOk, MatchResult, Contains, codes};
 ghost use Rattle.std.specs.Prelude.{false, length, map, replicate};
@@ -26,14 +26,14 @@ use scenario::{ScenarioReason, earliest, of_rule};
 use std::alloc::Global;
 use toml::Table;
 
-// So many places, of which none is marked.
+// `count` flags, none of which is set.
 fn unmarked(alloc: Global, count: usize) -> Result<Vec<bool>, Memory>
     ensures { IfOk result (λ marks. marks.items ≡ replicate count false) }
 {
     Ok(vec![in alloc; false; count]?)
 }
 
-// The places of the policies, of which those are marked that have one of the names.
+// A flag for each policy, set for those that have one of the names.
 fn marks_of(alloc: Global, declared: &Declarations, names: &[&[u8]]) -> Result<Vec<bool>, Memory>
     ensures { IfOk result (λ marks. AreMarked declared.now (map (λ n. n.now) names.now) marks.items) }
 {
@@ -46,7 +46,7 @@ fn marks_of(alloc: Global, declared: &Declarations, names: &[&[u8]]) -> Result<V
     Ok(marks)
 }
 
-// A declared policy as its entry says it under another table, or the reason of its first line at fault there.
+// A declared policy as its entry means it under another table, or the reason of its first faulty line there.
 fn read_again(
     alloc: Global,
     table: &Schema,
@@ -64,7 +64,7 @@ fn read_again(
     }
 }
 
-// The marked policies as their entries say them under another table, or the first reason against them.
+// The marked policies as their entries mean them under another table, or the first reason of their faults.
 fn read_marked(
     alloc: Global,
     table: &Schema,
@@ -95,9 +95,9 @@ fn read_marked(
     }
 }
 
-/// The policies that have one of the names, as their entries say them under an application's own table, or the first
-/// reason against them there. Names that no policy has are passed over. It takes time in proportion to the names and to
-/// the lines of those policies, and of all policies once.
+/// The policies that have one of the names, as their entries mean them under an application's own table, or the first
+/// reason of their faults there. Names that no policy has are skipped. Takes time in proportion to the names and to
+/// the lines of those policies, plus one pass over all policies.
 pub fn read_own_policies(
     alloc: Global,
     table: &Schema,

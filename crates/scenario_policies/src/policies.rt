@@ -1,4 +1,4 @@
-//! Policies, in the order in which they are declared.
+//! Policies, in the order of their declarations.
 
 ghost use Rattle.std.specs.Prelude.{◌≡◌, [], List, Some, None, IfOk, IsOk, MatchOption, MatchResult};
 ghost use Rattle.std.specs.List.{list_all};
@@ -30,7 +30,7 @@ use scenario_values::{are_within, word_at};
 use std::alloc::Global;
 use toml::Table;
 
-// Whether the numbers of a policy of a kind are in their ranges.
+// Whether the numbers of a policy of a kind are in range.
 fn is_within(kind: Kind, entry: &Table) -> bool
     ensures { result ≡ list_all (is_within_at (table_view entry.now)) (policy_ranges (Some kind)) }
 {
@@ -41,7 +41,7 @@ fn is_within(kind: Kind, entry: &Table) -> bool
     }
 }
 
-// The first reason against the tenant that a quota names.
+// The first reason of faults in the tenant of a quota.
 fn quota_reason(declared: &Declarations, kind: Kind, entry: &Table) -> Option<ScenarioReason>
     ensures { result ≡ quota_first kind declared.now (table_view entry.now) }
 {
@@ -55,7 +55,7 @@ fn quota_reason(declared: &Declarations, kind: Kind, entry: &Table) -> Option<Sc
     }
 }
 
-// The first reason against a policy with its keys behind those that are declared, but for its lines.
+// The first reason of faults, apart from its lines, in a policy that has its keys and follows those declared so far.
 fn head_reason(declared: &Declarations, kind: Kind, entry: &Table) -> Option<ScenarioReason>
     ensures { result ≡ head_first declared.now kind (table_view entry.now) }
 {
@@ -71,7 +71,7 @@ fn head_reason(declared: &Declarations, kind: Kind, entry: &Table) -> Option<Sce
     earlier(known, quota_reason(declared, kind, entry))
 }
 
-// The quota of an entry; none where its tenant isn't declared.
+// The quota of an entry; `None` if its tenant isn't declared.
 fn quota_in(declared: &Declarations, entry: &Table) -> Option<Policy>
     ensures { (T : TheTable) (tenants : List Members) → kind_of (table_view entry.now) ≡ Some of_kind.Quota
         → Each TenantSays tenants declared.now.tenants
@@ -89,8 +89,8 @@ fn quota_in(declared: &Declarations, entry: &Table) -> Option<Policy>
     }
 }
 
-// The policy of an entry of a kind, by what its lines say; none where the tenant of a quota isn't declared, or its
-// lines say nothing.
+// The policy of an entry of a kind, given what its lines mean; `None` if the tenant of a quota isn't declared, or the
+// lines have no meaning.
 fn policy_in(
     declared: &Declarations,
     kind: Kind,
@@ -116,7 +116,7 @@ fn policy_in(
     }
 }
 
-// The policy of an entry of a kind against which nothing stands, by what its lines say.
+// The policy of an entry without faults, of a kind, given what its lines mean.
 fn named_policy(
     alloc: Global,
     declared: &Declarations,
@@ -137,7 +137,7 @@ fn named_policy(
     }
 }
 
-// The policy of an entry behind those that are declared, or the first reason against it.
+// The policy of an entry that follows those declared so far, or the first reason of its faults.
 fn read_policy(
     alloc: Global,
     table: &Schema,
@@ -168,7 +168,7 @@ fn read_policy(
     }
 }
 
-// What is declared and one policy more, which an entry says, or the first reason against it.
+// The declarations with one more policy, that of an entry, or the first reason of its faults.
 fn with_policy(
     alloc: Global,
     table: &Schema,
@@ -189,7 +189,7 @@ fn with_policy(
     }
 }
 
-/// The tenants, and the policies of these entries.
+/// The declarations with the policies of these entries.
 pub fn read_policies(
     alloc: Global,
     table: &Schema,

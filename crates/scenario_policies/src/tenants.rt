@@ -1,4 +1,4 @@
-//! Tenants, in the order in which they are declared.
+//! Tenants, in the order of their declarations.
 
 ghost use Rattle.std.specs.Prelude.{◌≡◌, [], List, IfOk, MatchResult};
 ghost use Rattle.policy_blocks.specs.Declarations.{with_item};
@@ -21,7 +21,7 @@ use scenario_values::word_at;
 use std::alloc::Global;
 use toml::Table;
 
-// The first reason against a tenant behind those that are declared.
+// The first reason of faults in a tenant that follows those declared so far.
 fn tenant_reason(declared: &Declarations, entry: &Table) -> Option<ScenarioReason>
     ensures { result ≡ tenant_first declared.now (table_view entry.now) }
 {
@@ -38,7 +38,7 @@ fn tenant_reason(declared: &Declarations, entry: &Table) -> Option<ScenarioReaso
     )
 }
 
-// The tenants and one more, which an entry says, or the first reason against it.
+// The tenants with one more, that of an entry, or the first reason of its faults.
 fn with_tenant(
     alloc: Global,
     declared: Declarations,

@@ -1,4 +1,4 @@
--- Applications say what their entries say, where nothing stands against them and against the operators.
+-- Applications are what their entries mean, if they and the operators have no fault.
 use Rattle.std.proofs.Common.{◌≡◌, ℕ, ◌+◌, List, [], ◌∷◌, length, Contains, Option, Some, None, refl, sym, ap, subst, inl, inr}
 use Rattle.std.specs.Prelude.{codes, option_to_list}
 use Rattle.std.proofs.lemmas.List.Elements.{Contains-append_left}
@@ -28,7 +28,7 @@ use Rattle.scenario_reader.proofs.Naming as naming
 use Rattle.scenario_reader.proofs.Saying.{HasPlace, app_says}
 use Rattle.scenario_reader.proofs.Using.{append_right}
 
--- an entry of a list stands at a number
+-- an entry of a list has a number
 pub record Stands (entries : List Members) (ms : Members) : Type 0 where
   pub before : List Members
   pub number : ℕ

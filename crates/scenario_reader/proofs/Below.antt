@@ -1,4 +1,4 @@
--- What is read below the declarations, list by list, and the first fault there.
+-- The results after the declarations, list by list, and the first fault there.
 use Rattle.std.proofs.Common.{◌≡◌, ℕ, List, subst, refl}
 use Rattle.mrpc_table.specs.Valid.{AreDistinct}
 use Rattle.mrpc_table.specs.declared.table.Table.{Table}
@@ -27,7 +27,7 @@ use Rattle.scenario_reader.proofs.Assembling.{apps_say}
 use Rattle.scenario_reader.proofs.Distinct.{distinct_of}
 use Rattle.scenario_reader.proofs.Whole.{apps_fault, apps_free, links_fault, links_free, operators_fault, operators_free, policys_fault, tenants_fault}
 
--- what entries declare against which nothing stands has distinct names
+-- the declarations of entries without faults have distinct names
 pub names_distinct : (T : Table) (tenants entries : List Members) → AreFree (PolicyAgainst T tenants) entries → AreDistinct (names_of entries)
 names_distinct T tenants entries free =
     distinct_of name_of (PolicyAgainst T tenants) (λ before ms h. (Known, policies.is_known h refl)) entries free
@@ -42,7 +42,7 @@ pub tenant_fault : (all : Members) → FreeBelow all 1 → (entries : List Membe
 tenant_fault all below entries is f h =
     tenants_fault all below f (subst (λ (es : List Members). IsFaultIn (λ n. entry.Tenant n) TenantAgainst es f) is h)
 
--- the laws of tables and of declarations that a reader calls
+-- the laws of tables and of declarations that a reader uses
 abbrev pub OneTable : Type 0
 OneTable = (text : List ℕ) (T U : Table) → HasTable text T → HasTable text U → T ≡ U
 

@@ -1,4 +1,4 @@
--- Entries against which nothing stands declare different things.
+-- Entries without faults declare different things.
 use Rattle.std.proofs.Common.{◌≡◌, ◌+◌, List, [], ◌∷◌, ◌++◌, length, map, Contains, refl, sym, ap, ◌∙◌, subst, inl, inr, append_assoc}
 use Rattle.mrpc_table.specs.Valid.{AreDistinct}
 use Rattle.toml.specs.Data.{Members}

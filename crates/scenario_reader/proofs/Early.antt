@@ -1,4 +1,5 @@
--- What an application does and its own schema, or the first reason against these, its connection and its names.
+-- The role and the own schema of an application, or the first reason of faults in these, its connection and its
+-- names.
 use Rattle.std.proofs.Common.{◌≡◌, ℕ, List, Contains, Option, Some, None, Result, Ok, Err, refl, sym, ap, ◌∙◌, subst, inl, inr}
 use Rattle.std.specs.Prelude.{MatchResult, is_some}
 use Rattle.std.proofs.lemmas.Option.{same_Some}
@@ -23,7 +24,7 @@ use Rattle.scenario_reader.proofs.Applying.{part_reason}
 use Rattle.scenario_reader.proofs.FirstReason.{Either, joined, same_reasons}
 use Rattle.scenario_reader.proofs.Naming as naming
 
--- where nothing stands against names, each is that of a policy
+-- if names have no fault, each is that of a policy
 module _ (all : Members) (before : List Members) (ms : Members) where
   pub early_named : (d : Declared) → policy_names d ≡ names_of (policy_tables all) → ((q : ScenarioReason) → EarlyFails all before ms q → ⊥)
       → (name : List ℕ) → Contains (names_in ms) name → Contains (policy_names d) name

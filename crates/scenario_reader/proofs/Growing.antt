@@ -1,4 +1,4 @@
--- The applications that were read, one more at a time.
+-- The applications that were read, with one more at a time.
 use Rattle.std.proofs.Common.{◌≡◌, ℕ, ◌+◌, List, [], ◌∷◌, ◌++◌, length, sym, ap, ◌∙◌, subst}
 use Rattle.std.proofs.lemmas.List.{length-append}
 use Rattle.policy_blocks.specs.Declarations.{Declared}

@@ -1,4 +1,4 @@
--- The steps of an operator on the chain with which its application begins.
+-- The steps of an operator on the initial chain of its application.
 use Rattle.std.proofs.Common.{◌≡◌, ℕ, List, [], ◌∷◌, Contains, Some, Ok, Err, refl, sym, ap, ◌∙◌, subst}
 use Rattle.mrpc_table.specs.Lines.{in_64_bits, words_of}
 use Rattle.mrpc_table.specs.Valid.{AreDistinct}
@@ -102,7 +102,7 @@ module _ (d : Declared) where
       })) in
       (o.0 ∷ rest.0, (o.1, rest.1))
 
--- ---- the steps, taken or refused
+-- ---- the steps, applied or refused
 
 module _ (laws : Laws) (words : stepping.Laws) (all : Members) (d : Declared) (app ms : Members) (entries : List ChainEntry)
     (distinct : AreDistinct (policy_names d)) (begun : IsBegun d.policies app entries) (told : List StepText)

@@ -1,4 +1,4 @@
--- What stands against an application's policy for what is delivered, against its links, and against its names.
+-- The faults of an application in its policy for deliveries, in its links, and in its names.
 use Rattle.std.proofs.Common.{◌≡◌, ℕ, ◌==◌, true, false, List, [], ◌∷◌, map, Contains, Option, Some, None, refl, sym, ap, ◌∙◌, subst, inl, inr}
 use Rattle.std.specs.Bool.{Decides}
 use Rattle.std.specs.Prelude.{option_and_then, slice_get}

@@ -1,5 +1,5 @@
--- The first reason against an application's chain, against the policy that judges what it is delivered, against its place
--- among the links, and against the calls that are submitted up to it.
+-- The first reason of faults in an application's chain, the policy that judges deliveries, its links, and the calls
+-- submitted up to it.
 use Rattle.std.proofs.Common.{◌≡◌, ℕ, ◌+◌, ◌*◌, ◌<◌, ◌≤◌, List, [], ◌∷◌, ◌++◌, map, sum, Contains, Some, refl, sym, ap, ◌∙◌, arith}
 use Rattle.std.specs.Prelude.{codes}
 use Rattle.std.proofs.lemmas.List.Sums.{sum_by-cons}
@@ -67,7 +67,7 @@ module _ (all : Members) (d : Declared) (before : List Members) (ms : Members) (
         let w = walked ops (attached_ops d 0 (chain_of ms) ops distinct attached) in
         not_refused laws empty_chain w.after ops r empty_sound w.change first
 
-  -- what judges otherwise
+  -- a policy that doesn't judge deliveries
   abbrev pub NotOther : Type 0
   NotOther = (p : Members) → Contains (policy_tables all) p → text_at (codes "inbound") ms ≡ Some (name_of p)
       → (kind_of p ≡ Some kind.Access → ⊥) → ⊥

@@ -1,4 +1,4 @@
--- The application of an operator's connection, and the steps of an operator against which nothing else stands.
+-- The application of an operator's connection, and the steps of an operator without other faults.
 use Rattle.std.proofs.Common.{◌≡◌, ℕ, ◌==◌, List, [], ◌∷◌, get_or, map, Contains, Option, Some, None, Result, Ok, Err}
 use Rattle.std.proofs.Common.{sym, ap, ◌∙◌, subst, inl, inr, refl, true, false}
 use Rattle.std.specs.Prelude.{is_some, position, slice_get}
@@ -79,7 +79,7 @@ module _ (all : Members) (d : Declared) (tables : List Members) (apps : List App
         is = t.2;
       }
 
--- the chain with which it begins
+-- its initial chain
 pub begun_at : (d : Declared) (tables : List Members) (chains : List Chain) (i : ℕ) (table : Members) (x : Chain)
     → Each (λ ms chain. IsBegun d.policies ms chain.entries.items) tables chains → slice_get tables i ≡ Some table → x ≡ get_or chains i x
     → IsBegun d.policies table x.entries.items

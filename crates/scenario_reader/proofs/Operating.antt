@@ -1,4 +1,4 @@
--- The first reason against an operator, by those against its parts.
+-- The first reason of faults in an operator, from those of its parts.
 use Rattle.std.proofs.Common.{◌≡◌, ◌⊎◌, ℕ, ◌<◌, ◌≤◌, nat_lt, true, false, List, [], ◌∷◌, length, map, Contains}
 use Rattle.std.proofs.Common.{Option, Some, None, refl, sym, ap, ◌∙◌, subst, inl, inr, arith}
 use Rattle.std.specs.Bool.{Decides}

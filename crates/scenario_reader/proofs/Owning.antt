@@ -1,4 +1,4 @@
--- The schemas of applications, by what is read under them.
+-- The schemas of applications, and what is read under them.
 use Rattle.std.proofs.Common.{◌≡◌, ◌↔◌, ℕ, List, Contains, Some, Result, Ok, Err, inl, inr, refl, sym, ap, ◌∙◌, subst, arith}
 use Rattle.std.specs.Prelude.{MatchResult, codes}
 use Rattle.std.specs.Result.{result_unwrap_or}
@@ -81,7 +81,7 @@ module _ (all ms : Members) where
           policies = own.policies;
         }
 
-        -- what is read of the policies that are used, or the first reason against them
+        -- the result of reading the policies in use, or the first reason of their faults
         abbrev pub IsAgain : Result (List OwnPolicy) ScenarioReason → Type 0
         IsAgain r =
             MatchResult r (λ policies. AreOwn all T names policies × ((q : ScenarioReason) → NamedFails all ms (Contains names) q → ⊥))

@@ -1,4 +1,4 @@
--- Where something that passes a test stands in a list, and what stands at the same place of other lists.
+-- The index of an item that passes a test, and the items at the same index of other lists.
 use Rattle.std.proofs.Common.{◌≡◌, ℕ, zero, suc, ◌+◌, ◌<◌, not, Bool, true, false, cond, List, [], ◌∷◌, length}
 use Rattle.std.proofs.Common.{Contains, Some, None, refl, sym, ap, ◌∙◌, subst, inl, inr, arith}
 use Rattle.std.specs.Prelude.{nat_lt, slice_get, position}

@@ -1,4 +1,4 @@
--- Lines that are a program have nothing against them.
+-- Lines that are a program have no fault.
 use Rattle.std.proofs.Common.{◌≡◌, ℕ, ◌<◌, ◌≤◌, true, false, List, [], ◌∷◌, length, Some, inl, inr, refl, sym, ap, ◌∙◌, subst, arith}
 use Rattle.mrpc_table.specs.Lines.{words_of}
 use Rattle.mrpc_table.specs.declared.words.Decimal.{Decimal}
@@ -25,7 +25,7 @@ use Rattle.scenario_reader.specs.Joining.{ProgramFails}
 use Rattle.scenario_reader.proofs.Lists.{each_of}
 use Rattle.scenario_reader.proofs.Stepping.{line_order}
 
--- the laws of words that a reader calls
+-- the laws of words that a reader uses
 abbrev pub NotBoth : Type 0
 NotBoth = (sorts : List Sort) (words : List (List ℕ)) (ms : List Meaning) (r : ScriptReason)
     → AreSaid sorts words ms → IsAgainst sorts words r → ⊥
@@ -123,7 +123,7 @@ module _ (not : NotBoth) (one : One) (r : ProgramRole) (heap : ℕ) (texts : Lis
       absurd (omega (arith, few, over, same))
   program_free lines q says (no_reply server none is) = absurd (let e : true ≡ false = sym (says.reply server) ∙ none in cc)
 
-  -- ---- what an application does
+  -- ---- the role of an application
 
   module _ (w : RoleWord) (of : program_role w ≡ Some r) where
     fails_of : (q : ScenarioReason) → ProgramFails w heap texts q → (why : LineReason) × ProgramAgainst r heap texts why × (q ≡ of_line why)

@@ -1,4 +1,4 @@
--- Numbers of a table in their ranges.
+-- Numbers of a table that are in range.
 use Rattle.std.proofs.Common.{◌≡◌, true, false, List, [], ◌∷◌, Contains, ap, ◌∙◌, inl, inr}
 use Rattle.std.specs.List.{list_all}
 use Rattle.std.proofs.lemmas.Bool.{and_cases, and_parts, both_ways, cases_Bool, not-true, not_from_false}

@@ -1,4 +1,4 @@
--- What is kept of applications and operators is what their entries say.
+-- What is kept of applications and operators is what their entries mean.
 use Rattle.std.proofs.Common.{◌≡◌, ◌^◌, ℕ, ◌<◌, nat_lt, List, [], ◌∷◌, length, map, Contains, Option, Some, None, refl, sym, ap, ◌∙◌, subst, inl, inr, arith}
 use Rattle.std.specs.Prelude.{codes, filter_map, option_and_then, option_to_list, slice_get}
 use Rattle.std.specs.List.{cons_option}
@@ -34,7 +34,7 @@ use Rattle.scenario_reader.specs.Walking.{IsLineOf, IsOpOf, IsStepOf, named_in}
 use Rattle.scenario_reader.proofs.Lists.{there_first, there_more}
 use Rattle.scenario_reader.proofs.Walking.{Laws}
 
--- a name that is declared has a place
+-- a declared name has an index
 abbrev pub HasPlace : Declared → List ℕ → Type 0
 HasPlace d name = (place : ℕ) × (policy_place d name ≡ Some place)
 

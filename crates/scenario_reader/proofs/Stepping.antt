@@ -28,7 +28,7 @@ use Rattle.scenario_reader.specs.Stepping.{HasTold, LineFails, LinesAgainst, Som
 use Rattle.scenario_reader.proofs.FirstReason.{Either, joined, same_reasons}
 use Rattle.scenario_reader.proofs.Lists.{none_in, snoc_split, there_cases, there_first, there_more}
 
--- the laws of words that a reader calls
+-- the laws of words that a reader uses
 pub record Laws : Type 0 where
   pub one : (sorts : List Sort) (words : List (List ℕ)) (ms ns : List Meaning) → AreSaid sorts words ms → AreSaid sorts words ns → ms ≡ ns
   pub not_both : (sorts : List Sort) (words : List (List ℕ)) (ms : List Meaning) (r : ScriptReason) → AreSaid sorts words ms → IsAgainst sorts words r → ⊥
@@ -44,7 +44,7 @@ tells_count step.Upgrade ms (text.Attach count at name policy) h = absurd h
 tells_count step.Upgrade ms (text.Detach count name) h = absurd h
 tells_count step.Upgrade ms (text.Upgrade count name policy) h = h.0
 
--- the reasons of lines come in one order
+-- the reasons of lines keep their order
 pub line_order : (a b : LineReason) → line_reasons.order_of a ≤ line_reasons.order_of b → order_of (of_line a) ≤ order_of (of_line b)
 line_order line_reason.Number line_reason.Number h = omega arith
 line_order line_reason.Number line_reason.Name h = omega arith
@@ -64,7 +64,7 @@ line_order line_reason.Place line_reason.Word h = absurd (omega (arith, h))
 line_order line_reason.Place line_reason.Place h = omega arith
 
 module _ (laws : Laws) where
-  -- a line tells one count
+  -- a line has one count
   one_count : (line : List ℕ) (a b : StepText) → StepSays line a → StepSays line b → count_in a ≡ count_in b
   one_count line a b p q =
       let form : p.form ≡ q.form = same_Some _ _ (sym p.is_form ∙ q.is_form) in
@@ -72,7 +72,7 @@ module _ (laws : Laws) where
       let same = laws.one (step_sorts q.form) (words_of line) p.meanings q.meanings said q.said in
       tells_count p.form p.meanings a p.tells ∙ ap (λ (ms : List Meaning). number_at ms 0) same ∙ sym (tells_count q.form q.meanings b q.tells)
 
-  -- a line that tells something has no fault
+  -- a line with a meaning has no fault
   pub told_fine : (line : List ℕ) (s : StepText) (why : LineReason) → StepSays line s → StepAgainst line why → ⊥
   told_fine line s why p (no_form none is) = absurd (let form = p.is_form in let no : None ≡ Some p.form = sym none ∙ form in cc)
   told_fine line s why p (in_words f form words) =
@@ -80,7 +80,7 @@ module _ (laws : Laws) where
       laws.not_both (step_sorts p.form) (words_of line) p.meanings words.0 p.said
       (subst (λ (g : StepForm). IsAgainst (step_sorts g) (words_of line) words.0) same words.1)
 
-  -- ---- a line more
+  -- ---- one more line
 
   tell_more : (lines : List (List ℕ)) (told : List StepText) (line : List ℕ) (s : StepText) → SomeTell lines told → StepSays line s
       → SomeTell (lines ++ line ∷ []) (told ++ s ∷ [])
@@ -126,7 +126,7 @@ module _ (laws : Laws) where
       less = h.less;
     }
 
-    -- the line tells less than one before it
+    -- the line has a lesser count than an earlier one
     abbrev FallsHere : Type 0
     FallsHere = (count : ℕ) × TellsCount lines count × ((s : StepText) × StepSays line s × (count_in s < count))
 
@@ -181,7 +181,7 @@ module _ (laws : Laws) where
           less = (let same = told.4 in let less = h.2.2 in omega (arith, same, less));
         }
 
-    -- ---- what stands against one line more
+    -- ---- faults of one more line
 
     module _ (s : StepText) (says : StepSays line s) (most : ℕ) (above : (count : ℕ) → TellsCount lines count → count ≤ most)
         (reached : (most ≡ 0) ⊎ TellsCount lines most) where
@@ -191,7 +191,7 @@ module _ (laws : Laws) where
         | inr here ↦ (let same = one_count line here.0 s here.1 says in let is = here.2 in omega (arith, same, is, own))
       ]
 
-      -- against a line that tells something nothing stands but that counts fall
+      -- the only fault of a line with a meaning is a count that decreases
       against_cases : (q : ScenarioReason) → LinesAgainst (lines ++ line ∷ []) q → LinesAgainst lines q ⊎ (FallsHere × (q ≡ Number))
       against_cases q (inl h) = elim (Contains-push_cases lines line h.0 h.2) [
         | inl there ↦ inl (inl (h.0, h.1, there, h.3, h.4))
@@ -237,7 +237,7 @@ module _ (laws : Laws) where
             | inr falls ↦ inr falls.1
           ])
 
-    -- ---- a line at fault
+    -- ---- a faulty line
 
     module _ (why : LineReason) (is : IsFirst (StepAgainst line) why) where
       abbrev FailsHere : ScenarioReason → Type 0
@@ -289,7 +289,7 @@ module _ (laws : Laws) where
         reason = reason_fault first so_far.reason;
       }
 
-    -- ---- a line that tells something
+    -- ---- a line with a meaning
 
     module _ (s : StepText) (says : StepSays line s) (told : List StepText) (most : ℕ) (first : Option ScenarioReason)
         (so_far : HasTold lines told most first) where

@@ -1,4 +1,4 @@
--- Step lines tell one step each, which names one policy and stands for one step of a chain.
+-- Step lines mean one step each, which names one policy and is one operation on a chain.
 use Rattle.std.proofs.Common.{◌≡◌, ℕ, zero, suc, ◌+◌, List, [], ◌∷◌, map, Contains, Option, Some, None, refl, sym, ap, ◌∙◌, subst, inl, inr, arith}
 use Rattle.std.specs.Prelude.{filter_map, option_and_then, slice_get}
 use Rattle.std.proofs.lemmas.Option.{same_Some}
@@ -27,7 +27,7 @@ use Rattle.scenario_reader.proofs.Lists.{none_in, there_cases, there_first, ther
 use Rattle.scenario_reader.proofs.Naming as naming
 use Rattle.scenario_reader.proofs.Stepping.{Laws, told_fine}
 
--- ---- what one line tells
+-- ---- the meaning of one line
 
 pub record Again (a b : StepText) : Type 0 where
   pub form : StepForm
@@ -97,7 +97,7 @@ there_map f (y ∷ ys) x h = elim (there_cases y ys x h) [
   | inr more ↦ there_more (f y) (map f ys) (f x) (there_map f ys x more)
 ]
 
--- of items with distinct names there is one of each name
+-- of items with distinct names, each name has one item
 pub distinct_same : {X Y : Type 0} (f : X → Y) (xs : List X) (x y : X) → AreDistinct (map f xs) → Contains xs x → Contains xs y
     → f x ≡ f y → x ≡ y
 distinct_same f [] x y d h k e = absurd (let within = h.1 in omega (arith, within))
@@ -176,7 +176,7 @@ module _ (laws : Laws) where
         second = q.tells;
       }
 
-  -- a step of a chain, by what was told
+  -- an operation on a chain, from the meaning of its line
   pub op_told : (d : Declared) (line : List ℕ) (told : StepText) (o : Op) → AreDistinct (policy_names d) → StepSays line told
       → Steps d.policies line o → IsOpOf d told o
   op_told d line told o distinct says (attaches other at name p other_says is there e) =
@@ -223,7 +223,7 @@ module _ (laws : Laws) where
   ops_told d (l ∷ lines) (t ∷ told) (o ∷ ops) distinct says steps =
       (op_told d l t o distinct says.0 steps.0, ops_told d lines told ops distinct says.1 steps.1)
 
-  -- where no line is at fault each tells something
+  -- if no line has a fault, each has a meaning
   pub all_tell : (lines : List (List ℕ)) (told : List StepText) → SomeTell lines told
       → ((line : List ℕ) (why : LineReason) → Contains lines line → StepAgainst line why → ⊥) → Each StepSays lines told
   all_tell [] told t none = subst (λ (xs : List StepText). Each StepSays [] xs) (sym t) tt

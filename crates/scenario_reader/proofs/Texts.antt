@@ -1,4 +1,4 @@
--- What is read of a whole table is what its text says.
+-- The result of reading a top table is what its text means.
 use Rattle.std.proofs.Common.{ℕ, ◌<◌, List, Result, Ok, Err, arith}
 use Rattle.std.specs.Prelude.{IfOk, MatchResult}
 use Rattle.run_plan.specs.Plans.{IsPlan}

@@ -1,4 +1,4 @@
--- The first reason against the keys of the whole.
+-- The first reason of faults in the keys of the top table.
 use Rattle.std.proofs.Common.{◌≡◌, ◌≤◌, true, false, Result, refl, arith}
 use Rattle.std.specs.Prelude.{MatchResult, codes}
 use Rattle.std.specs.List.{list_all}
@@ -19,7 +19,7 @@ use Rattle.scenario_reader.specs.Whole.{IsTopFault}
 use Rattle.scenario_reader.proofs.Ranges.{all_within, one_out}
 use Rattle.scenario_reader.proofs.FirstReason.{alone_first, at_least}
 
--- what was read of the whole
+-- the result of reading the top table
 abbrev pub IsTopRead : Members → Result Table ScenarioFault → Type 0
 IsTopRead all r =
     MatchResult r (λ T. HasTable (schema_of all) T × ((q : ScenarioReason) → TopAgainst all q → ⊥)) (IsTopFault all)

@@ -1,4 +1,4 @@
--- Steps that change a chain one after another, and the first one that is refused.
+-- Operations that change a chain one after another, and the first one that is refused.
 use Rattle.std.proofs.Common.{◌≡◌, ◌^◌, Bool, if◌then◌else◌, ℕ, suc, ◌+◌, ◌<◌, List, [], ◌∷◌, ◌++◌, length, get_or}
 use Rattle.std.proofs.Common.{map, take, drop, Option, Some, None, refl, sym, ap, ◌∙◌, subst, arith}
 use Rattle.std.specs.Borrow.{Bor}
@@ -25,7 +25,7 @@ use Rattle.scenario_lines.specs.declared.step.StepText.{StepText}
 use Rattle.scenario_reader.specs.Walking.{AreOpsOf, Attaches, IsLineOf, IsOpOf, IsRefusedFor, IsStepOf, IsWalkedTo, named_in}
 use Rattle.scenario_reader.proofs.Lists.{each_push}
 
--- the laws of chains that a walk calls
+-- the laws of chains that a walk uses
 pub record Laws : Type 0 where
   pub one : (before after other : Chain) (o : Op) → IsChain before → Changes before o after → Changes before o other → after ≡ other
   pub not_both : (before after : Chain) (o : Op) (r : Refusal) → Changes before o after → Refuses before o r → ⊥
@@ -57,7 +57,7 @@ module _ (laws : Laws) where
       let same : h.0 ≡ k.0 = laws.one a h.0 k.0 x sound h.1 k.1 in
       changing_one h.0 b c xs (laws.stays a h.0 x sound h.1) h.2 (subst (λ (m : Chain). Changing m xs c) (sym same) k.2)
 
-  -- steps of which one is refused don't all change it
+  -- operations of which one is refused don't all change it
   pub not_refused : (a b : Chain) (ops : List Op) (r : Refusal) → IsChain a → Changing a ops b → FirstRefused a ops r → ⊥
   not_refused a b ops r sound h f =
       let split = changing_split a b f.front (f.step ∷ f.back) (subst (λ (xs : List Op). Changing a xs b) f.whole h) in
@@ -89,7 +89,7 @@ module _ (laws : Laws) where
       refused_one a f.front g.front f.back g.back f.step g.step f.before g.before p q sound (sym f.whole ∙ g.whole) f.change f.refuses
       g.change g.refuses
 
--- ---- lists of steps by the lists of what they stand for
+-- ---- lists of steps, by the lists of their operations
 
 module _ {X Y : Type 0} (R : X → Y → Type 0) where
   pub record Split (xs back : List X) (x : X) (ys : List Y) : Type 0 where
@@ -155,7 +155,7 @@ module _ (d : Declared) where
         after = subst (λ (n : ℕ). AreOpsOf d (n + 1) back r.behind) more r.after;
       }
 
--- ---- one step more
+-- ---- one more step
 
 split_told : {X : Type 0} (xs : List X) (i : ℕ) (x : X) → i < length xs → xs ≡ take i xs ++ get_or xs i x ∷ drop (i + 1) xs
 split_told {X = X} xs i x within = sym (take-append-drop i xs) ∙ ap (λ (ys : List X). take i xs ++ ys) (drop_more xs i x within)
@@ -265,7 +265,7 @@ pub begun : (d : Declared) (entries : List ChainEntry) → IsKept entries empty_
 begun d entries kept sound [] h = record { after = empty_chain; change = refl; kept = kept; sound = sound }
 begun d entries kept sound (o ∷ ops) h = absurd h
 
--- ---- what is attached, by what was found
+-- ---- attachments, from what was found
 
 pub attaches_changed : (d : Declared) (i : ℕ) (name : List ℕ) (o : Op) (named : NamedPolicy) (before : Chain) (entries : List ChainEntry)
     (r : Option ScenarioReason) → Attaches d i name name o → Some named ≡ named_in d name

@@ -1,4 +1,4 @@
--- What stands against a whole scenario, list by list.
+-- The faults of a whole scenario, list by list.
 use Rattle.std.proofs.Common.{◌≡◌, nat_lt, ℕ, ◌+◌, ◌<◌, List, [], ◌∷◌, ◌++◌, length, refl, sym, ap, ◌∙◌, subst, inl, inr, arith}
 use Rattle.std.proofs.lemmas.Bool.{cases_Bool, ltb-false, ltb-true}
 use Rattle.mrpc_table.specs.declared.table.Table.{Table}
@@ -43,7 +43,7 @@ module _ {X : Type 0} where
       let r = split_before before others x y back rest tails (omega (arith, n)) in
       (r.0, ap (λ (z : X). z ∷ others) heads ∙ ap (λ (zs : List X). b ∷ zs) r.1)
 
--- two entries at one number are one, and one at a lesser number stands before the other
+-- two entries with one number are equal, and one with a lesser number precedes the other
 same_place : (entries before others : List Members) (x y : Members) (n : ℕ) → StandsAt entries before x n → StandsAt entries others y n
     → (before ≡ others) × (x ≡ y)
 same_place entries before others x y n a b =
@@ -101,7 +101,7 @@ module _ (all : Members) (list : ℕ) (place : ℕ → Entry) (entries : List Me
           let low = first.first.first r here in
           absurd (omega (arith, low, less))
 
--- ---- the whole
+-- ---- the top table
 
 pub top_free : (all : Members) → ((q : ScenarioReason) → TopAgainst all q → ⊥) → FreeBelow all 1
 top_free all none at q less (whole.top is h) = none q h

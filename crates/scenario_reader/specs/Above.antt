@@ -1,4 +1,4 @@
--- The code's own: what stands above the applications of a scenario, and how a part of an entry is read.
+-- The code's own: what the applications of a scenario depend on, and how a part of an entry is read.
 use Rattle.std.specs.Prelude.{◌≡◌, Result, Ok, Err}
 use Rattle.mrpc_table.specs.Valid.{AreDistinct}
 use Rattle.mrpc_table.specs.declared.table.Table.{Table}
@@ -24,7 +24,7 @@ pub record IsAbove (all : Members) (T : Table) (above : Above) : Type 0 where
   pub ends : above.ends.now ≡ all_ends (link_tables all)
   pub loads : above.loads ≡ number_in loads all
 
--- nothing stands against a part, and it says this; or this is the first reason against it
+-- a part has no fault, and means this; or this is the first reason of its faults
 abbrev pub IsPart : {X : Type 0} → (ScenarioReason → Type 0) → (X → Type 0) → Result X ScenarioReason → Type 0
 IsPart Fails Says (Ok x) = ((q : ScenarioReason) → Fails q → ⊥) × Says x
 IsPart Fails Says (Err q) = IsFirstReason Fails q

@@ -1,4 +1,4 @@
--- The code's own: what is read of an application, part by part.
+-- The code's own: the results of reading an application, part by part.
 use Rattle.std.specs.Prelude.{◌≡◌, ◌⊎◌, ℕ, ◌<◌, ◌==◌, Bool, true, false, not, List, [], ◌∷◌, ◌++◌, map, sum, filter_map, codes, Contains, Option, Some, None, option_and_then, slice_get, Result, Ok, Err}
 use Rattle.std.specs.List.{list_any}
 use Rattle.engine_core.specs.Chains.{Refusal}
@@ -41,14 +41,14 @@ use Rattle.scenario_reader.specs.declared.above.JoinedApplication.{JoinedApplica
 use Rattle.scenario_reader.specs.declared.application.Early.{Early}
 use Rattle.scenario_reader.specs.declared.application.Late.{Late}
 
--- the reason of what wasn't read
+-- the reason of a part with a fault
 abbrev pub reason_in : {X : Type 0} → Result X ScenarioReason → Option ScenarioReason
 reason_in (Ok x) = None
 reason_in (Err q) = Some q
 
 -- ---- programs
 
--- a reason stands against the program of a role
+-- the program of a role has a fault with this reason
 pub record ProgramFails (r : RoleWord) (heap : ℕ) (texts : List (List ℕ)) (q : ScenarioReason) : Type 0 where
   pub of : ProgramRole
   pub is_of : program_role r ≡ Some of
@@ -66,7 +66,7 @@ IsRoleRead r words texts = IsPart (ProgramFails r words texts) (SaysRole r words
 
 -- ---- names and the connection
 
--- a reason stands against the names of an application, or against its connection behind others
+-- the names of an application, or its connection, have a fault with this reason
 abbrev pub AppHeadFails : List Members → List Members → ℕ → List (List ℕ) → ScenarioReason → Type 0
 AppHeadFails policies before conn names q =
     NamesAgainst policies names q ⊎ (Contains (conns_of before) conn × (q ≡ Known))
@@ -78,7 +78,7 @@ abbrev pub EarlyFails : Members → List Members → Members → ScenarioReason 
 EarlyFails all before ms q =
     (AppHeadFails (policy_tables all) before (conn_of ms) (names_in ms) q ⊎ RoleFails ms q) ⊎ AppOwnFails all ms q
 
--- nothing of these stands
+-- none of these faults is there
 abbrev pub NotEarly : Members → List Members → Members → Type 0
 NotEarly all before ms = (q : ScenarioReason) → EarlyFails all before ms q → ⊥
 
@@ -89,7 +89,7 @@ pub record EarlySays (all ms : Members) (e : Early) : Type 0 where
 abbrev pub IsEarlyRead : Members → List Members → Members → Result Early ScenarioReason → Type 0
 IsEarlyRead all before ms = IsPart (EarlyFails all before ms) (EarlySays all ms)
 
--- ---- the chain, the policy that judges what is delivered, links and work
+-- ---- the chain, the policy that judges deliveries, links and work
 
 abbrev pub is_access : Policy → Bool
 is_access (policy.Access p) = true
@@ -114,7 +114,7 @@ pub data LateFails (all : Members) (declared : List NamedPolicy) (before : List 
   alone : (Contains (all_ends (link_tables all)) (conn_of ms) → ⊥) → q ≡ Pair → LateFails all declared before ms q
   too_much : MAX_WORK < work all (before ++ ms ∷ []) → q ≡ Work → LateFails all declared before ms q
 
--- the chain behind the attachments of an application has these entries
+-- the chain after the attachments of an application has these entries
 pub record IsBegun (declared : List NamedPolicy) (ms : Members) (entries : List ChainEntry) : Type 0 where
   pub attached : List Op
   pub are : AreAttached declared 0 (chain_of ms) attached
@@ -140,7 +140,7 @@ pub record IsDraft (d : Declared) (ms : Members) (said : Role) (schema : Option 
   pub inbound : app.inbound ≡ option_and_then (policy_place d) (text_at (codes "inbound") ms)
   pub own : app.own ≡ schema
 
--- an application was read; its own policies are those that are used, where none of them fails
+-- an application was read; its own policies are those in use, if none of them fails
 pub record IsApp (all : Members) (d : Declared) (ms : Members) (app : Application) : Type 0 where
   pub said : Role
   pub own : Option OwnSchema

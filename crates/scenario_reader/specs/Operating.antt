@@ -1,4 +1,4 @@
--- The code's own: what stands against an operator, part by part.
+-- The code's own: the faults of an operator, part by part.
 use Rattle.std.specs.Prelude.{◌≡◌, ℕ, ◌<◌, ◌==◌, Bool, List, length, Contains, Some, None, Result, Ok, Err}
 use Rattle.std.specs.List.{list_any}
 use Rattle.engine_core.specs.Chains.{Chain, IsChain, Refusal}
@@ -26,7 +26,7 @@ use Rattle.scenario_reader.specs.Walking.{IsOpOf, IsStepOf, IsWalked}
 abbrev pub is_operated : List Operator → ℕ → Bool
 is_operated operators conn = list_any (λ o. o.conn == conn) operators
 
--- a reason stands against the lines, the connection or the named policies of an operator
+-- the lines, the connection or the named policies of an operator have a fault with this reason
 pub data OperatorHeadFails (all : Members) (before : List Members) (ms : Members) (q : ScenarioReason) : Type 0 where
   in_lines : LinesAgainst (steps_of ms) q → OperatorHeadFails all before ms q
   too_many : MAX_STEPS < length (steps_of ms) → q ≡ Number → OperatorHeadFails all before ms q
@@ -50,7 +50,7 @@ pub record StepFails (all : Members) (declared : List NamedPolicy) (app ms : Mem
   pub refused : FirstRefused start ops refusal
   pub is : q ≡ of_refusal refusal
 
--- the operator on a connection with these steps, on a chain with these entries; or why one of them is refused
+-- the operator on a connection with these steps, on a chain with these entries; or the reason of the first refusal
 abbrev pub IsOperatorOf : Declared → List ChainEntry → ℕ → List StepText → Result Operator ScenarioReason → Type 0
 IsOperatorOf d entries conn told (Ok o) =
     (o.conn ≡ conn) × Each (IsStepOf d) told o.steps

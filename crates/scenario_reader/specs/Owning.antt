@@ -1,4 +1,4 @@
--- The code's own: the schemas of applications, and the policies that are read under them.
+-- The code's own: the schemas of applications, and the policies read under them.
 use Rattle.std.specs.Prelude.{◌≡◌, ◌⊎◌, ◌↔◌, ℕ, List, codes, Contains, Option, Some, None, IfSome, Result, Ok, Err}
 use Rattle.mrpc_table.specs.Valid.{IsValid}
 use Rattle.mrpc_table.specs.declared.table.Table.{Table}
@@ -32,11 +32,12 @@ pub record HasNoTable (ms : Members) (q : ScenarioReason) : Type 0 where
   pub none : (T : Table) → HasTable text T → ⊥
   pub is : q ≡ Schema
 
--- a reason stands against the own schema of an application: it has no table, or a policy that is named fails under it
+-- the own schema of an application has a fault with this reason: it has no table, or a policy that the application
+-- names fails under it
 abbrev pub AppOwnFails : Members → Members → ScenarioReason → Type 0
 AppOwnFails all ms q = HasNoTable ms q ⊎ NamedFails all ms (Contains (names_in ms)) q
 
--- the own schema, whose policies are those that are used, where none of them fails under it
+-- the own schema, with the policies in use, if none of them fails under it
 pub record IsOwn (all ms : Members) (own : OwnSchema) : Type 0 where
   pub text : List ℕ
   pub there : text_at (codes "schema") ms ≡ Some text
@@ -51,7 +52,7 @@ IsOwnOf all ms (Some own) = IsOwn all ms own
 abbrev pub IsOwnRead : Members → Members → Result (Option OwnSchema) ScenarioReason → Type 0
 IsOwnRead all ms = IsPart (AppOwnFails all ms) (IsOwnOf all ms)
 
--- the own schema of this table with the policies, or the first reason against it
+-- the own schema with this table and the policies, or the first reason of its faults
 abbrev pub IsOwnUnder : Members → Members → Table → Result (List OwnPolicy) ScenarioReason → Type 0
 IsOwnUnder all ms table (Ok policies) = IsOwnRead all ms (Ok (Some (record { table = table; policies = policies })))
 IsOwnUnder all ms table (Err q) = IsOwnRead all ms (Err q)

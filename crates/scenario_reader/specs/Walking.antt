@@ -1,4 +1,4 @@
--- The code's own: steps of operators as a chain takes them and as a plan has them.
+-- The code's own: steps of operators as a chain applies them and as a plan has them.
 use Rattle.std.specs.Prelude.{◌≡◌, ℕ, ◌+◌, ◌<◌, ◌^◌, List, [], ◌∷◌, Option, Some, None, option_and_then, slice_get}
 use Rattle.mrpc_table.specs.Lines.{in_64_bits}
 use Rattle.engine_core.specs.Chains.{Chain, IsChain, Refusal}
@@ -19,11 +19,11 @@ use Rattle.scenario_entries.specs.declared.chain.ChainEntry.{ChainEntry}
 use Rattle.scenario_lines.specs.declared.step.StepText.{StepText}
 use Rattle.scenario_lines.specs.declared.step.StepText.TheVariants as text
 
--- the first declared policy of a name
+-- the first declared policy with a name
 abbrev pub named_in : Declared → List ℕ → Option NamedPolicy
 named_in d name = option_and_then (slice_get d.policies) (policy_place d name)
 
--- what a step does to a chain, with the policy that it names
+-- the operation of a step on a chain, with the policy that it names
 pub record Attaches (d : Declared) (position : ℕ) (name policy : List ℕ) (o : Op) : Type 0 where
   pub p : NamedPolicy
   pub found : named_in d policy ≡ Some p
@@ -39,13 +39,13 @@ IsOpOf d (text.Attach count at name policy) o = (n : ℕ) × (at ≡ in_64_bits 
 IsOpOf d (text.Detach count name) o = o ≡ op.Detach name.now
 IsOpOf d (text.Upgrade count name policy) o = Upgrades d name.now policy.now o
 
--- attachments from a place on, each of the declared policy of its name
+-- attachments from a position on, each of the declared policy with its name
 abbrev pub AreOpsOf : Declared → ℕ → List (List ℕ) → List Op → Type 0
 AreOpsOf d at [] [] = Unit {0}
 AreOpsOf d at (name ∷ names) (o ∷ ops) = Attaches d at name name o × AreOpsOf d (at + 1) names ops
 AreOpsOf d at _ _ = ⊥
 
--- the chain took the steps; or this is why it refuses the first one that it refuses
+-- the chain refuses one of the steps, and this is the reason of the first refusal
 abbrev pub IsRefusedFor : Chain → List Op → ScenarioReason → Type 0
 IsRefusedFor start ops q = (refusal : Refusal) × FirstRefused start ops refusal × (q ≡ of_refusal refusal)
 
@@ -53,14 +53,14 @@ abbrev pub IsWalked : Chain → List Op → Option ScenarioReason → Type 0
 IsWalked start ops None = (after : Chain) × Changing start ops after
 IsWalked start ops (Some q) = IsRefusedFor start ops q
 
--- the chain took the steps, and these are its entries then
+-- the chain applied the steps, and has these entries now
 pub record IsWalkedTo (start : Chain) (ops : List Op) (entries : List ChainEntry) : Type 0 where
   pub after : Chain
   pub change : Changing start ops after
   pub kept : IsKept entries after
   pub sound : IsChain after
 
--- a step as a plan has it, where its policy is declared and its position is one of a chain
+-- a step as a plan has it, if its policy is declared and a chain has its position
 abbrev pub IsLineOf : Declared → StepText → StepLine → Type 0
 IsLineOf d (text.Attach count at name policy) (line.Attach position n place) =
     (n ≡ name.now) × ((k : ℕ) → at ≡ in_64_bits k → k < 2 ^ 32 → position ≡ k)

@@ -1,4 +1,4 @@
--- The code's own: faults of the text and of the whole.
+-- The code's own: faults of the text and of the top table.
 use Rattle.std.specs.Prelude.{◌≡◌, ℕ, ◌<◌, List, codes}
 use Rattle.mrpc_table.specs.declared.table.Table.{Table}
 use Rattle.toml.specs.Data.{Members}
@@ -19,17 +19,17 @@ use Rattle.scenario_reader.specs.declared.reader.Below.{Below}
 use Rattle.scenario_reader.specs.declared.reader.Declared.{Declared}
 use Rattle.scenario_reader.specs.declared.reader.Parts.{Parts}
 
--- the text is no TOML
+-- the text isn't TOML
 abbrev pub IsNoTable : List ℕ → ScenarioFault → Type 0
 IsNoTable text (fault.At at reason) = ((all : Members) → IsTableText text all → ⊥) × (at ≡ entry.Top) × (reason ≡ Toml)
 IsNoTable text fault.Memory = Unit {0}
 
--- the first reason against the keys of the whole
+-- the first reason of faults in the keys of the top table
 abbrev pub IsTopFault : Members → ScenarioFault → Type 0
 IsTopFault all (fault.At at reason) = (at ≡ entry.Top) × IsFirstReason (TopAgainst all) reason
 IsTopFault all fault.Memory = Unit {0}
 
--- nothing stands against the entries of the lists before this one
+-- no entry of the lists before this one has a fault
 abbrev pub FreeBelow : Members → ℕ → Type 0
 FreeBelow all k = (at : Entry) (q : ScenarioReason) → list_of_entry at < k → IsAgainst all at q → ⊥
 
@@ -38,14 +38,14 @@ abbrev pub IsFirstOf : Members → ScenarioFault → Type 0
 IsFirstOf all (fault.At at reason) = IsFirst all at reason
 IsFirstOf all fault.Memory = Unit {0}
 
--- what the lists below the declarations say, and nothing stands against any entry
+-- what the lists after the declarations mean, given that no entry has a fault
 pub record SaysBelow (all : Members) (b : Below) : Type 0 where
   pub free : FreeBelow all 6
   pub applications : Each (AppSays all) (app_tables all) b.applications
   pub links : Each LinkSays (link_tables all) b.links
   pub operators : Each (OperatorSays all) (operator_tables all) b.operators
 
--- what the lists of tenants and policies say under a table, and nothing stands against their entries
+-- what the lists of tenants and policies mean under a table, given that none of their entries has a fault
 pub record SaysDeclared (all : Members) (T : Table) (d : Declared) : Type 0 where
   pub free : FreeBelow all 3
   pub of_policies : AreFree (PolicyAgainst T (tenant_tables all)) (policy_tables all)
@@ -53,7 +53,7 @@ pub record SaysDeclared (all : Members) (T : Table) (d : Declared) : Type 0 wher
   pub policies : Each (PolicySays T (tenant_tables all)) (policy_tables all) d.declarations.policies
   pub entries : views d.policies.items ≡ policy_tables all
 
--- what is read of a whole under its table, and nothing stands against any entry
+-- what a scenario means under its table, given that no entry has a fault
 pub record SaysParts (all : Members) (T : Table) (parts : Parts) : Type 0 where
   pub service : parts.service ≡ word_at (codes "service") all
   pub tenants : Each TenantSays (tenant_tables all) parts.declared.tenants

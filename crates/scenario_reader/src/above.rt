@@ -1,4 +1,4 @@
-//! What stands above the applications of a scenario, and what is kept of those that were read.
+//! What the applications of a scenario depend on, and the results of those that were read.
 
 use mrpc_table::Sequence;
 use policy_blocks::Declarations;
@@ -6,17 +6,17 @@ use run_plan::Application;
 use scenario_entries::{Chain, Port};
 use toml::Table;
 
-// What stands above the applications, or beside them.
+// What is read before the applications, or needed beside them.
 #[derive(Clone, Copy)]
 pub(crate) struct Above<'a, 'o, 'e> {
     pub declared: &'a Declarations,
     // The entries of the policies, as many as are declared.
     pub policies: &'a [&'a Table],
-    // The entries of the operators, which weren't looked at yet.
+    // The entries of the operators, which aren't checked yet.
     pub operators: &'o [&'a Table],
     // The ends of all links.
     pub ends: &'e [u64],
-    // How many loads one call makes at most.
+    // The maximum number of loads of one call.
     pub loads: u64,
 }
 
@@ -25,13 +25,13 @@ pub(crate) struct Above<'a, 'o, 'e> {
 pub(crate) struct JoinedApplication<'a> {
     pub port: Port,
     pub app: Application,
-    // The chain behind its attachments.
+    // The chain after its attachments.
     pub chain: Chain<'a>,
-    // How many calls the clients up to this one submit.
+    // The number of calls that the clients up to this one submit.
     pub submitted: u64,
 }
 
-// The applications that were read, each at one place of these lists.
+// The applications that were read, each at the same index of these lists.
 #[derive(Drop)]
 pub(crate) struct Apps<'a> {
     pub ports: Vec<Port>,

@@ -40,7 +40,7 @@ use script_words::one_judgement;
 use std::alloc::Global;
 use toml::Table;
 
-// What the program of an application says, or the first reason against it.
+// What an application's program means, or the first reason of its faults.
 fn role_in(
     alloc: Global,
     role: RoleWord,
@@ -63,14 +63,14 @@ fn role_in(
     }
 }
 
-// Whether the numbers of an application are in their ranges.
+// Whether the numbers of an application are in range.
 fn has_ranges(entry: &Table) -> bool
     ensures { result ≡ list_all (is_within_at (table_view entry.now)) app_ranges }
 {
     are_within(&[conn(), heap(), receive(), ring(), weight()], entry)
 }
 
-// The words of its heap, which are in their range.
+// The size of its heap in words, which is in range.
 fn heap_in(entry: &Table) -> u32
     requires { list_all (is_within_at (table_view entry.now)) app_ranges ≡ true }
     ensures { result ≡ number_in keys.heap (table_view entry.now) }
@@ -78,7 +78,7 @@ fn heap_in(entry: &Table) -> u32
     heap().number(entry) as u32
 }
 
-// The number of its connection, which is in its range.
+// The number of its connection, which is in range.
 fn conn_in(entry: &Table) -> u32
     requires { list_all (is_within_at (table_view entry.now)) app_ranges ≡ true }
     ensures { result ≡ number_in keys.conn (table_view entry.now) }
@@ -93,7 +93,7 @@ fn number_of(entry: &Table) -> u64
     conn().number(entry)
 }
 
-// The first reason against the connection of an application and the policies that it names.
+// The first reason of faults in the connection of an application and the policies that it names.
 fn head_reason(
     declared: &Declarations,
     ports: &[Port],
@@ -107,13 +107,13 @@ fn head_reason(
     earlier(names_reason(declared, names), known)
 }
 
-// What an application does, and its own schema.
+// The role of an application, and its own schema.
 struct Early {
     role: Role,
     own: Option<OwnSchema>,
 }
 
-// By hand, so that a drop is one call where it is needed, and not a drop of each part.
+// Written by hand so that a drop is one call, not a drop of each field.
 impl Drop for Early {
     fn drop(self) {
         let Early {
@@ -150,7 +150,7 @@ impl Early {
     }
 }
 
-// Where the policies stand that are attached to the connection of an application.
+// The indices of the policies that are attached to an application's connection.
 fn attached_in(
     alloc: Global,
     declared: &Declarations,
@@ -163,7 +163,7 @@ fn attached_in(
     places_in(alloc, declared, names.as_slice())
 }
 
-// The first of several reasons against an application, where one of its parts has one.
+// The first of several reasons of faults in an application, if one of its parts has one.
 fn early_of(
     head: Option<ScenarioReason>,
     role: Result<Role, ScenarioReason>,
@@ -187,8 +187,8 @@ fn early_of(
     }
 }
 
-// What an application with its keys and its numbers does, and its own schema, or the first reason against these, its
-// connection and the policies that it names.
+// The role and the own schema of an application that has its keys and whose numbers are in range, or the first reason
+// of faults in these, its connection and the policies that it names.
 fn early_in(
     alloc: Global,
     above: Above<'_, '_, '_>,
@@ -211,7 +211,7 @@ fn early_in(
     Ok(early_of(head, said, own))
 }
 
-// Whether a policy at a place is none that judges what is delivered: access policies alone do.
+// Whether the policy at an index doesn't judge deliveries: only access policies do.
 fn judges_otherwise(declared: &Declarations, inbound: Option<usize>) -> bool
     ensures { result ≡ judges_otherwise declared.now inbound }
 {
@@ -231,7 +231,8 @@ fn is_on_end(ends: &[u64], conn: u64) -> bool
     ends.iter().any(|end| *end == conn)
 }
 
-// How many calls are submitted together; none where a run may not load as much. Each is counted twice, for its reply.
+// The total number of submitted calls; `None` if a run may not load that much. Each call is counted twice, for its
+// reply.
 fn work_in(loads: u64, before: u64, more: u64) -> Option<u64>
     requires from_one { 1 ≤ loads }
     requires few { loads ≤ 16384 }
@@ -249,7 +250,7 @@ fn work_in(loads: u64, before: u64, more: u64) -> Option<u64>
     }
 }
 
-// How many calls an application submits.
+// The number of calls that an application submits.
 fn submissions_of(alloc: Global, role: RoleWord, entry: &Table) -> Result<u64, Memory>
     ensures { IfOk result (λ n. role_of (table_view entry.now) ≡ Some role → n ≡ submissions (table_view entry.now)) }
 {
@@ -257,15 +258,15 @@ fn submissions_of(alloc: Global, role: RoleWord, entry: &Table) -> Result<u64, M
     Ok(submissions(role, lines.as_slice()))
 }
 
-// The chain of an application and the calls that are submitted up to it.
+// The chain of an application, and the number of calls submitted up to it.
 #[derive(Drop)]
 struct Late<'a> {
     chain: Chain<'a>,
     submitted: u64,
 }
 
-// The chain of an application whose policies are declared, or the first reason against that, the policy that judges
-// what it is delivered, its place among the links and the calls that are submitted up to it.
+// The chain of an application whose policies are declared, or the first reason of faults in the chain, the policy
+// that judges deliveries, its links and the number of calls submitted up to it.
 fn late_in<'a>(
     alloc: Global,
     above: Above<'a, '_, '_>,
@@ -302,7 +303,7 @@ fn late_in<'a>(
     }
 }
 
-// The application of an entry behind others, or the first reason against it.
+// The application of an entry that follows others, or the first reason of its faults.
 fn read_app<'a>(
     alloc: Global,
     above: Above<'a, '_, '_>,
@@ -351,7 +352,7 @@ fn read_app<'a>(
 }
 
 impl<'a> Apps<'a> {
-    // No application.
+    // An empty list of applications.
     fn new(alloc: Global) -> Apps<'a>
         ensures ports { result.ports.items ≡ [] }
         ensures applications { result.applications ≡ [] }
@@ -364,7 +365,7 @@ impl<'a> Apps<'a> {
         }
     }
 
-    // One more, behind the others.
+    // Appends an application.
     fn push(&mut self, port: Port, app: Application, chain: Chain<'a>) -> Result<(), Memory>
         ensures ports { OnOk result (self.new.ports.items ≡ self.old.ports.items ++ port ∷ []) }
         ensures applications { OnOk result (self.new.applications ≡ self.old.applications ++ app ∷ []) }

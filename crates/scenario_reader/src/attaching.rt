@@ -1,4 +1,4 @@
-//! The chain with which an application's connection begins.
+//! The initial chain of an application's connection.
 
 ghost use Rattle.std.specs.Prelude.{◌≡◌, ℕ, List, IfOk, MatchResult, map};
 ghost use Rattle.engine_core.specs.declared.op.Op.{Op};
@@ -13,8 +13,8 @@ use scenario::ScenarioReason;
 use scenario_entries::Chain;
 use std::alloc::Global;
 
-// The chain behind the attachments of the declared policies of these names, each under its own name, or why the first
-// one that is refused is.
+// The chain after the declared policies with these names are attached, each under its own name, or the reason of the
+// first refusal.
 pub(crate) fn attach_all<'a>(
     alloc: Global,
     declared: &'a Declarations,

@@ -1,10 +1,10 @@
-//! Whole scenarios: the plan that a TOML text says, or its first fault.
+//! Whole scenarios: the plan that a TOML text means, or its first fault.
 //!
-//! [`read_scenario`] reads the keys of the whole, then tenants, policies, applications, links and operators, each list
-//! from its first entry on. It gives the plan where nothing stands against any entry, and else the first entry at fault
-//! with its first reason. The plan is a sound one, which is `run_plan`'s `IsPlan`, by a law of `scenario_laws`. The crate
-//! stands on `scenario`, whose definitions its contract cites, and on the readers of single lists in `scenario_entries`
-//! and `scenario_policies`. [`count_in`] is for who says in words what stands against an operator's steps.
+//! [`read_scenario`] reads the keys of the top table, then tenants, policies, applications, links and operators, each
+//! list in order. It returns the plan if no entry has a fault, else the first faulty entry with its first reason. By
+//! a law of `scenario_laws` the plan is valid (`IsPlan` of `run_plan`). The crate depends on `scenario`, whose
+//! definitions its contract cites, and on the readers of single lists in `scenario_entries` and `scenario_policies`.
+//! [`count_in`] is for diagnostics of operators' steps.
 #![tactic(auto)]
 
 mod above;

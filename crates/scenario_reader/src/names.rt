@@ -12,7 +12,7 @@ use scenario_values::{text_at, texts_at};
 use std::alloc::Global;
 use toml::Table;
 
-// The names of its chain, and then that of the policy that judges what it is delivered.
+// The names of its chain, followed by that of the policy that judges deliveries.
 pub(crate) fn names_in<'a>(alloc: Global, entry: &'a Table) -> Result<Vec<&'a [u8]>, Memory>
     ensures { IfOk result (λ names. map (λ n. n.now) names.items ≡ names_in (table_view entry.now)) }
 {
@@ -24,7 +24,7 @@ pub(crate) fn names_in<'a>(alloc: Global, entry: &'a Table) -> Result<Vec<&'a [u
     Ok(names)
 }
 
-// The places of the names that are declared.
+// The indices of the names that are declared.
 pub(crate) fn places_in(
     alloc: Global,
     declared: &Declarations,
@@ -41,7 +41,7 @@ pub(crate) fn places_in(
     Ok(places)
 }
 
-// The place of the policy that judges what an application is delivered, if it names one that is declared.
+// The index of the policy that judges deliveries to an application, if it names a declared one.
 pub(crate) fn inbound_in(declared: &Declarations, entry: &Table) -> Option<usize>
     ensures { result ≡ option_and_then (policy_place declared.now) (text_at (codes "inbound") (table_view entry.now)) }
 {

@@ -50,8 +50,8 @@ fn has_operator(before: &[Operator], conn: u64) -> bool
         .any(|operator| u64::from(operator.conn) == conn)
 }
 
-// The first reason against the lines of an operator, its connection behind others, and the policies that it names,
-// apart from schemas.
+// The first reason of faults in the lines of an operator, its connection and the policies that it names, apart from
+// schemas.
 fn head_reason(
     declared: &Declarations,
     before: &[Operator],
@@ -79,7 +79,7 @@ fn head_reason(
     )
 }
 
-// What the lines of an operator tell, the policies that they name, and the first reason against these and its
+// What the lines of an operator mean, the policies that they name, and the first reason of faults in these and its
 // connection, apart from schemas.
 struct Asked<'a> {
     steps: Steps<'a>,
@@ -87,7 +87,7 @@ struct Asked<'a> {
     head: Option<ScenarioReason>,
 }
 
-// By hand, so that a drop is one call where it is needed, and not a drop of each part.
+// Written by hand so that a drop is one call, not a drop of each field.
 impl<'a> Drop for Asked<'a> {
     fn drop(self) {
         let Asked {
@@ -98,7 +98,7 @@ impl<'a> Drop for Asked<'a> {
     }
 }
 
-// What an operator asks for, behind others.
+// What an operator that follows others requests.
 fn asked_in<'a>(
     alloc: Global,
     declared: &Declarations,
@@ -127,7 +127,7 @@ fn asked_in<'a>(
     Ok(Asked { steps, names, head })
 }
 
-// Where the application on a connection stands.
+// The index of the application on a connection.
 fn place_on(applications: &[Application], conn: u64) -> Option<usize>
     ensures { result ≡ position (λ app. app.conn == conn) applications.now }
 {
@@ -136,7 +136,7 @@ fn place_on(applications: &[Application], conn: u64) -> Option<usize>
         .position(|app| u64::from(app.conn) == conn)
 }
 
-// The first reason against the policies that are named, under the schema of an application; none where it has no schema.
+// The first reason of faults in the named policies, under the schema of an application; `None` if it has no schema.
 fn own_reason(
     alloc: Global,
     above: Above<'_, '_, '_>,
@@ -157,7 +157,7 @@ fn own_reason(
     }
 }
 
-// The operator whose steps are these, on a chain, or why the first of them that is refused is.
+// The operator with these steps, on a chain, or the reason of the first refusal.
 fn take_steps<'a>(
     alloc: Global,
     declared: &'a Declarations,
@@ -177,7 +177,7 @@ fn take_steps<'a>(
     }
 }
 
-// The number of the connection of an operator, which is in its range.
+// The number of an operator's connection, which is in range.
 fn conn_in(entry: &Table) -> u32
     requires { is_out (table_view entry.now) keys.conn ≡ false }
     ensures { result ≡ conn_of (table_view entry.now) }
@@ -185,7 +185,8 @@ fn conn_in(entry: &Table) -> u32
     conn().number(entry) as u32
 }
 
-// The operator of an entry with its keys and its connection behind others, or the first reason against it.
+// The operator of an entry that has its keys and its connection and follows others, or the first reason of its
+// faults.
 fn judge_operator<'a>(
     alloc: Global,
     above: Above<'a, '_, '_>,
@@ -226,7 +227,7 @@ fn judge_operator<'a>(
     )
 }
 
-// The operator of an entry behind others, or the first reason against it.
+// The operator of an entry that follows others, or the first reason of its faults.
 fn read_operator<'a>(
     alloc: Global,
     above: Above<'a, '_, '_>,

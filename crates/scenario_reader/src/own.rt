@@ -1,4 +1,4 @@
-//! The schemas of applications, and the policies that are read under them.
+//! The schemas of applications, and the policies read under them.
 
 ghost use Rattle.std.specs.Prelude.{◌≡◌, ◌↔◌, ℕ, List, Some, Contains, IfOk, codes, length, map};
 ghost use Rattle.mrpc_table.specs.Valid.{IsValid};
@@ -36,7 +36,7 @@ pub(crate) fn step_names<'a>(alloc: Global, entry: &'a Table) -> Result<Vec<&'a 
     Ok(names)
 }
 
-// The policies that an application names, and those that the steps on its connection name.
+// The policies that an application names, followed by those that the steps on its connection name.
 fn used_names<'a>(
     alloc: Global,
     entry: &'a Table,
@@ -56,9 +56,9 @@ fn used_names<'a>(
     Ok(names)
 }
 
-// The policies that are used, as they are read under the table of the application's own schema, or the first reason
-// against those that the application names. Policies that steps alone name are no matter of the application: where one
-// of them fails, its operator is at fault.
+// The policies in use, as read under the table of the application's own schema, or the first reason of faults in
+// those that the application names. A policy that only steps name isn't a fault of the application: if it fails, its
+// operator has the fault.
 fn own_policies(
     alloc: Global,
     above: Above<'_, '_, '_>,
@@ -95,8 +95,8 @@ fn own_policies(
     Ok(Ok(policies))
 }
 
-// Its own schema with the policies that are used, or the first reason against it and the policies that the application
-// names; none where it has no schema.
+// The application's own schema with the policies in use, or the first reason of faults in it and in the policies that
+// the application names; `None` if it has no schema.
 pub(crate) fn own_in(
     alloc: Global,
     above: Above<'_, '_, '_>,

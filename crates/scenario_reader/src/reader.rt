@@ -39,7 +39,7 @@ struct Declared<'x> {
     policies: Vec<&'x Table>,
 }
 
-// What is read below the declarations.
+// The lists after the declarations.
 #[derive(Drop)]
 struct Below {
     applications: Sequence<Application>,
@@ -47,7 +47,7 @@ struct Below {
     operators: Sequence<Operator>,
 }
 
-// What is read of a whole under its table.
+// All lists of a scenario, read under its table.
 #[derive(Drop)]
 struct Parts {
     service: Name,
@@ -131,7 +131,7 @@ fn read_below<'x>(
     read_lists(alloc, all, above, link_entries.as_slice())
 }
 
-// What a whole without a fault in its own keys says.
+// What a scenario without a fault in its top table means.
 fn read_parts(alloc: Global, all: &Table, table: &Schema) -> Result<Parts, ScenarioFault>
     requires valid { IsValid table.now }
     requires ranges { list_all (is_within_at (table_view all.now)) top_ranges ≡ true }
@@ -154,7 +154,7 @@ fn read_parts(alloc: Global, all: &Table, table: &Schema) -> Result<Parts, Scena
     })
 }
 
-// The plan of a whole without a fault in its own keys.
+// The plan of a scenario without a fault in its top table.
 fn read_whole(alloc: Global, all: &Table, table: Schema) -> Result<Plan, ScenarioFault>
     requires valid { IsValid table }
     requires ranges { list_all (is_within_at (table_view all.now)) top_ranges ≡ true }
@@ -176,16 +176,15 @@ fn read_whole(alloc: Global, all: &Table, table: Schema) -> Result<Plan, Scenari
     })
 }
 
-/// The plan that a scenario says.
+/// The plan that a scenario means.
 ///
 /// # Errors
 ///
-/// [`ScenarioFault::At`] has the first entry at fault with its first reason; [`ScenarioFault::Memory`] comes where no
-/// memory was found.
+/// [`ScenarioFault::At`] is the first faulty entry with its first reason; [`ScenarioFault::Memory`] is out of memory.
 pub fn read_scenario(alloc: Global, text: &[u8]) -> Result<Plan, ScenarioFault>
-    // What is read is what the text says, or its first fault.
+    // The result is what the text means, or its first fault.
     ensures read { MatchResult result (IsTextOf text.now) (IsFaultOf text.now) }
-    // A plan keeps what plans promise to those who run them.
+    // A plan is valid.
     ensures sound { IfOk result IsPlan }
 {
     a_said_plan_is_sound();

@@ -13,18 +13,18 @@ use scenario_lines::{StepText, read_step};
 use script_words::one_judgement;
 use std::alloc::Global;
 
-// What the lines of an operator tell so far.
+// What the lines of an operator mean so far.
 #[derive(Drop)]
 pub(crate) struct Steps<'a> {
-    // What the lines without a fault tell, in order.
+    // What the lines without a fault mean, in order.
     pub told: Vec<StepText<'a>>,
-    // The largest count among it.
+    // The largest count among them.
     pub most: u64,
-    // The first reason against the lines.
+    // The first reason of faults in the lines.
     pub first: Option<ScenarioReason>,
 }
 
-/// How many calls the connection has taken when a step comes.
+/// The number of calls that the connection has taken when a step is due.
 pub fn count_in(step: &StepText<'_>) -> u64
     ensures { result ≡ count_in step.now }
 {
@@ -35,7 +35,7 @@ pub fn count_in(step: &StepText<'_>) -> u64
     }
 }
 
-// The policy that a step names, if it names one.
+// The policy that a step names, if any.
 fn policy_in<'a>(step: &StepText<'a>) -> Option<&'a [u8]>
     ensures { option_copied result ≡ policy_in step.now }
 {
@@ -46,7 +46,7 @@ fn policy_in<'a>(step: &StepText<'a>) -> Option<&'a [u8]>
 }
 
 impl<'a> Steps<'a> {
-    // Keeps what a line tells behind others.
+    // Appends what a line means.
     fn keep(&mut self, step: StepText<'a>) -> Result<(), Memory>
         ensures told { OnOk result (self.new.told.items ≡ self.old.told.items ++ step.entry ∷ []) }
         ensures more { OnOk result (self.old.most ≤ count_in step.entry
@@ -64,7 +64,7 @@ impl<'a> Steps<'a> {
         Ok(())
     }
 
-    // Reads one line more.
+    // Reads one more line.
     fn read(&mut self, line: &'a [u8]) -> Result<(), Memory>
         ensures { OnOk result ((lines : List (List ℕ)) → HasTold lines self.old.told.items self.old.most self.old.first
             → HasTold (lines ++ line.entry.now ∷ []) self.new.told.items self.new.most self.new.first) }
@@ -80,7 +80,7 @@ impl<'a> Steps<'a> {
     }
 }
 
-// What the lines of an operator tell, and the first reason against them.
+// What the lines of an operator mean, and the first reason of their faults.
 pub(crate) fn read_steps<'a>(alloc: Global, lines: &[&'a [u8]]) -> Result<Steps<'a>, Memory>
     ensures { IfOk result (λ s. HasTold (map (λ l. l.now) lines.now) s.told.items s.most s.first) }
 {
@@ -95,7 +95,7 @@ pub(crate) fn read_steps<'a>(alloc: Global, lines: &[&'a [u8]]) -> Result<Steps<
     Ok(steps)
 }
 
-// Adds the policies that the steps name to names.
+// Appends the policies that the steps name.
 pub(crate) fn add_names<'a>(names: &mut Vec<&'a [u8]>, told: &[StepText<'a>]) -> Result<(), Memory>
     ensures { OnOk result (map (λ n. n.now) names.new.items
         ≡ map (λ n. n.now) names.old.items ++ filter_map policy_in told.now) }

@@ -1,4 +1,4 @@
-//! The text as TOML, and the keys of the whole.
+//! The text as TOML, and the keys of the top table.
 
 ghost use Rattle.std.specs.Prelude.{◌≡◌, Err, IfOk, MatchResult, OnOk, true};
 ghost use Rattle.std.specs.List.{list_all};
@@ -21,7 +21,7 @@ use scenario_values::{are_within, word_at};
 use std::alloc::Global;
 use toml::{Table, table_from_slice};
 
-// The table that a text is as TOML.
+// The top table of a text as TOML.
 pub(crate) fn document_in(alloc: Global, text: &[u8]) -> Result<Table, ScenarioFault>
     ensures { MatchResult result (λ t. IsTableText text.now (table_view t)) (IsNoTable text.now) }
 {
@@ -40,14 +40,14 @@ pub(crate) fn document_in(alloc: Global, text: &[u8]) -> Result<Table, ScenarioF
     }
 }
 
-// Whether the numbers of the whole are in their ranges.
+// Whether the numbers of the top table are in range.
 fn has_top_ranges(all: &Table) -> bool
     ensures { result ≡ list_all (is_within_at (table_view all.now)) top_ranges }
 {
     are_within(&[format(), loads(), workers()], all)
 }
 
-// A fault of the whole.
+// A fault of the top table.
 fn top_fault(reason: ScenarioReason) -> Result<Schema, ScenarioFault>
     ensures { result ≡ Err (fault.At place.Top reason) }
 {
@@ -57,7 +57,7 @@ fn top_fault(reason: ScenarioReason) -> Result<Schema, ScenarioFault>
     })
 }
 
-// The table of the schema, or the first reason against the keys of the whole.
+// The table of the schema, or the first reason of faults in the keys of the top table.
 pub(crate) fn read_top(alloc: Global, all: &Table) -> Result<Schema, ScenarioFault>
     ensures read { MatchResult result (λ T. HasTable (schema_of (table_view all.now)) T
         × ((q : TheReason) → TopAgainst (table_view all.now) q → ⊥)) (IsTopFault (table_view all.now)) }

@@ -20,7 +20,7 @@ use scenario_entries::Chain;
 use scenario_lines::StepText;
 use std::alloc::Global;
 
-// The declared policy of a name, the first one; none where there is none.
+// The first declared policy with a name; `None` if there is none.
 pub(crate) fn named_in<'a>(declared: &'a Declarations, name: &[u8]) -> Option<&'a NamedPolicy>
     ensures { option_copied result ≡ named_in declared.now name.now }
 {
@@ -30,7 +30,7 @@ pub(crate) fn named_in<'a>(declared: &'a Declarations, name: &[u8]) -> Option<&'
     }
 }
 
-// Takes one step, or tells why the chain refuses it; then it is as before.
+// Applies one step. If the chain refuses it, returns the reason and leaves the chain unchanged.
 fn take_step<'a>(
     chain: &mut Chain<'a>,
     declared: &'a Declarations,
@@ -57,7 +57,7 @@ fn take_step<'a>(
     }
 }
 
-// Takes the steps in order, or tells why the first one that is refused is.
+// Applies the steps in order, or returns the reason of the first refusal.
 pub(crate) fn take_all<'a>(
     chain: &mut Chain<'a>,
     declared: &'a Declarations,
@@ -76,7 +76,7 @@ pub(crate) fn take_all<'a>(
     Ok(None)
 }
 
-// A position as a plan has it; one of no chain is any.
+// A position as a plan has it; any number for one that no chain has.
 fn position_in(at: Decimal) -> u32
     ensures { (n : ℕ) → at ≡ in_64_bits n → n < 2 ^ 32 → result ≡ n }
 {
@@ -86,7 +86,7 @@ fn position_in(at: Decimal) -> u32
     }
 }
 
-// The place of a declared policy; 0 where none has the name.
+// The index of a declared policy; 0 if none has the name.
 fn place_in(declared: &Declarations, name: &[u8]) -> usize
     ensures { (place : ℕ) → policy_place declared.now name.now ≡ Some place → result ≡ place }
 {
@@ -96,7 +96,7 @@ fn place_in(declared: &Declarations, name: &[u8]) -> usize
     }
 }
 
-// The line of a plan that a step is, where its policy is declared and its position is one of a chain.
+// The plan's line for a step whose policy is declared and whose position a chain has.
 fn line_of(alloc: Global, declared: &Declarations, step: &StepText<'_>) -> Result<StepLine, Memory>
     ensures { IfOk result (IsLineOf declared.now step.now) }
 {

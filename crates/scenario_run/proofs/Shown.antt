@@ -1,4 +1,4 @@
--- A connection that was bound can be told, as it is shown.
+-- A bound connection can be reported.
 use Rattle.std.proofs.Common.{◌≡◌, ℕ, ◌+◌, ◌==◌, List, [], ◌++◌, All, Option, Some, None, sym, ap, ◌∙◌, subst, arith}
 use Rattle.std.specs.Prelude.{option_and_then, option_map, option_to_list}
 use Rattle.std.specs.List.{AllZip, filter_map, range_with_len}
@@ -38,14 +38,14 @@ tellable-shown plan conn b s is can shows = record {
       ∙ ap (λ (a : Arrivals). option_copied a.policy) (sym shows.arrivals);
 }
 
--- what is found among connections that can be told can be told
+-- what is found among connections that can be reported can be reported
 pub found-tellable : {L : Type 0} (plan : Plan) (conns : List (ServedConn L)) (number : ℕ) (s : ServedConn L)
     → All (λ (t : ServedConn L). CanTell plan t.conn t.outcome) conns → conn_in conns number ≡ Some s
     → CanTell plan s.conn s.outcome
 found-tellable {L} plan conns number s all at =
     (found-holds (λ (t : ServedConn L). CanTell plan t.conn t.outcome) (λ (t : ServedConn L). t.conn == number) conns s all at).0
 
--- behind what shows the first numbers stands what shows the next one
+-- what reports the first numbers is followed by what reports the next one
 pub shows-more : {L : Type 0} (plan : Plan) (conns : List (ServedConn L)) (n : ℕ) (o : Option (ServedConn L))
     (old more : List TheShown) → o ≡ conn_in conns (n + 1)
     → AllZip (Shows plan) (filter_map (conn_in conns) (range_with_len 1 n)) old

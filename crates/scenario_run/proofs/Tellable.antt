@@ -1,4 +1,4 @@
--- Connections that were served can be told, with what became of their links.
+-- Served connections can be reported, with the outcomes of their links.
 use Rattle.std.proofs.Common.{◌≡◌, ℕ, Bool, true, false, List, [], ◌∷◌, All, Contains, Option, Some, sym, ap, ◌∙◌, subst}
 use Rattle.std.specs.List.{AllZip}
 use Rattle.std.specs.Option.{option_copied}
@@ -27,7 +27,7 @@ use Rattle.service_run.specs.declared.served.BoundConn.{BoundConn}
 use Rattle.scenario_run.specs.Running.{HasFailed, NeverFailed}
 use Rattle.scenario_run.specs.Telling.{AreTellable, AreTold, CanTell, IsTellableConn, IsToldRun, TellsFailure}
 
--- the transport leaves a connection unbound where its stream failed alone
+-- the transport leaves a connection unbound only if its stream failed
 transport-failed : (T : Table) (service stream : List ℕ) (fault : Option FeedFault) (state : Stream) (why : Cause)
     → IsUnbound T service stream fault state why → why ≡ Transport → state ≡ Failed
 transport-failed T service stream fault state why (failed is so) transport = is
@@ -37,7 +37,7 @@ transport-failed T service stream fault state why (other_frame f begins not so) 
 transport-failed T service stream fault state why (bad_hello f line begins is bad so) transport = absurd cc
 transport-failed T service stream fault state why (disagrees f theirs cause greeted refuses so) transport = absurd cc
 
--- what became of a link whose connection can be told so
+-- the outcome of a link whose connection can be reported
 pub record CanBeTold {L : Type 0} (of_link : LinkMembers L) (plan : Plan) (conn : ℕ) (link : L) (o : Outcome)
     : Type 0 where
   pub can : CanTell plan conn o
@@ -99,13 +99,13 @@ all-tellable of_clock of_link plan clock (n ∷ ends) (s ∷ conns) zip =
     All-cons (IsTellableConn of_link plan) s conns (served-tells of_clock of_link plan clock n s zip.0)
     (all-tellable of_clock of_link plan clock ends conns zip.1)
 
--- where one tells it, a link failed
+-- if one reports it, a link failed
 pub one-failed : {L : Type 0} (of_link : LinkMembers L) (plan : Plan) (conns : List (ServedConn L)) (s : ServedConn L)
     → AreTellable of_link plan conns → Contains conns s → TellsFailure s.outcome → HasFailed of_link s
 one-failed of_link plan conns s all among tells =
     (All-contains (IsTellableConn of_link plan) conns s all among).failed tells
 
--- where none tells it, none failed
+-- if none reports it, none failed
 pub none-failed : {L : Type 0} (of_link : LinkMembers L) (plan : Plan) (conns : List (ServedConn L))
     → AreTellable of_link plan conns → All (λ (s : ServedConn L). TellsFailure s.outcome → ⊥) conns
     → All (NeverFailed of_link) conns

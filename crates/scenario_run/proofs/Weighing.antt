@@ -1,4 +1,4 @@
--- The weights of a plan's connections are sound, and an order that weighs as the plan does goes by it.
+-- The weights of a plan's connections are valid, and an order with the plan's weights follows it.
 use Rattle.std.proofs.Common.{◌≡◌, ◌<◌, ℕ, zero, suc, nat_eq, false, All, Contains, List, [], ◌∷◌, length, map, refl, sym, ap, ◌∙◌, subst, arith, slice_index_or}
 use Rattle.std.specs.List.{IsDistinct, AllByRecursion}
 use Rattle.std.proofs.lemmas.Bool.{eq-eqb, ne_eqb}
@@ -51,9 +51,9 @@ sound-weights plan is = record {
       (distinct-is (connections_of plan.applications) is.connections);
 }
 
--- ---- what the order grants
+-- ---- the grants of the order
 
--- the connection of an application that is there
+-- the connection of an application of the plan
 conn-there : (apps : List Application) (app : Application) (k : ℕ) → k < length apps → slice_index_or apps k app ≡ app
     → Contains (connections_of apps) app.conn
 conn-there [] app k within same = absurd (omega (arith, within))

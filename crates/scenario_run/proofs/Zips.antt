@@ -1,4 +1,4 @@
--- Lists, place by place, that go on.
+-- Lists that grow, index by index.
 use Rattle.std.proofs.Common.{◌≡◌, ℕ, zero, suc, ◌+◌, List, [], ◌∷◌, ◌++◌, Option, Some, None, refl, ap, ◌∙◌, arith}
 use Rattle.std.specs.Prelude.{option_to_list}
 use Rattle.std.specs.List.{AllZip, filter_map, range_with_len}
@@ -21,7 +21,7 @@ given-one : {X Y : Type 0} (h : X → Option Y) (x : X) (o : Option Y) → h x �
 given-one h x None is = rw is refl
 given-one h x (Some y) is = rw is refl
 
--- what the first numbers give, and behind it what the next one gives
+-- the images of the first numbers are followed by that of the next
 pub given-more : {Y : Type 0} (h : ℕ → Option Y) (a n : ℕ)
     → filter_map h (range_with_len a (n + 1)) ≡ filter_map h (range_with_len a n) ++ option_to_list (h (a + n))
 given-more h a n =

@@ -1,4 +1,4 @@
--- The code's own: the order of a plan whose connections are weighed (this project's own).
+-- The code's own: the order of a plan whose connections are weighted.
 use Rattle.std.specs.Prelude.{◌≡◌, ℕ, List, map}
 use Rattle.qos_order.specs.Weights.{weight_of}
 use Rattle.qos_order.specs.declared.weights.Weight.{Weight}
@@ -12,6 +12,6 @@ weight_in app = record { conn = app.conn; weight = app.weight }
 abbrev pub weights_of : Plan → List Weight
 weights_of plan = map weight_in plan.applications
 
--- an order weighs each connection as the plan does
+-- the order gives each connection the weight that the plan gives it
 abbrev pub WeighsAs : Plan → List Weight → Type 0
 WeighsAs plan order = (conn : ℕ) → weight_of order conn ≡ weight_of (weights_of plan) conn

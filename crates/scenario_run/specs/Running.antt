@@ -1,4 +1,4 @@
--- What a run of a plan did, and what it tells (this project's own).
+-- What a run of a plan did, and its report (this project's own).
 use Rattle.std.specs.Prelude.{◌≡◌, ◌==◌, ◌<◌, ◌^◌, ℕ, Bool, true, false, List, ◌++◌, All, Contains, find, map, length, IsPermutation, Option, option_and_then, option_map}
 use Rattle.std.specs.List.{AllZip, flat_map, filter_map, range_with_len}
 use Rattle.mrpc_base.specs.Faults.{Rose}
@@ -29,9 +29,9 @@ use Rattle.service.specs.declared.served.Outcome.{Outcome}
 use Rattle.service.specs.declared.served.Outcome.TheVariants.{Bound, Unbound}
 use Rattle.service.specs.declared.served.ServedConn.{ServedConn}
 
--- ---- what is told
+-- ---- the report
 
--- the access policy by which what arrives for an application is judged, under its name
+-- the access policy that judges deliveries to an application, under its name
 abbrev pub named : List ℕ → AccessPolicy → List ℕ × AccessPolicy
 named name policy = (name, policy)
 
@@ -44,11 +44,11 @@ judging_by plan app = option_and_then (λ name. option_map (named name) (inbound
 abbrev pub judging_on : Plan → ℕ → Judging
 judging_on plan conn = option_and_then (judging_by plan) (application_in plan.applications conn)
 
--- what the visits of a connection came to, by its share of the rounds
+-- the report of a connection's visits, from its visit account
 abbrev pub rounds_in : Share → Rounds
 rounds_in share = record { weight = share.weight; account = share.account }
 
--- a connection that was bound is told by what it served; all holds of it that holds of connections, so its history is
+-- a bound connection is reported by what it served; the invariant of connections holds for it, so its history is
 -- legal
 pub record ShowsBound (plan : Plan) (conn : ℕ) (b : BoundConn) (s : ShownConn) : Type 0 where
   pub calls : s.calls.now ≡ b.submissions.conn
@@ -58,7 +58,7 @@ pub record ShowsBound (plan : Plan) (conn : ℕ) (b : BoundConn) (s : ShownConn)
   pub not_held : s.not_held.now ≡ b.reclaims.not_held.items
   pub rounds : s.rounds ≡ option_map rounds_in b.share
 
--- a connection is told by what became of it
+-- a connection is reported by its outcome
 abbrev pub ShowsOutcome : Plan → ℕ → Outcome → Shown → Type 0
 ShowsOutcome plan conn (Unbound why) (shown.Unbound number cause) = (number ≡ conn) × (cause.now ≡ why)
 ShowsOutcome plan conn (Bound b) (shown.Served s) = ShowsBound plan conn b s
@@ -74,9 +74,9 @@ conn_in conns number = find (λ s. s.conn == number) conns
 abbrev pub by_number : {L : Type 0} → List (ServedConn L) → List (ServedConn L)
 by_number conns = filter_map (conn_in conns) (range_with_len 1 MAX_CONNECTIONS)
 
--- ---- what became of the links
+-- ---- the links
 
--- a connection's link, as its fabric has it back
+-- a connection's link, as its fabric gets it back
 abbrev pub link_of : {L : Type 0} → ServedConn L → ℕ × L
 link_of s = (s.conn, s.link)
 
@@ -89,11 +89,11 @@ NeverFailed of_link s = of_link.faults s.link ≡ 0
 
 -- ---- the run
 
--- A run of a plan over a fabric that had some links back and has others now. Each connection of the plan was served, or
--- left unbound for what its link gave; each two have the ends of one link; and the tickets of a tenant's window are 0,
--- 1, 2 and so on, each once, where they are fewer than 2^64. This is the text of these connections, by ascending number,
--- and these are the counts of its lines. The fabric has all their links back, and it is said whether one of them
--- failed.
+-- A run of a plan over a fabric, from the links that the fabric had back before to those after. Each connection of
+-- the plan was served, or left unbound for what its link gave. Each two in a row have the ends of one link. The
+-- tickets of a tenant's window are 0, 1, 2 and so on, each once, if they are fewer than 2^64. This is the text of
+-- these connections, by ascending number, and these are the counts of its lines. The fabric has all their links back,
+-- and the run reports whether one of them failed.
 pub record HasRun {C L : Type 0} (of_clock : ClockMembers C) (of_link : LinkMembers L) (pair : L → L → Type 0)
     (plan : Plan) (clock : C) (back back' : List (ℕ × L)) (text : List ℕ) (totals : List (ℕ × Counts)) (failed : Bool)
     : Type 0 where

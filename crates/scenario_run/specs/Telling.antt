@@ -1,4 +1,4 @@
--- The code's own: connections that can be told, and what is told of them.
+-- The code's own: connections that can be reported, and their report.
 use Rattle.std.specs.Prelude.{◌≡◌, ℕ, Bool, true, false, List, All, Contains, Some}
 use Rattle.std.specs.List.{AllZip, concat, flat_map}
 use Rattle.mrpc_base.specs.declared.link.Link.{Ghosts as LinkMembers}
@@ -21,7 +21,7 @@ use Rattle.telemetry.specs.Totals.{IsCountOf}
 use Rattle.telemetry.specs.declared.counts.Counts.{Counts}
 use Rattle.scenario_run.specs.Running.{HasFailed, NeverFailed, Shows, by_number}
 
--- A connection that was bound can be told: it is that of an application of the plan, what arrived was judged by the
+-- A bound connection can be reported: it is that of an application of the plan, its arrivals were judged by the
 -- application's table and policy, and its calls are of the same table.
 pub record IsTellableBound (plan : Plan) (conn : ℕ) (b : BoundConn) : Type 0 where
   pub app : Application
@@ -34,7 +34,7 @@ abbrev pub CanTell : Plan → ℕ → Outcome → Type 0
 CanTell plan conn (Unbound why) = SaysWhy why
 CanTell plan conn (Bound b) = IsTellableBound plan conn b
 
--- what became of a connection tells that its link failed
+-- the outcome of a connection shows that its link failed
 abbrev pub TellsFailure : Outcome → Type 0
 TellsFailure (Unbound why) = why ≡ Transport
 TellsFailure (Bound b) = b.submissions.conn.ended ≡ true
@@ -47,7 +47,7 @@ pub record IsTellableConn {L : Type 0} (of_link : LinkMembers L) (plan : Plan) (
 abbrev pub AreTellable : {L : Type 0} → LinkMembers L → Plan → List (ServedConn L) → Type 0
 AreTellable of_link plan conns = All (IsTellableConn of_link plan) conns
 
--- these are the text of connections and its counts
+-- the text of connections and its counts
 pub record AreTold {L : Type 0} (plan : Plan) (conns : List (ServedConn L)) (text : List ℕ) (totals : List (ℕ × Counts))
     : Type 0 where
   pub told : List Shown
@@ -55,12 +55,12 @@ pub record AreTold {L : Type 0} (plan : Plan) (conns : List (ServedConn L)) (tex
   pub is_text : IsRunText told text
   pub counts : IsCountOf (flat_map counted_in told) totals
 
--- parts that follow one another are a text, where it is made
+-- these parts in order are the text, if it is made
 abbrev pub ArePartsOf : (with_text : Bool) → List ℕ → List (List ℕ) → Type 0
 ArePartsOf true text parts = text ≡ concat parts
 ArePartsOf false text parts = Unit {0}
 
--- a run tells these connections
+-- the report of a run with these connections
 pub record IsToldRun {L : Type 0} (of_link : LinkMembers L) (plan : Plan) (conns : List (ServedConn L)) (text : List ℕ)
     (totals : List (ℕ × Counts)) (failed : Bool) : Type 0 where
   pub tells : AreTold plan conns text totals

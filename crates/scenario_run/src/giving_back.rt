@@ -1,4 +1,4 @@
-//! The links of a run go back to its fabric.
+//! Gives the links of a run back to its fabric.
 
 ghost use Rattle.std.specs.Prelude.{◌≡◌, ◌≤◌, ◌+◌, ◌++◌, IsPermutation, length, map};
 ghost use Rattle.scenario_run.specs.Running.{link_of};
@@ -7,9 +7,9 @@ use mrpc_base::Fabric;
 use service::ServedConn;
 use std::mem;
 
-// Gives the links of connections back, each with its connection. What else the connections keep is left to the end of
-// the process: a long run has a million things, and giving back each of them takes a tenth of its time. It takes no
-// memory.
+// Gives the links of connections back, each with its connection. Everything else that the connections own is left to
+// the end of the process: a long run has a million objects, and dropping each of them takes a tenth of its time.
+// Doesn't allocate.
 pub(crate) fn give_back<F: Fabric>(fabric: &mut F, conns: Vec<ServedConn<'_, F::L>>)
     requires { length conns.items ≤ F.away fabric.old }
     ensures back { IsPermutation (F.back fabric.new) (map link_of conns.entry.items ++ F.back fabric.old) }

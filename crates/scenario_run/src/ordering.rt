@@ -1,4 +1,4 @@
-//! The order in which connections that are ready get rounds.
+//! The order in which ready connections get rounds.
 
 ghost use Rattle.std.specs.Prelude.{◌≡◌, IfOk};
 ghost use Rattle.qos_order.specs.Account.{granted};

@@ -22,29 +22,29 @@ use std::sync::Wait;
 use std::thread::Threads;
 use telemetry::Totals;
 
-/// What a run of a plan came to.
+/// The result of a run of a plan.
 #[derive(Drop)]
 pub struct Run {
-    /// What it tells, in parts that follow one another.
+    /// The text of the report, in parts, in order.
     pub parts: Vec<Bytes>,
-    /// How many calls of each method were taken, sent, refused and left standing.
+    /// For each method, the numbers of calls that were accepted, sent, refused and left pending.
     pub totals: Totals,
     /// Whether a link failed.
     pub failed: bool,
 }
 
-/// What a run of a plan came to that is counted, and not told.
+/// The result of a run of a plan that was only counted.
 #[derive(Drop)]
 pub struct Counted {
-    /// How many calls of each method were taken, sent, refused and left standing.
+    /// For each method, the numbers of calls that were accepted, sent, refused and left pending.
     pub totals: Totals,
     /// Whether a link failed.
     pub failed: bool,
 }
 
-/// Runs a plan over links of a fabric, and gives them back. It waits for the connections. `Fabric` comes where the fabric
-/// failed to open a link, and `Memory` where no memory was found; links that were opened are then dropped. What else
-/// the connections of a run keep is left to the end of the process.
+/// Runs a plan over links of a fabric, and gives them back. Blocks until all connections are finished. `Fabric` if
+/// the fabric failed to open a link, and `Memory` if any thread ran out of memory; links that were opened are then
+/// dropped. Everything else that the connections own is left to the end of the process.
 pub fn serve_plan<R: Threads + Wait + Sync, F: Fabric, C: Clock, G: Gate>(
     rt: &R,
     alloc: Global,
@@ -62,7 +62,7 @@ pub fn serve_plan<R: Threads + Wait + Sync, F: Fabric, C: Clock, G: Gate>(
     serve_or_count(rt, alloc, plan, fabric, clock, gate, true)
 }
 
-/// Runs a plan as [`serve_plan`] does, and counts what happened without telling it: the text of the run isn't made.
+/// Like [`serve_plan`], but makes only the counts of the report, not its text.
 pub fn count_plan<R: Threads + Wait + Sync, F: Fabric, C: Clock, G: Gate>(
     rt: &R,
     alloc: Global,
@@ -85,7 +85,7 @@ pub fn count_plan<R: Threads + Wait + Sync, F: Fabric, C: Clock, G: Gate>(
     Ok(Counted { totals, failed })
 }
 
-// Runs a plan, and tells its run, or counts it alone.
+// Runs a plan, and makes its report, or the counts alone.
 fn serve_or_count<R: Threads + Wait + Sync, F: Fabric, C: Clock, G: Gate>(
     rt: &R,
     alloc: Global,
@@ -122,7 +122,7 @@ fn serve_or_count<R: Threads + Wait + Sync, F: Fabric, C: Clock, G: Gate>(
     )
 }
 
-// Runs a plan that was prepared, in which connections get rounds in this order.
+// Runs a prepared plan, in which connections get rounds in this order.
 fn run_in_order<R: Threads + Wait + Sync, F: Fabric, C: Clock, G: Gate, O: ReadyOrder>(
     rt: &R,
     alloc: Global,
@@ -147,7 +147,7 @@ fn run_in_order<R: Threads + Wait + Sync, F: Fabric, C: Clock, G: Gate, O: Ready
     Ok(conclude(rt, alloc, plan, fabric, served, with_text)?)
 }
 
-// Tells a run that is over, or counts it alone, and gives its links back.
+// Makes the report of a finished run, or the counts alone, and gives its links back.
 fn conclude<R: Threads + Sync, F: Fabric>(
     rt: &R,
     alloc: Global,

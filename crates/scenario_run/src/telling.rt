@@ -1,4 +1,4 @@
-//! What a run tells of its connections, and its counts.
+//! The report of a run's connections, and its counts.
 
 ghost use Rattle.std.specs.Prelude.{◌≡◌, ◌++◌, ℕ, List, All, Contains, IfOk, OnOk, Some, false, option_map, option_to_list, true};
 ghost use Rattle.std.specs.List.{AllZip};
@@ -47,7 +47,7 @@ pub(crate) fn tell<R: Threads + Sync, L: Link>(
     })
 }
 
-// All connections, as they are told.
+// All connections, as the report has them.
 fn shown_all<'a, 't, L: Link>(
     alloc: Global,
     plan: &'a Plan,
@@ -65,7 +65,7 @@ fn shown_all<'a, 't, L: Link>(
     Ok(shown)
 }
 
-// The connection of a number; none where there is none.
+// The connection with a number; `None` if there is none.
 fn conn_of<'a, 't, L: Link>(
     conns: &'a [ServedConn<'t, L>],
     number: u32,
@@ -75,7 +75,7 @@ fn conn_of<'a, 't, L: Link>(
     conns.iter().find(|conn| conn.conn == number)
 }
 
-// Adds a connection, as it is told, if there is one.
+// Appends a connection, as the report has it, if there is one.
 fn push_shown<'a, 't, L: Link>(
     shown: &mut Vec<Shown<'a, 't>>,
     plan: &'a Plan,
@@ -92,7 +92,7 @@ fn push_shown<'a, 't, L: Link>(
     }
 }
 
-// A connection, as it is told.
+// A connection, as the report has it.
 fn shown_of<'a, 't, L: Link>(plan: &'a Plan, served: &'a ServedConn<'t, L>) -> Shown<'a, 't>
     requires plan { IsPlan plan.now }
     requires can { CanTell plan.now served.now.conn served.now.outcome }
@@ -108,7 +108,7 @@ fn shown_of<'a, 't, L: Link>(plan: &'a Plan, served: &'a ServedConn<'t, L>) -> S
     }
 }
 
-// A connection that was bound, as it is told.
+// A bound connection, as the report has it.
 fn shown_conn<'a, 't>(plan: &'a Plan, conn: u32, bound: &'a BoundConn<'t>) -> ShownConn<'a, 't>
     ensures { ShowsBound plan.now conn bound.now result }
 {
@@ -122,7 +122,7 @@ fn shown_conn<'a, 't>(plan: &'a Plan, conn: u32, bound: &'a BoundConn<'t>) -> Sh
     }
 }
 
-// What the visits of a connection came to, if it has a share of the rounds.
+// The account of a connection's visits, if its rounds go by weight.
 fn rounds_of(share: Option<Share>) -> Option<Rounds>
     ensures { result ≡ option_map rounds_in share }
 {
@@ -135,7 +135,7 @@ fn rounds_of(share: Option<Share>) -> Option<Rounds>
     }
 }
 
-// The policy that judges what the application on a connection is delivered, under its name.
+// The policy that judges deliveries to the application on a connection, under its name.
 fn judge_on<'a>(plan: &'a Plan, conn: u32) -> Option<Judge<'a>>
     ensures { judging_of result ≡ judging_on plan.now conn }
 {

@@ -1,4 +1,4 @@
--- What stands at the keys of a table (TOML 1.1).
+-- The values at the keys of a table (TOML 1.1).
 use Rattle.std.specs.Prelude.{ℕ, ℤ, pos, nat_le, Bool, true, false, ◌&&◌, ◌||◌, not, List, [], ◌∷◌, filter_map, is_some, Option, Some, option_and_then, unwrap_or}
 use Rattle.std.specs.List.{list_all, list_any}
 use Rattle.std.specs.Str.{bytes_eq}
@@ -20,7 +20,7 @@ has_shape shape.Texts (array ds) = list_all (λ d. is_some (as_str d)) (list_of 
 has_shape shape.Tables (array ds) = list_all (λ d. is_some (as_table d)) (list_of ds)
 has_shape _ _ = false
 
--- a key that a table has, or may have
+-- a key that a table must or may have
 pub record TheKey : Type 0 where
   pub name : List ℕ
   pub shape : Shape
@@ -35,16 +35,16 @@ may_be name shape = record { name = name; shape = shape; required = false }
 abbrev pub is_for : List ℕ → Data → TheKey → Bool
 is_for name d key = bytes_eq key.name name && has_shape key.shape d
 
--- each key of the table is one of these, with what may stand there
+-- each key of the table is one of these, with a value of its type
 abbrev pub are_known : List TheKey → Members → Bool
 are_known keys no_members = true
 are_known keys (member name d ms) = list_any (is_for name d) keys && are_known keys ms
 
--- the key is there, if it has to be
+-- the table has the key, if it is required
 abbrev pub is_there : Members → TheKey → Bool
 is_there ms key = not key.required || is_some (get_member key.name ms)
 
--- each of these that has to be there is there
+-- the table has each of these that is required
 abbrev pub are_there : List TheKey → Members → Bool
 are_there keys ms = list_all (is_there ms) keys
 
@@ -56,7 +56,7 @@ has_keys keys ms = are_known keys ms && are_there keys ms
 abbrev pub text_at : List ℕ → Members → Option (List ℕ)
 text_at key ms = option_and_then as_str (get_member key ms)
 
--- a text that isn't there is the empty one
+-- a missing text is empty
 abbrev pub word_at : List ℕ → Members → List ℕ
 word_at key ms = unwrap_or (text_at key ms) []
 
@@ -67,7 +67,7 @@ abbrev pub items_in : Option Data → List Data
 items_in (Some (array ds)) = list_of ds
 items_in _ = []
 
--- a list that isn't there is the empty one
+-- a missing list is empty
 abbrev pub items_at : List ℕ → Members → List Data
 items_at key ms = items_in (get_member key ms)
 
@@ -79,7 +79,7 @@ tables_at key ms = filter_map as_table (items_at key ms)
 
 -- ---- numbers
 
--- the numbers that may stand at a key, and the one that counts where the key isn't there
+-- the range of numbers at a key, and the default if the table doesn't have the key
 pub record TheRange : Type 0 where
   pub key : List ℕ
   pub default : ℕ

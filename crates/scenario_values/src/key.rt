@@ -1,4 +1,4 @@
-//! The keys of a table, and what may stand at them.
+//! The keys of a table, and the types of their values.
 
 ghost use Rattle.std.specs.Prelude.{◌≡◌, is_some, string_bytes};
 ghost use Rattle.toml.specs.View.{view, table_view};
@@ -12,7 +12,7 @@ use std::marker::Model;
 use toml::value::Array;
 use toml::{Table, Value};
 
-/// What may stand at a key.
+/// The type of a key's value.
 #[derive(Clone, Copy)]
 pub enum Shape {
     Text,
@@ -24,7 +24,7 @@ pub enum Shape {
     Tables,
 }
 
-/// A key that a table has, or may have.
+/// A key that a table must or may have.
 #[derive(Drop)]
 pub struct Key {
     name: &'static str,
@@ -43,7 +43,7 @@ impl Model for Key {
 impl Key {
     ghost use Rattle.scenario_values.specs.Values.{a_key, may_be};
 
-    /// A key that has to be there.
+    /// A required key.
     pub const fn required(name: &'static str, shape: Shape) -> Key
         ensures { result ≡ a_key name.now shape }
     {
@@ -54,7 +54,7 @@ impl Key {
         }
     }
 
-    /// A key that may be there.
+    /// An optional key.
     pub const fn optional(name: &'static str, shape: Shape) -> Key
         ensures { result ≡ may_be name.now shape }
     {
@@ -65,14 +65,14 @@ impl Key {
         }
     }
 
-    // Whether it has this name, and this may stand at it.
+    // Whether it has this name, and the value has its type.
     fn is_for(&self, name: &str, value: &Value) -> bool
         ensures { result ≡ is_for name.now (view value.now) self.now }
     {
         self.name.as_bytes() == name.as_bytes() && self.shape.is_of(value)
     }
 
-    // Whether it is there, if it has to be.
+    // Whether the table has it, if it is required.
     fn is_there(&self, table: &Table) -> bool
         ensures { result ≡ is_there (table_view table.now) self.now }
     {
@@ -81,7 +81,7 @@ impl Key {
 }
 
 impl Shape {
-    // Whether a value has it.
+    // Whether a value has this type.
     fn is_of(self, value: &Value) -> bool
         ensures { result ≡ has_shape self (view value.now) }
     {
@@ -129,14 +129,14 @@ fn are_tables(value: &Value) -> bool
     }
 }
 
-// Whether one of the keys has this name, and this may stand at it.
+// Whether one of the keys has this name, and the value has its type.
 fn is_known(keys: &[Key], name: &str, value: &Value) -> bool
     ensures { result ≡ list_any (is_for name.now (view value.now)) keys.now }
 {
     keys.iter().any(|key| key.is_for(name, value))
 }
 
-// Whether each key of the table is one of these, with what may stand there.
+// Whether each key of the table is one of these, with a value of its type.
 fn are_known(keys: &[Key], table: &Table) -> bool
     ensures { result ≡ list_all (λ e. list_any (is_for (string_bytes e.0) (view e.1)) keys.now) table.now.entries }
 {
@@ -145,14 +145,14 @@ fn are_known(keys: &[Key], table: &Table) -> bool
         .all(|(name, value)| is_known(keys, name.as_str(), value))
 }
 
-// Whether each of these keys that has to be there is there.
+// Whether the table has each required key.
 fn are_there(keys: &[Key], table: &Table) -> bool
     ensures { result ≡ are_there keys.now (table_view table.now) }
 {
     keys.iter().all(|key| key.is_there(table))
 }
 
-/// Whether the table has these keys and no others, each with what may stand there.
+/// Whether the table has all required keys and no keys but these, each with a value of its type.
 pub fn has_keys(keys: &[Key], table: &Table) -> bool
     ensures { result ≡ has_keys keys.now (table_view table.now) }
 {

@@ -1,8 +1,8 @@
-//! What stands at the keys of a table of a scenario: which keys it has and of what type, its texts, its flags, its lists,
-//! and its numbers with their defaults and ranges.
+//! The values at the keys of a scenario's TOML tables: which keys a table has and of what type, its texts, its flags,
+//! its lists, and its numbers with their defaults and ranges.
 //!
-//! `specs/Values.antt` says each of these of the kit's view of a TOML table. It stands on the kit's `toml` and on
-//! `mrpc_table`. The layers above use one contract: what is read at a key is what the definitions say.
+//! `specs/Values.antt` defines each of these on the kit's view of a TOML table. The crate depends on the kit's `toml`
+//! and on `mrpc_table`. The layers above use one contract: what is read at a key is what the definitions give.
 #![tactic(auto)]
 
 mod key;

@@ -10,7 +10,7 @@ use mrpc_table::Memory;
 use std::alloc::Global;
 use toml::{Table, Value};
 
-/// The values of the list at a key; none where there is no list.
+/// The values of the list at a key; empty if there is no list.
 pub fn items_at<'a>(table: &'a Table, key: &str) -> &'a [Value]
     ensures { map view result.now ≡ items_at key.now (table_view table.now) }
 {
@@ -23,7 +23,7 @@ pub fn items_at<'a>(table: &'a Table, key: &str) -> &'a [Value]
     }
 }
 
-// Adds the text that a value is, if it is one.
+// Appends a value that is a text; skips any other.
 fn add_text<'a>(texts: &mut Vec<&'a [u8]>, item: &'a Value) -> Result<(), Memory>
     ensures { OnOk result (map (λ t. t.now) texts.new.items
         ≡ map (λ t. t.now) texts.old.items ++ option_to_list (as_str (view item.now))) }
@@ -37,7 +37,7 @@ fn add_text<'a>(texts: &mut Vec<&'a [u8]>, item: &'a Value) -> Result<(), Memory
     }
 }
 
-// Adds the table that a value is, if it is one.
+// Appends a value that is a table; skips any other.
 fn add_table<'a>(tables: &mut Vec<&'a Table>, item: &'a Value) -> Result<(), Memory>
     ensures { OnOk result (map (λ t. table_view t.now) tables.new.items
         ≡ map (λ t. table_view t.now) tables.old.items ++ option_to_list (as_table (view item.now))) }
@@ -52,7 +52,7 @@ fn add_table<'a>(tables: &mut Vec<&'a Table>, item: &'a Value) -> Result<(), Mem
 }
 
 #[tactic(auto, using(crate::proofs::Views::texts_more))]
-/// The texts of the list at a key, in order; none where there is no list.
+/// The texts of the list at a key, in order; empty if there is no list.
 pub fn texts_at<'a>(alloc: Global, table: &'a Table, key: &str) -> Result<Vec<&'a [u8]>, Memory>
     ensures { IfOk result (λ texts. map (λ t. t.now) texts.items ≡ texts_at key.now (table_view table.now)) }
 {
@@ -65,7 +65,7 @@ pub fn texts_at<'a>(alloc: Global, table: &'a Table, key: &str) -> Result<Vec<&'
 }
 
 #[tactic(auto, using(crate::proofs::Views::tables_more))]
-/// The tables of the list at a key, in order; none where there is no list.
+/// The tables of the list at a key, in order; empty if there is no list.
 pub fn tables_at<'a>(alloc: Global, table: &'a Table, key: &str) -> Result<Vec<&'a Table>, Memory>
     ensures { IfOk result (λ tables. map (λ t. table_view t.now) tables.items
         ≡ tables_at key.now (table_view table.now)) }

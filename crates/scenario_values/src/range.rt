@@ -1,4 +1,4 @@
-//! The numbers that may stand at a key.
+//! The range of numbers at a key.
 
 ghost use Rattle.std.specs.Prelude.{◌≡◌};
 ghost use Rattle.std.specs.List.{list_all};
@@ -9,7 +9,7 @@ use crate::value::integer_at;
 use std::marker::Model;
 use toml::Table;
 
-/// The numbers that may stand at a key, and the one that counts where the key isn't there.
+/// The range of numbers at a key, and the default if the table doesn't have the key.
 #[derive(Drop)]
 pub struct Range {
     key: &'static str,
@@ -26,14 +26,14 @@ impl Model for Range {
     ghost view = { λ r. record { key = r.key.now; default = r.default; least = r.least; most = r.most } };
 }
 
-// Whether an integer is one of these numbers.
+// Whether an integer is in the range.
 fn is_within(least: u64, most: u64, value: i64) -> bool
     ensures { result ≡ is_within least most value }
 {
     value >= 0 && least <= value as u64 && value as u64 <= most
 }
 
-// The number that an integer is, and 0 of those below.
+// The integer as a natural number; 0 for a negative one.
 fn natural(value: i64) -> u64
     ensures { result ≡ natural value }
 {
@@ -43,7 +43,7 @@ fn natural(value: i64) -> u64
 impl Range {
     ghost use Rattle.scenario_values.specs.Values.{a_range, is_out, number_in};
 
-    /// The numbers from `least` to `most` at a key, with a default.
+    /// The range from `least` to `most` at a key, with a default.
     pub const fn new(key: &'static str, default: u64, least: u64, most: u64) -> Range
         ensures { result ≡ a_range key.now default least most }
     {
@@ -55,7 +55,7 @@ impl Range {
         }
     }
 
-    /// Whether the number at the key isn't one of these.
+    /// Whether the number at the key is out of range.
     pub fn is_out(&self, table: &Table) -> bool
         ensures { result ≡ is_out (table_view table.now) self.now }
     {
@@ -65,7 +65,7 @@ impl Range {
         }
     }
 
-    /// The number at the key, or the default. Where what stands there isn't one of these, it is of no use.
+    /// The number at the key, or the default. The result has no meaning if the number is out of range.
     pub fn number(&self, table: &Table) -> u64
         ensures { result ≡ number_in self.now (table_view table.now) }
     {

@@ -1,4 +1,4 @@
-//! What stands at a key by itself.
+//! The single value at a key.
 
 ghost use Rattle.std.specs.Prelude.{◌≡◌};
 ghost use Rattle.std.specs.Option.{option_map, option_copied};
@@ -15,7 +15,7 @@ pub(crate) fn at<'a>(table: &'a Table, key: &str) -> Option<&'a Value>
     table.get(key)
 }
 
-/// The text at a key; none where there is none.
+/// The text at a key; `None` if there is none.
 pub fn text_at<'a>(table: &'a Table, key: &str) -> Option<&'a str>
     ensures { option_copied result ≡ text_at key.now (table_view table.now) }
 {
@@ -25,7 +25,7 @@ pub fn text_at<'a>(table: &'a Table, key: &str) -> Option<&'a str>
     }
 }
 
-/// The text at a key; the empty one where there is none.
+/// The text at a key; empty if there is none.
 pub fn word_at<'a>(table: &'a Table, key: &str) -> &'a [u8]
     ensures { result.now ≡ word_at key.now (table_view table.now) }
 {
@@ -35,7 +35,7 @@ pub fn word_at<'a>(table: &'a Table, key: &str) -> &'a [u8]
     }
 }
 
-/// Whether `true` stands at a key.
+/// Whether the value at a key is `true`.
 pub fn flag_at(table: &Table, key: &str) -> bool
     ensures { result ≡ flag_at key.now (table_view table.now) }
 {
@@ -45,7 +45,7 @@ pub fn flag_at(table: &Table, key: &str) -> bool
     }
 }
 
-// The integer at a key; none where there is none.
+// The integer at a key; `None` if there is none.
 pub(crate) fn integer_at(table: &Table, key: &str) -> Option<i64>
     ensures { result ≡ integer_at key.now (table_view table.now) }
 {

@@ -1,10 +1,10 @@
--- What is told of a scenario's fault.
+-- The words about a scenario's fault.
 use Rattle.std.specs.Prelude.{ℕ, List, ◌++◌, codes}
 use Rattle.std.specs.Fmt.{decimal}
 use Rattle.scenario.specs.declared.fault.Entry.{Entry}
 use Rattle.scenario.specs.declared.fault.Entry.TheVariants as entry
 
--- the key of the list that an entry stands in
+-- the key of the list that contains an entry
 abbrev pub list_key : Entry → List ℕ
 list_key entry.Top = codes ""
 list_key (entry.Tenant n) = codes "tenant"
@@ -16,7 +16,7 @@ list_key (entry.Operator n) = codes "operator"
 abbrev pub numbered : List ℕ → ℕ → List ℕ
 numbered word n = word ++ decimal n
 
--- the words for an entry, as `app 2`
+-- the words for an entry, such as `app 2`
 abbrev pub entry_words : Entry → List ℕ
 entry_words entry.Top = codes "the scenario"
 entry_words (entry.Tenant n) = numbered (codes "tenant ") n

@@ -1,4 +1,4 @@
-//! Entries in words.
+//! The words for an entry.
 
 ghost use Rattle.std.specs.Prelude.{◌≡◌, IfOk};
 ghost use Rattle.scenario_words.specs.Told.{entry_words, list_key, numbered};
@@ -7,7 +7,7 @@ use mrpc_table::{Bytes, Memory};
 use scenario::Entry;
 use std::alloc::Global;
 
-/// The key of the list that an entry stands in; the empty one of the whole.
+/// The key of the list that contains an entry; empty for the whole scenario.
 pub fn list_of(entry: Entry) -> &'static str
     ensures { result.now ≡ list_key entry }
 {

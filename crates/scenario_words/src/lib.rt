@@ -1,8 +1,8 @@
-//! What sentences about scenarios are put together of: the words for an entry, words and numbers of the scenario, and
-//! what is said of a reason.
+//! The parts of sentences about scenarios: the words for an entry, words and numbers of the scenario, and the
+//! words for a reason.
 //!
-//! It stands on `scenario`, which has the entries and the reasons, on `findings`, whose rows say what goes with a word, and
-//! on `mrpc_table`. The layer above uses one contract: what is said stands behind what was said before, and an entry has
+//! The crate uses `scenario` for entries and reasons, `findings` for rows of words and their texts, and
+//! `mrpc_table`. Its one contract for the layer above: each call appends to what is there, and an entry has
 //! its words (`specs/Told.antt`).
 #![tactic(auto)]
 

@@ -1,4 +1,4 @@
-//! What sentences are put together of.
+//! The parts that sentences are made of.
 
 ghost use Rattle.std.specs.Prelude.{◌≡◌, ◌⊎◌, Contains, map};
 ghost use Rattle.findings.specs.Said.{SaysOn};
@@ -12,17 +12,17 @@ use scenario::ScenarioReason;
 #[derive(Clone, Copy)]
 pub enum Part<'a> {
     Text(&'a str),
-    /// A word of the scenario, in quotation marks, cut where it is long.
+    /// A word of the scenario, in quotation marks, truncated if it is long.
     Quoted(&'a [u8]),
     Number(u64),
     Integer(i64),
-    /// From where to where a number may go.
+    /// The range of a number, from least to most.
     Range(u64, u64),
     /// The number of a line of a list, from 1, and the line.
     Line(u64, &'a [u8]),
 }
 
-/// Appends parts, one behind another.
+/// Appends parts in order.
 pub fn say(out: &mut Bytes, parts: &[Part<'_>]) -> Result<(), Memory>
     ensures { SaysOn out.old out.new }
 {
@@ -81,7 +81,7 @@ fn say_line(out: &mut Bytes, number: u64, line: &[u8]) -> Result<(), Memory>
     out.append(b": ")
 }
 
-/// What the rows say of a reason, by its word; the words for others, where they don't have it.
+/// The text of the rows for a reason, by its word; `others` if they don't have it.
 pub fn words_for(rows: &[Row], reason: ScenarioReason, others: &'static str) -> &'static str
     ensures { (result.now ≡ others.now) ⊎ Contains (map (λ row. row.1.now) rows.now) result.now }
 {

@@ -1,4 +1,4 @@
--- Two tables agree or are refused, never both, and refused in one way.
+-- Two tables agree or differ, never both, and differ for at most one reason.
 use Rattle.std.proofs.Common.{◌≡◌, ℕ, zero, suc, ◌+◌, ◌<◌, ◌↔◌, Bool, true, false, List, length, ◌⊎◌, inl, inr, refl, sym, ap, subst, ◌∙◌, arith}
 use Rattle.std.specs.Prelude.{IsTrue}
 use Rattle.std.proofs.lemmas.Bool.{cases_order, cases_lt, true≢false}
@@ -28,7 +28,7 @@ never_both T U service version fault (by_fields two o p same none) (other_method
     equal_never_differ (methods_of T service) (methods_of U service) place x y same d
 never_both T U service version fault (by_fields two o p same none) (other_field type number two' o' p' same' d at) = none type number d.differs
 
--- ---- one refusal
+-- ---- at most one reason
 
 one_answer : (P : Type 0) (a b : Bool) → IsTrue a ↔ P → IsTrue b ↔ P → a ≡ b
 one_answer P true true h k = refl
@@ -82,7 +82,7 @@ refuse_once T U service version f g (other_field type number two o p same d at) 
 
 -- ---- never neither
 
--- what holds of no least number holds of none
+-- if no number is the least with a property, none has it
 none_without_least : (P : ℕ → Type 0) → ((n : ℕ) → P n → ((m : ℕ) → m < n → P m → ⊥) → ⊥) → (n : ℕ) → P n → ⊥
 none_without_least P never n p = below (n + 1) n (omega arith) p
   where
@@ -90,14 +90,14 @@ none_without_least P never n p = below (n + 1) n (omega arith) p
     below zero n within p = omega (arith, within)
     below (suc b) n within p = never n p (λ m lt q. below b m (omega (arith, lt, within)) q)
 
--- in our message of this place a number differs
+-- in our message at this index a number differs
 abbrev DiffersAt : Table → Table → List ℕ → ℕ → Type 0
 DiffersAt T U service i = (i < length T.messages) × ((n : ℕ) × Differs T U service (message_name T i) n)
 
 either_answer : (P : Type 0) → (P ⊎ (P → ⊥) → ⊥) → ⊥
 either_answer P never = never (inr (λ p. never (inl p)))
 
--- the place of the message in which a number differs
+-- the index of the message in which a number differs
 place_of_difference : (T U : Table) (service type : List ℕ) (n : ℕ) → Differs T U service type n → (i : ℕ) × (i < length T.messages) × (message_name T i ≡ type)
 place_of_difference T U service type n d =
     let p = d.ours_prints in

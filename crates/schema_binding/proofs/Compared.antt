@@ -1,4 +1,4 @@
--- What tests of names answer.
+-- The results of tests of names.
 use Rattle.std.proofs.Common.{◌≡◌, ℕ, ◌<◌, ◌↔◌, Bool, List, [], ◌++◌, codes, length, get_or, Option, sym, ap, ◌∙◌}
 use Rattle.std.specs.Prelude.{IsTrue, option_map, slice_get, unwrap_or}
 use Rattle.std.specs.Str.{bytes_eq}
@@ -14,7 +14,7 @@ use Rattle.schema_binding.proofs.Order.{message_name_is}
 
 -- ---- tests
 
--- what `==` on two texts says of what they are
+-- `==` on two texts decides whether their meanings are equal
 pub equal_texts : (xs ys a b : List ℕ) (r : Bool) → a ≡ xs → b ≡ ys → r ≡ bytes_eq xs ys → IsTrue r ↔ (a ≡ b)
 equal_texts xs ys a b r is_a is_b e = (
   λ h. is_a ∙ (bytes_eq-Decides xs ys).0 (sym e ∙ h) ∙ sym is_b,

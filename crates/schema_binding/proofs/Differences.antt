@@ -1,4 +1,4 @@
--- Where two lists differ first: at one place, which there is unless they're equal.
+-- Where two lists first differ: at exactly one index, unless they are equal.
 use Rattle.std.proofs.Common.{◌≡◌, ℕ, zero, suc, ◌<◌, List, [], ◌∷◌, take, Option, Some}
 use Rattle.std.proofs.Common.{None, ◌⊎◌, inl, inr, refl, sym, ap, ◌∙◌, arith}
 use Rattle.std.specs.Prelude.{slice_get}
@@ -6,7 +6,7 @@ use Rattle.std.proofs.lemmas.Bool.{cases_order}
 use Rattle.std.proofs.lemmas.Option.{same_Some, none-some}
 use Rattle.schema_binding.specs.Agreement.{DifferAt}
 
--- ---- one place
+-- ---- at most one index
 
 same_before : {X : Type 0} (xs ys : List X) (m n : ℕ) → take n xs ≡ take n ys → m < n → slice_get xs m ≡ slice_get ys m
 same_before xs ys m zero same below = absurd (omega (arith, below))
@@ -38,7 +38,7 @@ one_right xs ys m n x y v w d e = sym d.theirs ∙ ap (slice_get ys) (one_place 
 pub equal_never_differ : {X : Type 0} (xs ys : List X) (at : ℕ) (x y : Option X) → xs ≡ ys → DifferAt xs ys at x y → ⊥
 equal_never_differ {X} xs ys at x y same d = d.other (sym d.ours ∙ ap (λ (zs : List X). slice_get zs at) same ∙ d.theirs)
 
--- ---- there is one, unless they're equal
+-- ---- there is one, unless they are equal
 
 either : (P : Type 0) → (P ⊎ (P → ⊥) → ⊥) → ⊥
 either P never = never (inr (λ p. never (inl p)))

@@ -1,4 +1,4 @@
--- Kinds and labels by what the text prints of them.
+-- Kinds and labels by their print in the text.
 use Rattle.std.proofs.Common.{◌≡◌, ℕ, List, [], codes}
 use Rattle.std.specs.Prelude.{slice_get, unwrap_or}
 use Rattle.std.proofs.lemmas.List.{append_cancel_left}

@@ -1,4 +1,4 @@
--- Names of messages and numbers of fields ascend, so each stands at one place.
+-- Names of messages and numbers of fields ascend, so each is at only one index.
 use Rattle.std.proofs.Common.{◌≡◌, ◌≢◌, ℕ, zero, suc, ◌<◌, ◌==◌, true, false, List, [], ◌∷◌, length, get_or, Some, inl, inr, sym, ap, subst, ◌∙◌, arith}
 use Rattle.std.specs.Prelude.{Contains, slice_get, option_map, unwrap_or}
 use Rattle.std.specs.Ordering.{ordering_reverse}
@@ -68,7 +68,7 @@ one_name T valid i j hi hj same = elim (cases_order i j) [
   ]
 ]
 
--- the place of a message that the table has
+-- the index of a message that the table has
 pub place_of : (T : Table) → IsValid T → (m : Message) → Contains T.messages m → (i : ℕ) → i < length T.messages
     → m.name ≡ message_name T i → slice_get T.messages i ≡ Some m
 place_of T valid m has i within named =
@@ -98,7 +98,7 @@ field_found_at (g ∷ gs) up f (suc k) within at =
 pub field_found : (fs : List Field) → FieldsAscend fs → (f : Field) → Contains fs f → field_at fs f.number ≡ Some f
 field_found fs up f has = field_found_at fs up f has.0 has.1 has.2
 
--- a field that is found stands in the list, under the number
+-- a field that is found is in the list, under the number
 pub record IsFound (fs : List Field) (n : ℕ) (f : Field) : Type 0 where
   pub has : Contains fs f
   pub numbered : f.number ≡ n

@@ -1,4 +1,4 @@
--- Where the first line of a payload ends, and that a payload says one thing.
+-- Where the first line of a payload ends, and that a payload has only one meaning.
 use Rattle.std.proofs.Common.{◌≡◌, ◌≢◌, ℕ, ◌+◌, ◌==◌, ◌&&◌, Bool, true, false, List, [], ◌∷◌, ◌++◌, ◌⊎◌, inl, inr}
 use Rattle.std.proofs.Common.{refl, sym, ap, subst, ◌∙◌, arith}
 use Rattle.std.specs.Prelude.{All, IsTrue}
@@ -20,7 +20,7 @@ use Rattle.schema_binding.specs.declared.fault.HelloFault.TheVariants.{Bad, Memo
 
 -- ---- lines
 
--- bytes are a line, or one line stands in front of a line feed in them
+-- bytes are a line, or have one line before a line feed
 record Cut (bytes : List ℕ) : Type 0 where
   pub first : List ℕ
   pub behind : List ℕ
@@ -54,7 +54,7 @@ pieces_of_line bytes h = slice_split_none (λ (b : ℕ). b == 10) bytes (no_feed
 pub pieces_behind : (first behind : List ℕ) → IsLine first → pieces_of (first ++ 10 ∷ behind) ≡ first ∷ pieces_of behind
 pieces_behind first behind h = slice_split_at (λ (b : ℕ). b == 10) first 10 behind (no_feeds first h) refl
 
--- a text is one by its pieces
+-- a text is determined by its pieces
 pub one_by_pieces : (a b : List ℕ) → pieces_of a ≡ pieces_of b → a ≡ b
 one_by_pieces a b e = sym (join_with_byte-slice_split 10 a) ∙ ap (join_with_byte 10) e ∙ join_with_byte-slice_split 10 b
 
@@ -94,7 +94,7 @@ cut_of_pieces bytes first text e = elim (line_or bytes) [
       (subst IsLine same cut.is_line, cut.whole ∙ (λ i. same i ++ 10 ∷ rest i))
 ]
 
--- the first line of a text, and what stands behind it, are each one
+-- the first line of a text, and the text after it, are unique
 pub one_first_line : (first other text more : List ℕ) → IsLine first → IsLine other → first ++ 10 ∷ text ≡ other ++ 10 ∷ more → (first ≡ other) × (text ≡ more)
 one_first_line first other text more h k e =
     let both : first ∷ pieces_of text ≡ other ∷ pieces_of more = sym (pieces_behind first text h) ∙ ap pieces_of e ∙ pieces_behind other more k in (
@@ -160,7 +160,7 @@ name_or word = elim (cases_Bool (is_full_form word)) [
   | inr other ↦ inr (λ h. false≢true (sym other ∙ h.form))
 ]
 
--- ---- what a payload says, by its pieces
+-- ---- the meaning of a payload, by its pieces
 
 pub bad_without_feed : (payload : List ℕ) → pieces_of payload ≡ payload ∷ [] → IsBadAt payload 1
 bad_without_feed payload e = no_line_feed (line_of_pieces payload e) refl
@@ -173,7 +173,7 @@ bad_name payload first text e wrong =
     let cut = cut_of_pieces payload first text e in
     no_full_name first text cut.1 cut.0 wrong refl
 
--- the first piece of what a payload says is the service, and behind it stands the text
+-- the first piece of a payload is the service, and the text follows it
 pub said_in_pieces : (payload first text service : List ℕ) (T : Table) → pieces_of payload ≡ first ∷ pieces_of text → IsHello payload service T
     → (first ≡ service) × IsTextOf text T
 said_in_pieces payload first text service T e h =
@@ -198,14 +198,14 @@ pub bad_behind : (payload service text : List ℕ) (fault : HelloFault) → piec
 bad_behind payload service text (Bad line) e named h = no_table service text h.0 h.1 (cut_of_pieces payload service text e).1 named h.2 h.3
 bad_behind payload service text Memory e named h = tt
 
--- ---- it says one thing
+-- ---- it has only one meaning
 
 pub says_once : HaveOneTextEach → SaysOnce
 says_once one payload service other T U h k =
     let same = one_first_line service other (table_text T) (table_text U) (line_of_full_name service h.named) (line_of_full_name other k.named) (sym h.whole ∙ k.whole) in
     (same.0, one T U h.valid k.valid same.1)
 
--- a text has one first fault
+-- a text has at most one first fault
 abbrev OneFault : Type 0
 OneFault = (text : List ℕ) (m n : ℕ) (r q : TableReason) → IsFirstFault text m r → IsFirstFault text n q → (m ≡ n) × (r ≡ q)
 

@@ -1,4 +1,4 @@
--- What a text prints of the field of a number, in a message of a place and in one of a name.
+-- The print of the field with a number, in the message at an index and in the message of a name.
 use Rattle.std.proofs.Common.{◌≡◌, ℕ, ◌+◌, ◌<◌, List, length, get_or, Option, Some, None, inl, inr, refl, sym, ap, subst, ◌∙◌, arith}
 use Rattle.std.specs.Prelude.{Contains, slice_get, option_map, option_and_then}
 use Rattle.std.proofs.lemmas.Bool.{cases_eq, cases_lt, cases_order}
@@ -27,7 +27,7 @@ pub mapped : {X Y : Type 0} (g : X → Y) (o : Option X) (y : Y) → option_map 
 mapped g None y e = absurd (none-some y e)
 mapped g (Some x) y e = record { value = x; is = refl; gives = same_Some (g x) y e }
 
--- ---- the message of a place
+-- ---- the message at an index
 
 pub at_place : (T : Table) (i : ℕ) (d : Message) → i < length T.messages → slice_get T.messages i ≡ Some (get_or T.messages i d)
 at_place T i d within = slice_get-get_or T.messages i d within
@@ -41,7 +41,7 @@ name_at T i m at = message_name_is T i m (slice_get_within T.messages i m at) �
 pub message_at : (T : Table) → IsValid T → (i : ℕ) (m : Message) → slice_get T.messages i ≡ Some m → IsMessage T m
 message_at T valid i m at = All-contains (IsMessage T) T.messages m valid.messages (is_in T i m at)
 
--- the message that is read at a place
+-- the message that is read at an index
 pub here_at : (T : Table) (i : ℕ) (m : Message) (ms : List Message) → ms ≡ T.messages → i < length T.messages → m ≡ get_or ms i m → slice_get T.messages i ≡ Some m
 here_at T i m ms all within at = at_place T i m within ∙ ap Some (ap (λ (ns : List Message). get_or ns i m) (sym all) ∙ sym at)
 
@@ -71,14 +71,14 @@ is_prints T i n t e = option_and_then_some (λ m. print_in T m n) (slice_get T.m
       printed = field.gives;
     })
 
--- of the field that stands at a place of the message
+-- the print of the field at an index of the message
 pub own_print : (T : Table) → IsValid T → (i : ℕ) (m : Message) → slice_get T.messages i ≡ Some m → (k : ℕ) (d : Field) → k < length m.fields
     → print_at T i (get_or m.fields k d).number ≡ Some (field_text T m (get_or m.fields k d))
 own_print T valid i m at k d within =
     print_of T i (get_or m.fields k d).number m at
     ∙ ap (option_map (field_text T m)) (field_found m.fields (message_at T valid i m at).ascend (get_or m.fields k d) (Contains-get_or m.fields k d within))
 
--- a number that is printed is that of a field at a place
+-- a number that is printed is that of a field at an index
 pub record StandsIn (m : Message) (n : ℕ) : Type 0 where
   pub place : ℕ
   pub field : Field
@@ -176,7 +176,7 @@ other_field T U valid i j m n at_m at_n k d within p =
     let ours : field_text T m (get_or m.fields k d) ≡ p.ours = same_Some (field_text T m (get_or m.fields k d)) p.ours (sym (own_print T valid i m at_m k d within) ∙ p.ours_prints) in
     record { known = theirs.value; is = theirs.is; other_text = λ e. p.other (sym ours ∙ e ∙ theirs.gives) }
 
--- no field below this place is printed in two ways
+-- no field below this index is printed differently
 abbrev pub AreSameBelow : Table → Table → ℕ → ℕ → List Field → ℕ → Type 0
 AreSameBelow T U i j fs at = (k : ℕ) (d : Field) → k < at → PrintOther T U i j (get_or fs k d).number → ⊥
 
@@ -213,7 +213,7 @@ least_other T U valid i j m n at_m at_n k d within same o = record {
       ];
 }
 
--- the field that is read at a place
+-- the field that is read at an index
 field_here : (gs fs : List Field) (k : ℕ) (f : Field) → fs ≡ gs → f ≡ get_or fs k f → get_or gs k f ≡ f
 field_here gs fs k f all at = ap (λ (hs : List Field). get_or hs k f) (sym all) ∙ sym at
 
@@ -237,7 +237,7 @@ same_on T U valid i j m n at_m at_n fs all k f within at same apart q d below p 
   | inr other ↦ same q d (omega (arith, below, other)) p
 ]
 
--- where a field that is read at a place leads, and back
+-- where a field that is read at an index leads, and the converse
 pub leads_at : (T U : Table) → IsValid T → (i j : ℕ) (m n : Message) → slice_get T.messages i ≡ Some m → slice_get U.messages j ≡ Some n
     → (fs : List Field) → fs ≡ m.fields → (k : ℕ) (f : Field) → k < length fs → f ≡ get_or fs k f → (type : List ℕ) → IsShared T U f n type → LeadsTo T U i j type
 leads_at T U valid i j m n at_m at_n fs all k f within at type s =

@@ -1,4 +1,4 @@
--- How marks come, and that in the end they're what both tables reach.
+-- How marks are made, and that in the end they are exactly the types that both tables reach.
 use Rattle.std.proofs.Common.{◌≡◌, ◌≢◌, ℕ, ◌+◌, ◌<◌, ◌≤◌, cond, List, [], ◌∷◌, ◌++◌, length, get_or, set}
 use Rattle.std.proofs.Common.{replicate, Option, Some, None, inl, inr, refl, sym, ap, subst, ◌∙◌, arith, length-set}
 use Rattle.std.proofs.Common.{get_or-set_same, get_or-set_other, append-nil, append_assoc, length-append}
@@ -91,7 +91,7 @@ marks_new old new our their within free partners found =
       };
     }
 
--- a marked one stays
+-- a marked pair stays marked
 pub marks_again : (old : Reached) (our their j : ℕ) → partner_of old our ≡ Some j → Marks old our their old
 marks_again old our their j e = record {
   grows = grows_itself old;
@@ -212,7 +212,7 @@ all_methods T service r has type h =
 pub next_stays : (T U : Table) (a b : Reached) (i j : ℕ) → Grows a b → HasNext T U a i j → HasNext T U b i j
 next_stays T U a b i j h has type l = name_stays T a b type h (has type l)
 
--- what the fields below a place lead to is marked
+-- the types that the fields below an index lead to are marked
 abbrev pub HasNextBelow : Table → Table → Reached → ℕ → ℕ → List Field → ℕ → Type 0
 HasNextBelow T U r i j fs at = (k : ℕ) (d : Field) (type : List ℕ) (to : LeadsTo T U i j type) → k < at → to.number ≡ (get_or fs k d).number → HasName T r type
 
@@ -233,7 +233,7 @@ next_all T U i j m at_m fs all r at past below type l =
     below s.place s.field type l (omega (arith, s.within, past, ap length all))
     (sym s.numbered ∙ ap (λ (g : Field). g.number) (sym s.is) ∙ ap (λ (gs : List Field). (get_or gs s.place s.field).number) (sym all))
 
--- of the pairs below a place in the list, all that they lead to is marked
+-- all types that the pairs below an index in the list lead to are marked
 abbrev pub IsClosedBelow : Table → Table → Reached → ℕ → Type 0
 IsClosedBelow T U r at = (k : ℕ) (d : ℕ × ℕ) → k < at → HasNext T U r (get_or r.found.items k d).0 (get_or r.found.items k d).1
 
@@ -255,7 +255,7 @@ closed_more T U a b at p h within here closed next k d below = elim (cases_eq k 
   | inr other ↦ closed_on T U a b at h (omega (arith, within)) closed k d (omega (arith, below, other))
 ]
 
--- a pair that stands in the list
+-- a pair that is in the list
 pub listed_at : (T U : Table) (r : Reached) → IsPaired T U r → (k : ℕ) (p : ℕ × ℕ) → k < length r.found.items
     → p ≡ get_or r.found.items k p → partner_of r p.0 ≡ Some p.1
 listed_at T U r paired k p within here =
@@ -277,7 +277,7 @@ reached_on T U service a b i j pair marked only gains k has = elim (gains.why k 
   | inr why ↦ leads_reach T U service i j (message_name T k) pair (only i marked) why
 ]
 
--- ---- in the end
+-- ---- at the end
 
 pub none_marked : (r : Reached) (n : ℕ) → r.partners.items ≡ replicate n None → (i : ℕ) → IsMarked r i → ⊥
 none_marked r n no_partners i h = none-some h.0 (sym (ap (λ (ps : List (Option ℕ)). get_or ps i None) no_partners ∙ all_none n i) ∙ h.1)
@@ -309,7 +309,7 @@ all_reached T U service r valid_T valid_U paired methods closed type (through ou
       their_type = their_type;
     })
 
--- ---- answers
+-- ---- results
 
 pub partner_is : (r : Reached) (i : ℕ) (o : Option ℕ) → i < length r.partners.items → o ≡ get_or r.partners.items i o → partner_of r i ≡ o
 partner_is r i o within at = get_or_default r.partners.items i None o within ∙ sym at

@@ -1,5 +1,5 @@
--- Agreement and its refusals on small tables, as terms: one table is a message M with a field a, and the method Get of the
--- service S on it; in another the field is named b, and a third has both fields.
+-- Agreement and differences of small tables, as terms: one table is a message M with a field a, and the method Get of
+-- the service S on it; in another the field is named b, and a third has both fields.
 use Rattle.std.proofs.Common.{◌≡◌, ◌≢◌, ℕ, zero, suc, false, List, [], ◌∷◌, codes, get_or, Some, inr, refl, sym, ap, subst, ◌∙◌, arith}
 use Rattle.std.specs.Prelude.{Contains, IsTrue}
 use Rattle.std.specs.Fmt.{digits}
@@ -72,7 +72,7 @@ other_name = record { same = refl; ours = refl; theirs = refl; other = λ e. let
 refuses_b : Refuses (of_fields a_only) (of_fields b_only) (codes "S") 1 (Mismatch 31 (Some 97) (Some 98))
 refuses_b = other_text 31 (Some 97) (Some 98) refl (offers_S a_only) (offers_S b_only) other_name refl
 
--- where one table has a further field, they differ first in `m` of `method` against `f` of `field`
+-- if one table has a further field, they first differ in `m` of `method` against `f` of `field`
 further_field : DifferAt (table_text (of_fields a_only)) (table_text (of_fields a_and_b)) 33 (Some 109) (Some 102)
 unfolding digits
 further_field = record { same = refl; ours = refl; theirs = refl; other = λ e. let apart : 109 ≡ 102 = same_Some 109 102 e in omega (arith, apart) }
@@ -91,7 +91,7 @@ one_message : (fields : List Field) (m : Message) → Contains (message_of field
 one_message fields m (zero, within, same) = same
 one_message fields m (suc k, within, same) = absurd (omega (arith, within))
 
--- what M prints of its only field
+-- the print of the only field of M
 abbrev a_text : FieldText
 a_text = record { label = codes "plain"; kind = codes "uint64"; name = codes "a" }
 
@@ -165,7 +165,7 @@ refuses_a = other_field (codes "M") 1 refl (offers_S a_only) (offers_S b_only) r
 
 -- ---- a field that one side alone knows
 
--- what M prints of its first field, where it has two
+-- the print of the first field of M, if it has two
 first_text : (type : List ℕ) (text : FieldText) → Prints (of_fields a_and_b) type 1 text → text ≡ a_text
 first_text type text p =
     let m : message_of a_and_b ≡ p.message = one_message a_and_b p.message p.known in

@@ -17,7 +17,7 @@ use Rattle.schema_binding.specs.Refusals.{DifferFrom}
 
 -- ---- lists by index
 
--- what is given of the elements with their places is what is given of the places
+-- a function of elements with their indices gives the same list as a function of the indices
 by_place : {X Y : Type 0} (h : ℕ × X → Option Y) (g : ℕ → Option Y) (xs : List X) (a n : ℕ) → length xs ≤ n
     → ((k : ℕ) (x : X) → slice_get xs k ≡ Some x → g (a + k) ≡ h (a + k, x)) → ((k : ℕ) → length xs ≤ k → g (a + k) ≡ None)
     → filter_map h (enumerate_from a xs) ≡ filter_map g (range_with_len a n)
@@ -36,11 +36,11 @@ by_place {X} {Y} h g (x ∷ xs) a (suc n) few here past =
     (λ k le. ap g (let same : a + 1 + k ≡ a + suc k = omega arith in same) ∙ past (suc k) (omega arith)) in
     ap (cons_option (h (a, x))) rest ∙ ap (λ (o : Option Y). cons_option o (filter_map g (range_with_len (a + 1) n))) (sym first)
 
--- what is given of a place says which place that is
+-- a signature has the index that it is given for
 record IsIndexed (g : ℕ → Option Signature) : Type 0 where
   pub index : (i : ℕ) (s : Signature) → g i ≡ Some s → s.index ≡ i
 
--- the first of a list, which is at or above a place
+-- the first of a list is at or above an index
 from_first : (g : ℕ → Option Signature) → IsIndexed g → (a n : ℕ) (s : Signature) → slice_get (filter_map g (range_with_len a n)) 0 ≡ Some s → a ≤ s.index
 from_first g is a zero s e = absurd (none-some s e)
 from_first g is a (suc n) s e = at_first (λ t h. from_first g is (a + 1) n t h) (g a) refl e
@@ -50,7 +50,7 @@ from_first g is a (suc n) s e = at_first (λ t h. from_first g is (a + 1) n t h)
     at_first later None here e = let more : a + 1 ≤ s.index = later s e in omega arith
     at_first later (Some t) here e = let at : s.index ≡ a = is.index a s (here ∙ e) in omega arith
 
--- two lists that differ in the first place
+-- two lists that differ in the first element
 heads_differ : (o p : Option Signature) (a : ℕ) (xs ys : List Signature) → o ≢ p
     → ((s : Signature) → o ≡ Some s → s.index ≡ a) → ((s : Signature) → p ≡ Some s → s.index ≡ a)
     → ((s : Signature) → slice_get xs 0 ≡ Some s → a + 1 ≤ s.index) → ((s : Signature) → slice_get ys 0 ≡ Some s → a + 1 ≤ s.index)
@@ -66,7 +66,7 @@ heads_differ (Some s) None a xs ys other at_o at_p above_x above_y e =
     omega (arith, low, is)
 heads_differ (Some s) (Some t) a xs ys other at_o at_p above_x above_y e = other e
 
--- one more in front of both
+-- one more element before both
 shift : (o p : Option Signature) (front xs ys : List Signature) → o ≡ p → DifferFrom xs ys (length front)
     → DifferFrom (cons_option o xs) (cons_option p ys) (length (cons_option o front))
 shift None None front xs ys same d = d
@@ -141,7 +141,7 @@ same_from g h is_g is_h (suc k) a (suc n) below e =
     (is_g.index a) (is_h.index a) (from_first g is_g (a + 1) n) (from_first h is_h (a + 1) n) e in
     subst (λ b. g b ≡ h b) (let same : a + 1 + k ≡ a + suc k = omega arith in same) (same_from g h is_g is_h k (a + 1) n (omega arith) parts.rest)
 
--- an element of the list, and its place
+-- an element of the list, and its index
 record IsGiven (g : ℕ → Option Signature) (s : Signature) : Type 0 where
   pub place : ℕ
   pub given : g place ≡ Some s
@@ -314,7 +314,7 @@ at_index T service i m e =
     subst (λ (xs : List Signature). Contains xs (signature T (i, m))) (sym (methods_by_place T service (length T.methods) (omega arith)))
     (has_given (signature_at T service) (signature T (i, m)) i 0 (length T.methods) (index_within T service i m e) here)
 
--- and one of the list stands at an index
+-- and one of the list is at an index
 pub record StandsAt (T : Table) (service : List ℕ) (s : Signature) : Type 0 where
   pub place : ℕ
   pub method : Method

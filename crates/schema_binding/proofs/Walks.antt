@@ -1,4 +1,4 @@
--- What the walk over the marked messages finds: the least field that differs, or none.
+-- The result of the walk over the marked messages: the least field that differs, or none.
 use Rattle.std.proofs.Common.{◌≡◌, ℕ, ◌<◌, List, length, Some, inl, inr, sym, ap, subst, ◌∙◌}
 use Rattle.std.proofs.lemmas.Bool.{cases_order}
 use Rattle.std.proofs.lemmas.Option.{same_Some}
@@ -12,7 +12,7 @@ use Rattle.schema_binding.specs.declared.reach.Reached.{Reached}
 use Rattle.schema_binding.proofs.Order.{names_rise}
 use Rattle.schema_binding.proofs.Prints.{other_is, is_other}
 
--- a field that differs stands in a marked message
+-- a field that differs is in a marked message
 record StandsMarked (T U : Table) (r : Reached) (type : List ℕ) (number : ℕ) : Type 0 where
   pub ours : ℕ
   pub theirs : ℕ

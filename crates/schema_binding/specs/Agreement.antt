@@ -1,6 +1,6 @@
--- When two tables agree on a service, and how they may not. Under a hello of version 1 their texts are compared. Under
--- one of version 2 the methods are, with their indices, and types, oneofs and fields by what the canonical text prints
--- of them: other places in a table say nothing then, and the values of enums aren't compared.
+-- When two tables agree on a service, and why they may not. Under a hello of version 1 their texts are compared. Under
+-- one of version 2 the methods are compared, with their indices, and types, oneofs and fields by their print in the
+-- canonical text. So other indices in a table don't matter then, and the values of enums aren't compared.
 use Rattle.std.specs.Prelude.{◌≡◌, ◌≢◌, ◌⊎◌, ◌↔◌, ℕ, ◌≤◌, Bool, IsTrue, List, ◌++◌, codes, take, map, Contains, Option, Some, None, slice_get, if◌then◌else◌}
 use Rattle.std.specs.List.{filter_map, enumerate_from}
 use Rattle.std.specs.Str.{bytes_eq}
@@ -48,7 +48,7 @@ pub record FieldText : Type 0 where
 abbrev pub field_text : Table → Message → Field → FieldText
 field_text T m f = record { label = label_text T m.oneofs f.label; kind = kind_text T f.kind; name = f.name }
 
--- the message type of this name has a field of this number, and the text prints it so
+-- the message type of this name has a field of this number, and the text prints it like this
 pub record Prints (T : Table) (type : List ℕ) (number : ℕ) (text : FieldText) : Type 0 where
   pub message : Message
   pub field : Field
@@ -63,7 +63,7 @@ abbrev pub of_type : List ℕ → List ℕ
 of_type name = codes "message:" ++ name
 
 -- the message types that both tables reach: the inputs and outputs of the methods of the service that both have, and
--- further those of the fields whose number both know, of the same type in both
+-- the types of the fields in them whose number both know, if it is the same type in both, and so on
 pub data BothReach (T U : Table) (service : List ℕ) : List ℕ → Type 0 where
   as_input : (s : Signature) → Contains (methods_of T service) s → Contains (methods_of U service) s
       → BothReach T U service s.input
@@ -73,7 +73,7 @@ pub data BothReach (T U : Table) (service : List ℕ) : List ℕ → Type 0 wher
       → Prints T outer number ours → Prints U outer number theirs → ours.kind ≡ of_type inner
       → theirs.kind ≡ of_type inner → BothReach T U service inner
 
--- in a type that both reach, a number that both know is printed in two ways
+-- in a type that both reach, the texts print a number that both know differently
 pub record Differs (T U : Table) (service type : List ℕ) (number : ℕ) : Type 0 where
   pub reached : BothReach T U service type
   pub ours : FieldText
@@ -91,9 +91,9 @@ pub data Agree (T U : Table) (service : List ℕ) (version : ℕ) : Type 0 where
   by_fields : version ≡ 2 → Offers T service → Offers U service → methods_of T service ≡ methods_of U service
       → ((type : List ℕ) (number : ℕ) → Differs T U service type number → ⊥) → Agree T U service version
 
--- ---- refusals
+-- ---- disagreement
 
--- two lists are equal up to this place and differ there, None standing for a list that has ended
+-- two lists are equal before this index and differ there; `None` means that the list has ended
 pub record DifferAt {X : Type 0} (xs ys : List X) (at : ℕ) (x y : Option X) : Type 0 where
   pub same : take at xs ≡ take at ys
   pub ours : slice_get xs at ≡ x
@@ -123,17 +123,17 @@ pub data Refuses (T U : Table) (service : List ℕ) (version : ℕ) (fault : Agr
 
 -- ---- laws
 
--- tables that agree aren't refused
+-- tables that agree have no difference
 abbrev pub NeverAgreeAndRefuse : Type 0
 NeverAgreeAndRefuse = (T U : Table) (service : List ℕ) (version : ℕ) (fault : AgreeFault) → Agree T U service version
     → Refuses T U service version fault → ⊥
 
--- they're refused in one way
+-- they differ for at most one reason
 abbrev pub RefuseOnce : Type 0
 RefuseOnce = (T U : Table) (service : List ℕ) (version : ℕ) (fault other : AgreeFault)
     → Refuses T U service version fault → Refuses T U service version other → fault ≡ other
 
--- and valid tables agree or are refused: it can't be that neither holds
+-- and valid tables agree or differ: it isn't possible that neither holds
 abbrev pub AgreeOrRefuse : Type 0
 AgreeOrRefuse = (T U : Table) (service : List ℕ) (version : ℕ) → IsValid T → IsValid U → (version ≡ 1) ⊎ (version ≡ 2)
     → (Agree T U service version → ⊥) → ((fault : AgreeFault) → Refuses T U service version fault → ⊥) → ⊥

@@ -18,18 +18,18 @@ pub record IsTextOf (text : List ℕ) (T : Table) : Type 0 where
   pub valid : IsValid T
   pub whole : text ≡ table_text T
 
--- the payload says this service and this table
+-- the payload is that of this service and this table
 pub record IsHello (payload service : List ℕ) (T : Table) : Type 0 where
   pub named : IsFullName service
   pub valid : IsValid T
   pub whole : payload ≡ hello_payload service T
 
--- the bytes are no line feeds
+-- the bytes have no line feed
 abbrev pub IsLine : List ℕ → Type 0
 IsLine bytes = All (λ byte. byte ≢ 10) bytes
 
 -- The first line at fault, counted from 1: the first one, which lacks its line feed or is no full name, or one of the
--- lines of the table's text behind it, or the line after them.
+-- lines of the table's text after it, or the line after them.
 pub data IsBadAt (payload : List ℕ) (line : ℕ) : Type 0 where
   no_line_feed : IsLine payload → line ≡ 1 → IsBadAt payload line
   no_full_name : (first text : List ℕ) → payload ≡ first ++ 10 ∷ text → IsLine first → (IsFullName first → ⊥)
@@ -38,30 +38,30 @@ pub data IsBadAt (payload : List ℕ) (line : ℕ) : Type 0 where
       → IsFullName service
       → IsFirstFault text at reason → line ≡ at + 1 → IsBadAt payload line
 
--- what a fault says of a payload; running out of memory says nothing
+-- what a fault means of a payload; running out of memory depends on no payload
 abbrev pub IsFaultOf : List ℕ → HelloFault → Type 0
 IsFaultOf payload (Bad line) = IsBadAt payload line
 IsFaultOf payload Memory = Unit {0}
 
--- the code's own: what it says of the text behind the service
+-- the code's own: what a fault means of the text after the service
 abbrev pub IsFaultBehind : List ℕ → HelloFault → Type 0
 IsFaultBehind text (Bad line) = (at : ℕ) × (reason : TableReason) × IsFirstFault text at reason × (line ≡ at + 1)
 IsFaultBehind text Memory = Unit {0}
 
--- a payload says one service and one table
+-- a payload has at most one service and one table
 abbrev pub SaysOnce : Type 0
 SaysOnce = (payload service other : List ℕ) (T U : Table) → IsHello payload service T → IsHello payload other U
     → (service ≡ other) × (T ≡ U)
 
--- or has one first line at fault
+-- it has at most one first line at fault
 abbrev pub IsBadOnce : Type 0
 IsBadOnce = (payload : List ℕ) (line other : ℕ) → IsBadAt payload line → IsBadAt payload other → line ≡ other
 
--- and never both
+-- it never has both
 abbrev pub NeverBoth : Type 0
 NeverBoth = (payload service : List ℕ) (T : Table) (line : ℕ) → IsHello payload service T → IsBadAt payload line → ⊥
 
--- nor neither
+-- and it has one of the two
 abbrev pub SaysOrIsBad : Type 0
 SaysOrIsBad = (payload : List ℕ)
     → ((service : List ℕ) × (T : Table) × IsHello payload service T) ⊎ ((line : ℕ) × IsBadAt payload line)

@@ -1,4 +1,4 @@
--- The code's own: what two tables have at a place: the method of an index, the field of a number in the message of a place.
+-- The code's own: lookups in two tables: the method at an index, the field with a number in the message at an index.
 use Rattle.std.specs.Prelude.{◌≡◌, ◌≢◌, ℕ, ◌<◌, ◌≤◌, List, length, Option, Some, None, option_and_then, option_map, slice_get, if◌then◌else◌}
 use Rattle.std.specs.Str.{bytes_eq}
 use Rattle.mrpc_table.specs.Normal.{field_at}
@@ -13,7 +13,7 @@ use Rattle.mrpc_table.specs.declared.table.Method.{Method}
 use Rattle.mrpc_table.specs.declared.table.Table.{Table}
 use Rattle.schema_binding.specs.Agreement.{Signature, signature, FieldText, field_text, of_type}
 
--- the method of an index, where it is one of the service
+-- the method at an index, if it is one of the service
 abbrev pub method_at : Table → List ℕ → ℕ → Option Method
 method_at T service index =
     option_and_then (λ m. if bytes_eq m.service service then Some m else None) (slice_get T.methods index)
@@ -21,21 +21,21 @@ method_at T service index =
 abbrev pub signature_at : Table → List ℕ → ℕ → Option Signature
 signature_at T service index = option_map (λ m. signature T (index, m)) (method_at T service index)
 
--- how the text prints the field of a number in a message
+-- the print of the field with a number in a message
 abbrev pub print_in : Table → Message → ℕ → Option FieldText
 print_in T m number = option_map (field_text T m) (field_at m.fields number)
 
--- the same in the message of a place
+-- like `print_in`, for the message at an index
 abbrev pub print_at : Table → ℕ → ℕ → Option FieldText
 print_at T i number = option_and_then (λ m. print_in T m number) (slice_get T.messages i)
 
--- these places have messages of one name
+-- the messages at these indices have the same name
 pub record IsPair (T U : Table) (i j : ℕ) : Type 0 where
   pub ours : i < length T.messages
   pub theirs : j < length U.messages
   pub same : message_name T i ≡ message_name U j
 
--- a number that both know is printed in two ways
+-- the texts print a number that both know differently
 pub record PrintOther (T U : Table) (i j number : ℕ) : Type 0 where
   pub ours : FieldText
   pub theirs : FieldText
@@ -43,7 +43,7 @@ pub record PrintOther (T U : Table) (i j number : ℕ) : Type 0 where
   pub theirs_prints : print_at U j number ≡ Some theirs
   pub other : ours ≢ theirs
 
--- a number that both know is of this message type in both
+-- the field of a number that both know has this message type in both
 pub record LeadsTo (T U : Table) (i j : ℕ) (type : List ℕ) : Type 0 where
   pub number : ℕ
   pub ours : FieldText
@@ -58,25 +58,25 @@ pub record AreOfType (T U : Table) (k l : Kind) (type : List ℕ) : Type 0 where
   pub ours : kind_text T k ≡ of_type type
   pub theirs : kind_text U l ≡ of_type type
 
--- the field and the other message's field of its number are this message type
+-- the field and the other message's field of its number have this message type
 pub record IsShared (T U : Table) (field : Field) (other : Message) (type : List ℕ) : Type 0 where
   pub known : Field
   pub is : field_at other.fields field.number ≡ Some known
   pub types : AreOfType T U field.kind known.kind type
 
--- the other message's field of this field's number is printed in another way
+-- the other message's field of this field's number is printed differently
 pub record IsOther (T U : Table) (message : Message) (field : Field) (other : Message) : Type 0 where
   pub known : Field
   pub is : field_at other.fields field.number ≡ Some known
   pub other_text : field_text T message field ≢ field_text U other known
 
--- a label of the message with these oneofs
+-- a label of a field in a message with these oneofs
 abbrev pub IsLabel : Table → List (List ℕ) → Label → Type 0
 IsLabel T oneofs (Map key) = IsKnown T key
 IsLabel T oneofs (Member o) = o < length oneofs
 IsLabel T oneofs _ = Unit {0}
 
--- the least number that is printed in two ways
+-- the least number that is printed differently
 pub record IsLeastOther (T U : Table) (i j number : ℕ) : Type 0 where
   pub here : PrintOther T U i j number
   pub least : (n : ℕ) → PrintOther T U i j n → number ≤ n

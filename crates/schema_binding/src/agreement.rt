@@ -17,16 +17,17 @@ use mrpc_table::{Name, Table};
 use std::alloc::Global;
 use table_lines::table_text;
 
-/// What two tables agree on.
+/// The result of an agreement.
 #[derive(Clone, Copy)]
 pub struct Agreed {
     /// How many methods the service has.
     pub methods: u32,
 }
 
-/// Whether two tables agree on a service, `version` being that of the other side's hello: under 1 where their canonical
-/// texts are equal, under 2 where the service's methods are the same, and so is each field that both know in each
-/// message type that both reach. The time goes with the methods and the fields; a field is found by binary search.
+/// Compares two tables on a service; `version` is that of the peer's hello. Under version 1 they agree if their
+/// canonical texts are equal. Under version 2 they agree if the service's methods are the same, and so is each field
+/// that both know in each message type that both reach. Takes time linear in the methods and the fields, except that
+/// each field is found by a binary search.
 pub fn agree(
     alloc: Global,
     ours: &Table,
@@ -37,13 +38,13 @@ pub fn agree(
     requires ours { IsValid ours.now }
     requires theirs { IsValid theirs.now }
     requires version { (version ≡ 1) ⊎ (version ≡ 2) }
-    // They agree, and the service has as many methods as that.
+    // They agree, and the service has this many methods.
     ensures agreed { OnOk result (Agree ours.now theirs.now service.now version) }
     ensures methods { IfOk result (λ agreed. agreed.methods ≡ length (methods_of ours.now service.now)) }
-    // A refusal is why they don't.
+    // The error is why they don't agree.
     ensures refused { IfErr result (λ fault. (fault ≡ NoMemory)
         ⊎ Refuses ours.now theirs.now service.now version fault) }
-    // Where they agree nothing refuses but running out of memory, and where they don't the one refusal comes.
+    // If they agree, the only error is `Memory`. If they don't, the error is their first difference or `Memory`.
     ensures agreed_only { Agree ours.now theirs.now service.now version
         → IfErr result (λ fault. fault ≡ NoMemory) }
     ensures refused_only { (why : TheFault) → Refuses ours.now theirs.now service.now version why
@@ -66,7 +67,7 @@ pub fn agree(
     Ok(Agreed { methods })
 }
 
-// Whether the canonical texts are equal.
+// Compares the canonical texts.
 fn same_text(alloc: Global, ours: &Table, theirs: &Table) -> Result<(), AgreeFault>
     requires ours { IsValid ours.now }
     requires theirs { IsValid theirs.now }
@@ -85,7 +86,7 @@ fn same_text(alloc: Global, ours: &Table, theirs: &Table) -> Result<(), AgreeFau
     }
 }
 
-// Whether the methods of the service are the same.
+// Compares the methods of the service.
 fn same_methods(ours: &Table, theirs: &Table, service: &Name) -> Result<(), AgreeFault>
     requires ours { IsValid ours.now }
     requires theirs { IsValid theirs.now }
@@ -98,8 +99,8 @@ fn same_methods(ours: &Table, theirs: &Table, service: &Name) -> Result<(), Agre
     }
 }
 
-// Whether each field that both know, in each type that both reach, is the same. The messages ascend by name and their
-// fields by number, so the first that differs is the least.
+// Compares each field that both know, in each type that both reach. The messages ascend by name and their fields by
+// number, so the first difference is the least.
 fn same_fields(
     alloc: Global,
     ours: &Table,

@@ -1,4 +1,4 @@
-//! Where two texts, two kinds, two labels and two fields differ.
+//! Compares two texts, two kinds, two labels and two fields.
 
 ghost use Rattle.std.specs.Prelude.{◌≡◌, ◌<◌, ◌↔◌, length, slice_get, IsTrue, MatchOption};
 ghost use Rattle.mrpc_table.specs.Text.{message_name, enum_name, kind_text, label_text};
@@ -8,7 +8,7 @@ ghost use Rattle.schema_binding.specs.Places.{IsLabel};
 
 use mrpc_table::{Field, Kind, Label, Message, Names, Table};
 
-// The first place, from 0, at which two texts differ or one has ended.
+// The first offset, from 0, at which two texts differ or only one has ended.
 pub(crate) fn first_byte(ours: &[u8], theirs: &[u8]) -> Option<usize>
     ensures { MatchOption result (ours.now ≡ theirs.now)
         (λ at. DifferAt ours.now theirs.now at (slice_get ours.now at) (slice_get theirs.now at)) }
@@ -26,7 +26,7 @@ pub(crate) fn first_byte(ours: &[u8], theirs: &[u8]) -> Option<usize>
     }
 }
 
-// Whether two messages have one name.
+// Whether two messages have the same name.
 pub(crate) fn is_same_message(ours: &Table, our: u32, theirs: &Table, their: u32) -> bool
     requires our { our < length ours.now.messages }
     requires their { their < length theirs.now.messages }
@@ -47,7 +47,7 @@ fn is_same_enum(ours: &Table, our: u32, theirs: &Table, their: u32) -> bool
     our.name.as_slice() == their.name.as_slice()
 }
 
-// Whether two kinds are printed as one.
+// Whether the texts print two kinds alike.
 fn is_same_kind(ours: &Table, our: Kind, theirs: &Table, their: Kind) -> bool
     requires our { IsKnown ours.now our }
     requires their { IsKnown theirs.now their }
@@ -66,7 +66,7 @@ fn is_same_kind(ours: &Table, our: Kind, theirs: &Table, their: Kind) -> bool
     }
 }
 
-// Whether two labels are printed as one, a oneof by its name.
+// Whether the texts print two labels alike, a oneof by its name.
 fn is_same_label(
     ours: &Table,
     our_oneofs: &Names,
@@ -96,7 +96,7 @@ fn is_same_label(
     }
 }
 
-// Whether two fields are printed as one, without their numbers.
+// Whether the texts print two fields alike, their numbers aside.
 pub(crate) fn is_same_field(
     ours: &Table,
     our_message: &Message,

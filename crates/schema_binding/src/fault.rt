@@ -10,10 +10,10 @@ use thiserror::Error;
 /// Why a payload isn't that of a hello.
 #[derive(Clone, Copy, Debug, Error)]
 pub enum HelloFault {
-    /// The first line at fault, from 1, which is the service's.
+    /// The first line at fault, counted from 1; line 1 is the service.
     #[error("line {line}")]
     Bad { line: u64 },
-    /// No memory was found.
+    /// Out of memory.
     #[error("out of memory")]
     Memory,
 }
@@ -29,31 +29,31 @@ impl From<Memory> for HelloFault {
 /// Why two tables don't agree on a service.
 #[derive(Debug, Drop, Error)]
 pub enum AgreeFault {
-    /// A table has no method of the service; each says whether it has one.
+    /// A table has no method of the service; `ours` and `theirs` are whether each table has one.
     #[error("no method of the service")]
     NoService {
         ours: bool,
         theirs: bool,
     },
-    /// The canonical texts differ first in this byte, from 0; `None` stands for a text that has ended.
+    /// The canonical texts first differ at this byte, counted from 0; `None` means that the text has ended.
     #[error("the texts differ at byte {byte}")]
     Mismatch {
         byte: u64,
         ours: Option<u8>,
         theirs: Option<u8>,
     },
-    /// The lists of the service's methods differ first at this place, from 0.
+    /// The lists of the service's methods first differ at this index, counted from 0.
     #[error("the methods differ at place {at}")]
     Methods {
         at: u32,
     },
-    /// This field, which both know, differs: the least message name, then the least number.
+    /// A field that both know differs: the one with the least message name, then the least number.
     #[error("field {number} differs")]
     Field {
         message: Name,
         number: u32,
     },
-    /// No memory was found.
+    /// Out of memory.
     #[error("out of memory")]
     Memory,
 }

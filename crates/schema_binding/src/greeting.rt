@@ -1,4 +1,4 @@
-//! The hello: what a connection begins with.
+//! The hello: the first frame of each side of a connection.
 
 ghost use Rattle.std.specs.Prelude.{◌≡◌, ℕ, List, length, IfOk, IfErr, MatchResult};
 ghost use Rattle.mrpc_table.specs.Names.{IsFullName};
@@ -16,8 +16,8 @@ use table_lines::table_text;
 use table_text::{TableFault, one_fault, read_table};
 
 /// The frame of a hello (this project's own), of kind 3 and version 2, from the sender's connection. Its payload is the
-/// service's full name, a line feed and the canonical text of the table: at most 255 + 1 + 65536 bytes, which is less
-/// than the 262144 that a payload may have.
+/// service's full name, a line feed and the canonical text of the table. It has at most 255 + 1 + 65536 bytes, less
+/// than the 262144 of the largest payload.
 pub fn hello(alloc: Global, conn: u32, table: &Table, service: &Name) -> Result<Bytes, Memory>
     requires service { IsFullName service.now }
     requires valid { IsValid table.now }
@@ -40,15 +40,15 @@ fn payload(alloc: Global, table: &Table, service: &Name) -> Result<Bytes, Memory
     Ok(payload)
 }
 
-/// The service and the table that the payload of a hello says, of version 1 or 2. A payload that isn't a full name, a
-/// line feed and the canonical text of a table is refused with its first line at fault, the service's being 1.
+/// Reads the service and the table from the payload of a hello, of version 1 or 2. A payload that isn't a full name, a
+/// line feed and the canonical text of a table is rejected with its first line at fault; the service is line 1.
 pub fn on_hello(alloc: Global, payload: &[u8]) -> Result<(Name, Table), HelloFault>
-    // What is read is what the payload says.
+    // The service and the table are those of the payload.
     ensures read { IfOk result (λ said. IsHello payload.now said.0 said.1) }
-    // The payload of a hello gives its service and its table, unless memory runs out.
+    // The payload of a hello gives its service and its table, unless it is out of memory.
     ensures only { (service : List ℕ) (table : TheTable) → IsHello payload.now service table
         → MatchResult result (λ said. said ≡ (service, table)) (λ fault. fault ≡ NoMemory) }
-    // A fault is that of the first line at fault.
+    // The fault is the first line at fault.
     ensures fault { IfErr result (IsFaultOf payload.now) }
 {
     let Some((service, text)) = cut(payload, b'\n') else {
@@ -61,7 +61,7 @@ pub fn on_hello(alloc: Global, payload: &[u8]) -> Result<(Name, Table), HelloFau
     Ok((Name::from_slice(alloc, service)?, table))
 }
 
-// The table of the text behind the service.
+// The table of the text after the service.
 fn table_behind(alloc: Global, text: &[u8]) -> Result<Table, HelloFault>
     ensures read { IfOk result (IsTextOf text.now) }
     ensures only { (table : TheTable) → IsTextOf text.now table

@@ -1,11 +1,11 @@
-//! Binding: what two ends say to each other before the first call, and whether their schemas agree.
+//! The handshake's contents: the hello of each side, and whether the schemas of both sides agree.
 //!
-//! [`hello`] writes the frame that opens a connection, with the service and the table of its sender, and
-//! [`on_hello`] reads such a payload. [`agree`] compares two tables on a service, under the version of the
-//! other side's hello. It stands on `mrpc_table` for tables, on `table_lines` and `table_text`, which write and
-//! read their text, on `frame_transport` for the frame, and on `thiserror` for its fault. The layers above use
-//! two contracts: what is read of a payload is what it says, or its first line at fault; and two tables
-//! agree on a service, or there is one first difference.
+//! [`hello`] writes the frame that opens a connection, with the service and the table of its sender, and [`on_hello`]
+//! reads its payload. [`agree`] compares two tables on a service, under the version of the peer's hello. This crate
+//! depends on `mrpc_table` for tables, on `table_lines` and `table_text`, which write and read their text, on
+//! `frame_transport` for the frame, and on `thiserror` for its faults. The layers above use two contracts. A payload is
+//! read to its service and table, or to its first line at fault. Two tables agree on a service, or there is exactly one
+//! first difference.
 #![tactic(auto)]
 
 mod agreement;

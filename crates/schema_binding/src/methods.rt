@@ -1,4 +1,4 @@
-//! The methods of a service, as two tables have them.
+//! The methods of a service in two tables.
 
 ghost use Rattle.std.specs.Prelude.{◌≡◌, ◌↔◌, ℕ, length, IsTrue, IfSome, MatchOption};
 ghost use Rattle.std.specs.Option.{option_copied};
@@ -22,7 +22,7 @@ pub(crate) fn count_methods(table: &Table, service: &Name) -> u32
     of_service.count() as u32
 }
 
-// The method of an index, where it is one of the service.
+// The method at an index, if it is one of the service.
 pub(crate) fn method_at<'a>(table: &'a Table, service: &Name, index: usize) -> Option<&'a Method>
     requires { IsValid table.now }
     ensures method { option_copied result ≡ method_at table.now service.now index }
@@ -36,7 +36,7 @@ pub(crate) fn method_at<'a>(table: &'a Table, service: &Name, index: usize) -> O
     }
 }
 
-// The first place, from 0, at which the methods of the service differ or those of one table have ended.
+// The first index, from 0, at which the methods of the service differ, or at which only one list has ended.
 pub(crate) fn first_method(ours: &Table, theirs: &Table, service: &Name) -> Option<u32>
     requires ours { IsValid ours.now }
     requires theirs { IsValid theirs.now }
@@ -71,7 +71,7 @@ fn is_same_at(ours: &Table, theirs: &Table, service: &Name, index: usize) -> boo
     }
 }
 
-// Whether two methods have one name, and inputs and outputs of one name.
+// Whether two methods have the same name, and inputs and outputs of the same names.
 fn is_same_method(ours: &Table, our: &Method, theirs: &Table, their: &Method) -> bool
     requires our { IsMethod ours.now our.now }
     requires their { IsMethod theirs.now their.now }

@@ -12,17 +12,17 @@ use crate::methods::method_at;
 use mrpc_table::{Field, Kind, Memory, Message, Name, Table};
 use std::alloc::Global;
 
-// The pairs of messages, one of each table and of one name, that both tables reach. Each is marked once.
+// The pairs of messages, one of each table and with the same name, that both tables reach. Each pair is marked once.
 #[derive(Drop)]
 pub(crate) struct Reached {
-    // For each of our messages the place of theirs, where the pair is marked.
+    // For each of our messages the index of the peer's message, if the pair is marked.
     partners: Vec<Option<u32>>,
     // The marked pairs, in the order in which they were found.
     found: Vec<(u32, u32)>,
 }
 
 impl Reached {
-    // Those that both reach from the methods of the service, which are the same in both tables.
+    // The pairs that both reach from the methods of the service, which are the same in both tables.
     pub(crate) fn of(
         alloc: Global,
         ours: &Table,
@@ -40,7 +40,7 @@ impl Reached {
         Ok(reached)
     }
 
-    // No marks, with room for as many messages.
+    // No pair is marked, with room for this many messages.
     fn none(alloc: Global, messages: usize) -> Result<Reached, Memory>
         ensures partners { IfOk result (λ reached. reached.partners.items ≡ replicate messages None) }
         ensures found { IfOk result (λ reached. reached.found.items ≡ []) }
@@ -65,7 +65,7 @@ impl Reached {
         Ok(())
     }
 
-    // Marks the input and the output of the method of an index, where it is one of the service.
+    // Marks the input and the output of the method at an index, if it is one of the service.
     fn mark_method(
         &mut self,
         ours: &Table,
@@ -91,7 +91,7 @@ impl Reached {
         self.mark(our.output, their.output)
     }
 
-    // Marks what the marked pairs lead to, and what those lead to.
+    // Marks the types that the marked pairs lead to, until no more are found.
     fn mark_further(&mut self, ours: &Table, theirs: &Table) -> Result<(), Memory>
         requires ours { IsValid ours.now }
         requires theirs { IsValid theirs.now }
@@ -135,7 +135,7 @@ impl Reached {
         Ok(())
     }
 
-    // Marks the message type of a field, where the other message's field of its number is of it too.
+    // Marks the message type of a field, if the other message's field of the same number has that type too.
     fn mark_field(
         &mut self,
         ours: &Table,
@@ -157,7 +157,7 @@ impl Reached {
         }
     }
 
-    // Marks the message type that both kinds are.
+    // Marks the message type, if both kinds are the same one.
     fn mark_type(
         &mut self,
         ours: &Table,
@@ -186,7 +186,7 @@ impl Reached {
         }
     }
 
-    // Marks a pair, where it wasn't marked before.
+    // Marks a pair, if it wasn't marked before.
     fn mark(&mut self, our: u32, their: u32) -> Result<(), Memory>
         requires { our < length self.old.partners.items }
         ensures { OnOk result (Marks self.old our their self.new) }
@@ -199,7 +199,7 @@ impl Reached {
         Ok(())
     }
 
-    // The least number that both know and print in two ways, in one of our messages that both reach.
+    // The least number of a field that both know and print differently, in one of our messages, if both reach it.
     pub(crate) fn differing_field(&self, ours: &Table, our: usize, theirs: &Table) -> Option<u32>
         requires ours { IsValid ours.now }
         requires theirs { IsValid theirs.now }
@@ -213,7 +213,7 @@ impl Reached {
     }
 }
 
-// The least number that both know and print in two ways, in two messages of one name.
+// The least number of a field that both know and print differently, in two messages of the same name.
 fn differing_field(ours: &Table, our: usize, theirs: &Table, their: u32) -> Option<u32>
     requires ours { IsValid ours.now }
     requires theirs { IsValid theirs.now }
@@ -231,7 +231,7 @@ fn differing_field(ours: &Table, our: usize, theirs: &Table, their: u32) -> Opti
     None
 }
 
-// Whether the other message knows the field's number and prints it in another way.
+// Whether the other message has the field's number and prints it differently.
 fn differs(ours: &Table, message: &Message, field: &Field, theirs: &Table, other: &Message) -> bool
     requires field { IsField ours.now (length message.now.oneofs) field.now }
     requires other { IsMessage theirs.now other.now }

@@ -1,4 +1,4 @@
--- The first fault of a set stands in one of its files.
+-- The first fault of a set is in one of its files.
 use Rattle.std.proofs.Common.{◌≡◌, ℕ, ◌<◌, List, length, sym, ◌∙◌, subst, arith}
 use Rattle.std.proofs.lemmas.Option.{slice_get_within, same_Some}
 use Rattle.file_bundle.specs.Bundle.{File as PackedFile}

@@ -1,4 +1,4 @@
--- Lists by their places.
+-- Lists by index.
 use Rattle.std.proofs.Common.{◌≡◌, ℕ, zero, suc, ◌<◌, ◌⊎◌, ⊎_elim, List, [], ◌∷◌, ◌++◌, inl, inr, length, set, get_or, refl, sym, ap, ◌∙◌, subst, arith}
 use Rattle.std.specs.Prelude.{slice_get, Some, Contains, All}
 use Rattle.std.specs.List.{AllZip}
@@ -50,7 +50,7 @@ once (y ∷ ys) zero (suc k) x h a b = absurd (h.0 (held ys k y (b ∙ sym a)))
 once (y ∷ ys) (suc j) zero x h a b = absurd (h.0 (held ys j y (a ∙ sym b)))
 once (y ∷ ys) (suc j) (suc k) x h a b = ap suc (once ys j k x h.1 a b)
 
--- ---- two lists, place by place
+-- ---- two lists, element by element
 
 pub zip_all : {A B : Type 0} (R : A → B → Type 0) (xs : List A) (ys : List B) → length xs ≡ length ys
     → ((j : ℕ) (x : A) (y : B) → slice_get xs j ≡ Some x → slice_get ys j ≡ Some y → R x y) → AllZip R xs ys

@@ -1,4 +1,4 @@
--- A set of files never has neither a table nor a first fault.
+-- A set of files never lacks both a table and a first fault.
 use Rattle.std.proofs.Common.{◌≡◌, ℕ, zero, suc, ◌+◌, ◌<◌, ◌≤◌, ◌⊎◌, ⊎_elim, inl, inr, List, [], ◌∷◌, length, take, sum, refl, ap, subst, arith}
 use Rattle.std.specs.Prelude.{slice_get, Some}
 use Rattle.std.specs.List.{AllZip}
@@ -37,13 +37,13 @@ use Rattle.schema_files.proofs.Standing.{OffencesStand, StandsInText, in_some_fi
 use Rattle.schema_files.proofs.Taken.{below_at, seen_in_order}
 use Rattle.schema_files.proofs.Whole.{own_paths}
 
--- ---- what the texts say
+-- ---- the contents of the texts
 
 abbrev pub ReadsOrFaults : Type 0
 ReadsOrFaults = (text : List ℕ)
     → ((F : File) × IsTextOf text F) ⊎ ((q : ProtoReason) × (s : Span) × HasTextFault text q s)
 
--- the first text that is no proto file
+-- the first text that is not a proto file
 record FirstUnread (files : List PackedFile) : Type 0 where
   place : ℕ
   file : PackedFile
@@ -92,9 +92,9 @@ read_first either (f ∷ fs) =
       })
     ]
 
--- ---- the parts of what is reached
+-- ---- the linked files of an import closure
 
--- a list of so many, one for each place
+-- a list of this many elements, one for each index
 listed : {X : Type 0} (P : ℕ → X → Type 0) (n : ℕ) → ((k : ℕ) → k < n → (x : X) × P k x)
     → (xs : List X) × (length xs ≡ n) × ((k : ℕ) (x : X) → slice_get xs k ≡ Some x → P k x)
 listed P zero h = ([], refl, λ k x at. absurd cc)
@@ -108,7 +108,7 @@ listed {X} P (suc n) h =
     placed P y ys here behind zero x at = subst (P 0) (same_Some y x at) here
     placed P y ys here behind (suc k) x at = behind k x at
 
--- a list that goes with another, place by place
+-- a list that corresponds to another, element by element
 paired : {A B : Type 0} (R : A → B → Type 0) (xs : List A)
     → ((n : ℕ) (x : A) → slice_get xs n ≡ Some x → (y : B) × R x y) → (ys : List B) × AllZip R xs ys
 paired R [] h = ([], tt)
@@ -153,7 +153,7 @@ joined_of files members reach some read reached =
     let parts : AreParts files members reach all.0 = record { count = all.1; each = all.2 } in
     (all.0, record { members = members; reach = reach; read = read; reached = reached; parts = parts })
 
--- ---- the first offence of the joined files
+-- ---- the first violation of the joined files
 
 no_text_behind : (sizes : List ℕ) (k place : ℕ) → IsInTextOf sizes k place → length sizes ≤ k → ⊥
 no_text_behind sizes k place h l =
@@ -180,9 +180,9 @@ offence_fault stand own files ps joins sound q s h =
     let file = some_at joins.reach.order k l in
     (file.0, unresolved ps q s k joins h in_text file.1 refl)
 
--- ---- the whole
+-- ---- the whole set
 
--- what lower crates say of a set that was read
+-- the laws of lower crates on a set that was read
 pub record NeverNeither : Type 0 where
   pub paths : RightOrRefused
   pub text : ReadsOrFaults

@@ -1,4 +1,4 @@
--- A set of files is joined to one list of parts, and has one table or one first fault.
+-- The files of a set are joined in at most one way, and have at most one table and at most one first fault.
 use Rattle.std.proofs.Common.{◌≡◌, ℕ, suc, ◌<◌, inl, inr, List, [], ◌∷◌, length, refl, sym, ap, ◌∙◌, subst, arith}
 use Rattle.std.specs.Prelude.{slice_get, Some}
 use Rattle.std.proofs.lemmas.Bool.{cases_lt}
@@ -30,7 +30,7 @@ use Rattle.schema_files.specs.declared.fault.FilesFault.{FilesFault}
 use Rattle.schema_files.specs.declared.fault.FilesFault.TheVariants as fault
 use Rattle.schema_files.proofs.Lists.{some_at, once, zip_at, zip_length}
 
--- ---- what lower crates say
+-- ---- laws of lower crates
 
 pub record AreLaws : Type 0 where
   pub one_file : (text : List ℕ) (f g : File) → IsTextOf text f → IsTextOf text g → f ≡ g
@@ -48,7 +48,7 @@ pub record AreOneFault : Type 0 where
   pub one_import_fault : (set : List Member) (q r : ImportReason) (i j : ℕ) (s t : Span) → HasImportFault set q i s
       → HasImportFault set r j t → (q ≡ r) × (i ≡ j) × (s ≡ t)
 
--- ---- one list of parts
+-- ---- the linked files are unique
 
 lists_same : {X : Type 0} (xs ys : List X) → length xs ≡ length ys
     → ((k : ℕ) (x y : X) → slice_get xs k ≡ Some x → slice_get ys k ≡ Some y → x ≡ y) → xs ≡ ys
@@ -137,7 +137,7 @@ joined_one laws files ps qs A B =
       parts = parts_one files B.members B.reach ps qs B.reached parts B.parts;
     }
 
--- ---- never a table and a fault
+-- ---- never both a table and a fault
 
 not_unread : AreApart → (files : List PackedFile) (members : List Member) → ReadAs files members → (i : ℕ) (f : PackedFile)
     (q : ProtoReason) (s : Span) → slice_get files i ≡ Some f → HasTextFault f.1 q s → ⊥
@@ -162,14 +162,14 @@ table_or_fault laws apart files t file line q R (unresolved ps r s k joins first
     let one = joined_one laws files ps R.parts joins R.joins in
     R.resolves.clean r s (subst (λ (xs : List Part). HasFirst (joined xs) r s) one.parts first).offence
 
--- ---- one first fault
+-- ---- the first fault is unique
 
 pub record IsOneFault (i l : ℕ) (q : FilesReason) (j m : ℕ) (r : FilesReason) : Type 0 where
   pub file : i ≡ j
   pub line : l ≡ m
   pub reason : q ≡ r
 
--- what is known of files that are joined
+-- properties of joined files
 pub record AreJoinedLaws (files : List PackedFile) : Type 0 where
   pub ordered : (ps : List Part) → AreJoined files ps → IsOrdered (joined ps)
   pub one_offence : (F : Joined) (q r : ResolveReason) (s t : Span) → IsOrdered F → HasFirst F q s → HasFirst F r t
@@ -238,7 +238,7 @@ fault_one laws apart ones files more i l q j m r (unresolved ps x s n joins firs
     (sym at ∙ ap (λ (xs : List ℕ). slice_get xs n) same.order ∙ ap (slice_get joints.reach.order) place ∙ bt) in
     record { file = file; line = e ∙ ap (λ (z : Span). z.line) one.1 ∙ sym d; reason = ap Resolve one.0 }
 
--- ---- with paths that may be refused
+-- ---- paths that may be rejected
 
 pub table_or_first : AreLaws → AreApart → NeverRightAndRefused → (files : List PackedFile) (t : Table) (e : FilesFault)
     → FilesResolve files t → IsFirstFault files e → ⊥

@@ -1,4 +1,4 @@
--- The places that files have in an order.
+-- The indices of files in an order.
 use Rattle.std.proofs.Common.{◌≡◌, ℕ, ◌+◌, ◌<◌, ◌≤◌, List, [], ◌∷◌, ◌++◌, inl, inr, length, set, refl, sym, ap, ◌∙◌, subst, arith, length-set}
 use Rattle.std.specs.Prelude.{slice_get, Some}
 use Rattle.std.proofs.lemmas.Bool.{cases_lt}
@@ -8,7 +8,7 @@ use Rattle.mrpc_table.specs.Valid.{AreDistinct}
 use Rattle.schema_files.specs.Placing.{ArePlaces, ArePlaced}
 use Rattle.schema_files.proofs.Lists.{get_push, get_set_same, get_set_other, once}
 
--- ---- where those of the first n places stand
+-- ---- the indices of the first n files of an order
 
 pub record ArePut (order : List ℕ) (count n : ℕ) (places : List ℕ) : Type 0 where
   pub count_is : length places ≡ count
@@ -44,7 +44,7 @@ put_all order count n places l h = record {
   back = λ k i at. h.put k i (omega (arith, slice_get_within order k i at)) at;
 }
 
--- ---- the places of the first n of some of them
+-- ---- the indices of the first n of some files
 
 pub record ArePlacedSo (places some : List ℕ) (n : ℕ) (all : List ℕ) : Type 0 where
   pub same : length all ≡ n

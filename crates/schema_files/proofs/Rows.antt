@@ -25,21 +25,21 @@ use Rattle.schema_files.specs.Joined.{IsPart, AreParts}
 use Rattle.schema_files.specs.Resolving.{FilesResolve, HasFilesFault, IsRead, unread, import_at_fault}
 use Rattle.schema_files.specs.declared.fault.FilesReason.TheVariants.{Proto, Import as OfImport}
 
--- ---- places
+-- ---- indices
 
 places_back : (k i : ℕ) → slice_get {X = ℕ} (2 ∷ 0 ∷ []) k ≡ Some i → slice_get {X = ℕ} (1 ∷ 7 ∷ 0 ∷ []) i ≡ Some k
 places_back zero i e = subst (λ (n : ℕ). slice_get {X = ℕ} (1 ∷ 7 ∷ 0 ∷ []) n ≡ Some 0) (same_Some 2 i e) refl
 places_back (suc zero) i e = subst (λ (n : ℕ). slice_get {X = ℕ} (1 ∷ 7 ∷ 0 ∷ []) n ≡ Some 1) (same_Some 0 i e) refl
 places_back (suc (suc k)) i e = absurd cc
 
--- of three, the last one stands first and the first one second
+-- of three files, the last one comes first and the first one second
 some_places : ArePlaces (2 ∷ 0 ∷ []) 3 (1 ∷ 7 ∷ 0 ∷ [])
 some_places = record {
   count_is = refl;
   back = places_back;
 }
 
--- a file that doesn't stand there has no place
+-- a file that isn't in the order has no index
 not_elsewhere : ArePlaces (2 ∷ 0 ∷ []) 3 (1 ∷ 7 ∷ 5 ∷ []) → ⊥
 not_elsewhere h = let e : slice_get {X = ℕ} (1 ∷ 7 ∷ 5 ∷ []) 2 ≡ Some 0 = h.back 0 2 refl in omega (arith, same_Some 5 0 e)
 
@@ -63,7 +63,7 @@ earlier_reads text other reads zero g l at =
     (file_with [], subst (λ (f : PackedFile). IsTextOf f.1 (file_with [])) (same_Some (path, text) g at) reads)
 earlier_reads text other reads (suc j) g l at = absurd (omega arith)
 
--- of two texts the first one reads as a file, and the second one has its first fault in line 3
+-- the first of two texts reads as a file, and the second has its first fault in line 3
 unread_row : (text other : List ℕ) (q : ProtoReason) → IsTextOf text (file_with [])
     → HasTextFault other q (record { start = 40; end = 41; line = 3 })
     → HasFilesFault ((path, text) ∷ (codes "b", other) ∷ []) 1 3 (Proto q)
@@ -78,7 +78,7 @@ only_one x y (suc i) e = absurd (none-some y e)
 nothing_in : {X : Type 0} (x : X) → Contains [] x → ⊥
 nothing_in x c = let l : c.0 < 0 = c.1 in omega arith
 
--- a text that imports a file that isn't there, in line 2
+-- a text whose line 2 imports a file that doesn't exist
 abbrev import_x : Import
 import_x = record { path = codes "x"; public = false; span = record { start = 27; end = 30; line = 2 } }
 
@@ -205,7 +205,7 @@ right_row text = record {
   distinct = λ i j d lt within. absurd (omega (arith, lt, within));
 }
 
--- its path is refused where it stands a second time
+-- its path is rejected if it occurs a second time
 twice_row : (text other : List ℕ) → IsFirstRefused ((path, text) ∷ (path, other) ∷ []) 1
 twice_row text other = record {
   before = set_of text;

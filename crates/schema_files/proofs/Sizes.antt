@@ -1,4 +1,4 @@
--- How long texts are together.
+-- The total size of texts.
 use Rattle.std.proofs.Common.{◌≡◌, ℕ, ◌+◌, ◌<◌, ◌≤◌, List, [], ◌∷◌, ◌++◌, length, set, get_or, map, sum, sum_by, refl, sym, ap, ◌∙◌, arith, suc}
 use Rattle.std.proofs.Common.{take}
 use Rattle.std.proofs.lemmas.List.{length-map, take_more, get_or-map, take_all}
@@ -18,7 +18,7 @@ use Rattle.proto_join.specs.Texts.{IsInTextOf}
 use Rattle.schema_files.specs.Joined.{AreParts}
 use Rattle.schema_files.proofs.Lists.{get_set_other, held, some_at}
 
--- elements at places that are apart are together at most what all of them are
+-- elements at distinct indices sum up to at most the sum of all elements
 pub picked_most : (xs order picked : List ℕ) → AreDistinct order → length picked ≡ length order
     → ((j i s : ℕ) → slice_get order j ≡ Some i → slice_get picked j ≡ Some s → slice_get xs i ≡ Some s)
     → sum picked ≤ sum xs
@@ -48,7 +48,7 @@ texts_sum (p ∷ ps) = omega (
   texts_sum ps,
 )
 
--- the parts of a set are together at most as long as all its texts
+-- the linked files of a set have at most the size of all its texts
 pub parts_most : (packed : List Packed) (members : List Member) (reach : Reach) (ps : List Part)
     → AreDistinct reach.order → AreParts (files_of packed) members reach ps
     → sum (sizes_of ps) ≤ sum_by (λ f. length f.text.now) packed
@@ -69,7 +69,7 @@ parts_most packed members reach ps d h =
 pub in_all : (sizes : List ℕ) (k place : ℕ) → IsInTextOf sizes k place → place < sum sizes
 in_all sizes k place h = omega (arith, h.below, sum_by-take-le (λ x. x) sizes (k + 1))
 
--- the sizes of the first parts
+-- the sizes of the first linked files
 pub sizes_more : (ps : List Part) (k : ℕ) (d : Part) (old new : List ℕ) → k < length ps → old ≡ take k (sizes_of ps)
     → new ≡ old ++ (get_or ps k d).size ∷ [] → new ≡ take (k + 1) (sizes_of ps)
 sizes_more ps k d old new l h e =

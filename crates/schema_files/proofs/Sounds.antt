@@ -1,4 +1,4 @@
--- The parts of a set are sound.
+-- The linked files of a set are valid.
 use Rattle.std.proofs.Common.{◌≡◌, ℕ, ◌<◌, List, length, sym, subst, arith}
 use Rattle.std.specs.Prelude.{slice_get, Some, Contains}
 use Rattle.std.proofs.lemmas.Option.{slice_get_within}
@@ -17,7 +17,7 @@ use Rattle.schema_files.specs.Joined.{ReadsAs, ReadAs, StandsAt, AreParts}
 use Rattle.schema_files.proofs.Lists.{some_at, held, place_of, all_held, once, zip_at, zip_length}
 use Rattle.schema_files.proofs.Taken.{seen_at}
 
--- what holds of every file that was read
+-- the laws of every file that was read
 pub record AreTexts : Type 0 where
   pub formed : (t : List ℕ) (F : File) → IsTextOf t F → IsFormed F
   pub ordered : (t : List ℕ) (F : File) → IsTextOf t F → IsOrdered F

@@ -1,4 +1,4 @@
--- In the text of which of the joined files an offence stands.
+-- Which of the joined files contains a violation.
 use Rattle.std.proofs.Common.{◌≡◌, ℕ, ◌<◌, ◌≤◌, List, refl, sum, length, get_or, ap, ◌∙◌, subst, arith}
 use Rattle.std.proofs.lemmas.List.{length-map}
 use Rattle.std.proofs.lemmas.Option.{slice_get-get_or}
@@ -23,7 +23,7 @@ use Rattle.schema_files.specs.Resolving.{AreJoined, HasFilesFault, unresolved}
 use Rattle.schema_files.specs.declared.fault.FilesReason.TheVariants.{Resolve}
 use Rattle.schema_files.proofs.Sizes.{in_all}
 
--- whatever stands somewhere stands in a file
+-- every part of a declaration is in a file
 pub in_some_file : {F : Joined} {s : Span} {x : Declaration} {piece : Piece} → StandsAt F s x piece
     → (k : ℕ) × IsInFile F k x
 in_some_file (package_name k h w at is e) = (k, its_package)
@@ -35,7 +35,7 @@ in_some_file (value i j e v at it is) = (e.file, in_value_of i j e at refl)
 in_some_file (service i s at e) = (s.file, in_service_of i s at refl)
 in_some_file (rpc i j s r at it is) = (s.file, in_rpc_of i j s at refl)
 
--- an offence stands at a name or a number
+-- a violation is at a name or a number
 abbrev pub OffencesStand : Type 0
 OffencesStand = (F : Joined) (q : ResolveReason) (s : Span) → Offends F q s
     → (x : Declaration) × (piece : Piece) × StandsAt F s x piece
@@ -51,7 +51,7 @@ first_inside stand own ps q s sound h =
     let file = in_some_file at.2 in
     in_all (sizes_of ps) file.0 s.start (own ps file.0 at.0 at.1 s sound file.1 at.2)
 
--- ---- what is found
+-- ---- the file that is found
 
 pub some_unless : {X : Type 0} {P : Type 0} (r : Option X) → IsNone r ↔ P → (P → ⊥) → IsSome r
 some_unless None h never = absurd (never (h.0 refl))
@@ -60,7 +60,7 @@ some_unless (Some x) h never = refl
 pub if_some : {X : Type 0} (P : X → Type 0) (r : Option X) (x : X) → r ≡ Some x → IfSome r P → P x
 if_some {X} P r x e h = subst (λ (o : Option X). IfSome o P) e h
 
--- the first offence of files that are joined, as a fault names it
+-- the first violation of joined files, as a fault reports it
 pub record IsFound (ps : List Part) (q : ResolveReason) (start line : ℕ) : Type 0 where
   pub span : Span
   pub first : HasFirst (joined ps) q span

@@ -1,4 +1,4 @@
--- The parts that are joined, as far as they were made.
+-- The linked files that are made so far.
 use Rattle.std.proofs.Common.{◌≡◌, ℕ, ◌+◌, ◌<◌, ◌≤◌, List, [], ◌∷◌, ◌++◌, inl, inr, length, set, refl, sym, ap, ◌∙◌}
 use Rattle.std.proofs.Common.{subst, arith, length-set, map, get_or}
 use Rattle.std.specs.Prelude.{slice_get, Option, Some, None, Contains, All, IsSome}
@@ -18,7 +18,7 @@ use Rattle.schema_files.specs.Joined.{ReadsAs, ReadAs, StandsAt, IsPart}
 use Rattle.schema_files.specs.Placing.{ArePlaces, ArePlaced}
 use Rattle.schema_files.proofs.Lists.{get_push, get_set_other, held, place_of, all_held, once, zip_all, zip_at, zip_length}
 
--- ---- what is reached
+-- ---- the reached files
 
 pub reached_within : {set : List Member} {j : ℕ} → 0 < length set → Reaches set 0 j → j < length set
 reached_within {set} l here = l

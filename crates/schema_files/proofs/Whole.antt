@@ -1,4 +1,4 @@
--- A whole set: its paths, its parts, and what is answered.
+-- A whole set: its paths, its linked files, and the result.
 use Rattle.std.proofs.Common.{◌≡◌, ◌≢◌, ℕ, suc, List, [], ◌∷◌, Ok, Err, Result, map, refl, sym, ap, ◌∙◌, subst, arith}
 use Rattle.std.specs.Prelude.{IfOk, IfErr, Contains}
 use Rattle.std.specs.List.{AllPairs}

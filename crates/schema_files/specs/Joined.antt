@@ -1,4 +1,4 @@
--- What the files of a set say, and the files that its first one reaches, as they are joined.
+-- The contents of the files of a set, and the files that its first one reaches, as they are joined.
 use Rattle.std.specs.Prelude.{◌≡◌, ℕ, List, length, Some, slice_get}
 use Rattle.std.specs.List.{AllZip}
 use Rattle.file_bundle.specs.Bundle.{File as PackedFile}
@@ -7,7 +7,7 @@ use Rattle.proto_imports.specs.declared.set.Member.{Member}
 use Rattle.proto_imports.specs.declared.set.Reach.{Reach}
 use Rattle.proto_join.specs.declared.part.Part.{Part}
 
--- a file's text reads as what a member of the set says
+-- the text of a file reads as the contents of a member of the set
 pub record ReadsAs (f : PackedFile) (m : Member) : Type 0 where
   pub path : m.path ≡ f.0
   pub text : IsTextOf f.1 m.file
@@ -15,11 +15,12 @@ pub record ReadsAs (f : PackedFile) (m : Member) : Type 0 where
 abbrev pub ReadAs : List PackedFile → List Member → Type 0
 ReadAs files members = AllZip ReadsAs files members
 
--- a file stands at this place of the joined order
+-- this file has this index in the joined order
 abbrev pub StandsAt : List ℕ → ℕ → ℕ → Type 0
 StandsAt order file place = slice_get order place ≡ Some file
 
--- the file at a place of the joined order: what it says, what it sees, by joined places, and how long its text is
+-- the file with an index in the joined order: its declarations, the files that it sees by joined indices, and the
+-- size of its text
 pub record IsPart (files : List PackedFile) (members : List Member) (reach : Reach) (k : ℕ) (p : Part) : Type 0 where
   pub i : ℕ
   pub packed : PackedFile
@@ -33,7 +34,7 @@ pub record IsPart (files : List PackedFile) (members : List Member) (reach : Rea
   pub sees : AllZip (StandsAt reach.order) seen p.sees
   pub size : p.size ≡ length packed.1
 
--- all of them, in the joined order
+-- all files in the joined order
 pub record AreParts (files : List PackedFile) (members : List Member) (reach : Reach) (ps : List Part) : Type 0 where
   pub count : length ps ≡ length reach.order
   pub each : (k : ℕ) (p : Part) → slice_get ps k ≡ Some p → IsPart files members reach k p

@@ -1,4 +1,4 @@
--- The words of printed faults.
+-- The words for reasons in the text of faults.
 use Rattle.std.specs.Prelude.{ℕ, List}
 use Rattle.proto_imports.specs.Reason.{import_word}
 use Rattle.proto_parts.specs.Reason.{proto_word}

@@ -1,5 +1,5 @@
--- What a set of proto files resolves to, and its first fault. The paths have to be right, and the files that the first
--- one reaches are resolved together, as if their texts stood one behind another.
+-- The table of a set of proto files, and its first fault. The paths must be valid. The files that the first one
+-- reaches are resolved together, as if their texts were concatenated.
 use Rattle.std.specs.Prelude.{◌≡◌, ℕ, ◌<◌, List, Some, slice_get}
 use Rattle.mrpc_table.specs.declared.table.Table.{Table}
 use Rattle.file_bundle.specs.Bundle.{File as PackedFile}
@@ -24,7 +24,7 @@ use Rattle.schema_files.specs.declared.fault.FilesReason.TheVariants.{Proto, Imp
 use Rattle.schema_files.specs.declared.fault.FilesFault.{FilesFault}
 use Rattle.schema_files.specs.declared.fault.FilesFault.TheVariants as fault
 
--- the files that the first one reaches are joined to these parts
+-- the files that the first one reaches are joined as these linked files
 pub record AreJoined (files : List PackedFile) (ps : List Part) : Type 0 where
   pub members : List Member
   pub reach : Reach
@@ -43,8 +43,8 @@ pub record FilesResolve (files : List PackedFile) (T : Table) : Type 0 where
 abbrev pub IsRead : PackedFile → Type 0
 IsRead f = (F : File) × IsTextOf f.1 F
 
--- The first fault of what files say: its file, its line there and its reason. A text that is no proto file counts before
--- imports at fault, and these before all that stands against the joined files.
+-- The first fault of the files' contents: its file, its line there and its reason. A text that is not a proto file
+-- counts before imports at fault, and these before violations of the joined files.
 pub data HasFilesFault (files : List PackedFile) (file line : ℕ) : FilesReason → Type 0 where
   unread : (f : PackedFile) (q : ProtoReason) (s : Span) → slice_get files file ≡ Some f → HasTextFault f.1 q s
       → ((j : ℕ) (g : PackedFile) → j < file → slice_get files j ≡ Some g → IsRead g)
@@ -55,13 +55,13 @@ pub data HasFilesFault (files : List PackedFile) (file line : ℕ) : FilesReason
       → HasFirst (joined ps) q s → IsInText ps k s.start → slice_get joins.reach.order k ≡ Some file → line ≡ s.line
       → HasFilesFault files file line (Resolve q)
 
--- The first fault of a set: a path that is refused counts before all that the files say. Running out of memory is none.
+-- The first fault of a set: a rejected path counts before every fault of the files' contents. `Memory` is none.
 abbrev pub IsFirstFault : List PackedFile → FilesFault → Type 0
 IsFirstFault files (fault.Path file) = IsFirstRefused files file
 IsFirstFault files (fault.At file line reason) = HaveRightPaths files × HasFilesFault files file line reason
 IsFirstFault files fault.Memory = ⊥
 
--- what a fault says of a set; running out of memory says nothing
+-- what a fault means for a set; `Memory` means nothing
 abbrev pub IsFaultOf : List PackedFile → FilesFault → Type 0
 IsFaultOf files (fault.Path file) = IsFirstFault files (fault.Path file)
 IsFaultOf files (fault.At file line reason) = IsFirstFault files (fault.At file line reason)

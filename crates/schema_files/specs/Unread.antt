@@ -1,4 +1,4 @@
--- The code's own: what a fault says of one text of a set, and of what the files of a set say.
+-- The code's own: what a fault means for one text of a set, and for the contents of a set.
 use Rattle.std.specs.Prelude.{◌≡◌, ℕ, List}
 use Rattle.file_bundle.specs.Bundle.{File as PackedFile}
 use Rattle.proto_file.specs.declared.file.Span.{Span}
@@ -10,17 +10,17 @@ use Rattle.schema_files.specs.declared.fault.FilesReason.TheVariants.{Proto}
 use Rattle.schema_files.specs.declared.fault.FilesFault.{FilesFault}
 use Rattle.schema_files.specs.declared.fault.FilesFault.TheVariants as fault
 
--- the file's text has its first fault in this line, for this reason
+-- the first fault of the file's text is in this line and has this reason
 pub data HasUnread (f : PackedFile) (line : ℕ) : FilesReason → Type 0 where
   unread_text : (q : ProtoReason) (s : Span) → HasTextFault f.1 q s → line ≡ s.line → HasUnread f line (Proto q)
 
--- what a fault says of the file at a place; running out of memory says nothing
+-- what a fault means for the file with an index; `Memory` means nothing
 abbrev pub IsUnread : PackedFile → ℕ → FilesFault → Type 0
 IsUnread f place (fault.At file line reason) = (file ≡ place) × HasUnread f line reason
 IsUnread f place (fault.Path file) = ⊥
 IsUnread f place fault.Memory = Unit {0}
 
--- what a fault says of files whose paths are right
+-- what a fault means for files with valid paths
 abbrev pub IsFaultIn : List PackedFile → FilesFault → Type 0
 IsFaultIn files (fault.At file line reason) = HasFilesFault files file line reason
 IsFaultIn files (fault.Path file) = ⊥

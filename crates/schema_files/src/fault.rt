@@ -1,4 +1,4 @@
-//! What can be at fault with a set of files.
+//! Faults of a set of files.
 
 ghost use Rattle.std.specs.Prelude.{◌≡◌};
 ghost use Rattle.schema_files.specs.Reason.{files_word};
@@ -12,20 +12,20 @@ use std::alloc::{AllocError, AllocFailed};
 use std::fmt;
 use thiserror::Error;
 
-/// Why a set of files has no table. What stands against a text counts before all that stands against an import,
-/// and that before all that stands against a name or a number.
+/// Why a set of files has no table. A fault of a text counts before every fault of an import, and that before every
+/// violation by a name or a number.
 #[derive(Clone, Copy, Debug)]
 pub enum FilesReason {
-    /// A text is no proto file.
+    /// A text is not a proto file.
     Proto(ProtoReason),
     /// An import is at fault.
     Import(ImportReason),
-    /// Something stands against a name or a number.
+    /// A name or a number is a violation.
     Resolve(ResolveReason),
 }
 
 impl FilesReason {
-    /// The word of a printed fault.
+    /// The word for the reason in the text of the fault.
     pub fn word(self) -> &'static str
         ensures { result.now ≡ files_word self }
     {
@@ -48,20 +48,20 @@ impl std::error::Error for FilesReason {}
 /// Where a set of files is at fault.
 #[derive(Clone, Copy, Debug, Error)]
 pub enum FilesFault {
-    /// The first file, by its place in the set, from 0, whose path isn't of the form of a path, or is that of a file
-    /// before it. It counts before all that the files say.
+    /// The index in the set, from 0, of the first file whose path is invalid or is that of an earlier file. It counts
+    /// before every fault of the files' contents.
     #[error("file {file} has a wrong path")]
     Path {
         file: usize,
     },
-    /// The first fault: the file's place in the set, from 0, the line in which it stands there, and its reason.
+    /// The first fault: the index of the file in the set, from 0, the line in that file, and the reason.
     #[error("file {file}, line {line}: {reason}")]
     At {
         file: usize,
         line: u64,
         reason: FilesReason,
     },
-    /// No memory was found.
+    /// Out of memory.
     #[error("out of memory")]
     Memory,
 }

@@ -18,7 +18,7 @@ use proto_schema::{
 use schema_offences::{offences_stand, one_offence};
 use schema_resolve::{one_table, table_or_offence};
 
-/// The files of a set are joined to one list of parts at most.
+/// The files of a set are joined to at most one list of linked files.
 pub fn one_join()
     ensures { (files : List PackedFile) (ps qs : List Part) → AreJoined files ps → AreJoined files qs → ps ≡ qs }
 {
@@ -26,7 +26,7 @@ pub fn one_join()
     one_reach();
 }
 
-/// What the files of a set are joined to can be resolved together.
+/// The linked files of a set can be resolved together.
 pub fn joined_is_sound()
     ensures { (files : List PackedFile) (ps : List Part) → AreJoined files ps → AreSound ps }
 {
@@ -34,7 +34,7 @@ pub fn joined_is_sound()
     file_is_within();
 }
 
-/// A set of files has one table at most.
+/// A set of files has at most one table.
 pub fn one_files_table()
     ensures { (files : List PackedFile) (t u : Table) → FilesResolve files t → FilesResolve files u → t ≡ u }
 {
@@ -44,7 +44,7 @@ pub fn one_files_table()
     one_table();
 }
 
-/// A set of files has one first fault at most.
+/// A set of files has at most one first fault.
 pub fn one_files_fault()
     ensures { (files : List PackedFile) (e f : FilesFault) → IsFirstFault files e → IsFirstFault files f → e ≡ f }
 {
@@ -61,7 +61,7 @@ pub fn one_files_fault()
     places_apart();
 }
 
-/// A set of files, at least one, has a table or a first fault, and never both.
+/// A nonempty set of files has a table or a first fault, and never both.
 pub fn table_or_files_fault()
     ensures never_both { (files : List PackedFile) (t : Table) (e : FilesFault) → FilesResolve files t
         → IsFirstFault files e → ⊥ }
@@ -80,7 +80,7 @@ pub fn table_or_files_fault()
     table_or_offence();
 }
 
-/// The first fault of what files say stands in one of them.
+/// The first fault of the files' contents is in one of them.
 pub fn fault_in_set()
     ensures { (files : List PackedFile) (i l : ℕ) (q : FilesReason) → HasFilesFault files i l q → i < length files }
 {}

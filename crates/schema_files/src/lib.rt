@@ -1,10 +1,10 @@
 //! The table of a set of proto files: imports are followed, and the files that the first one reaches are resolved
 //! together (Protocol Buffers, proto3 language guide, "Importing Definitions").
 //!
-//! It stands on `file_bundle`, which says what the files of a set are, on `proto_schema`, which reads each, on
-//! `proto_imports` and `proto_join`, which say what the first one reaches and what those files are together, and on
-//! `schema_offences` and `schema_resolve`, which judge them. The layers above use the contract of [`resolve_files`]:
-//! the table of the files that the first one reaches, or the set's first fault.
+//! The crate uses `file_bundle`, which defines the files of a set; `proto_schema`, which reads each one;
+//! `proto_imports` and `proto_join`, which find the files that the first one reaches and join them; and
+//! `schema_offences` and `schema_resolve`, which validate and resolve them. The layers above rely on the contract of
+//! [`resolve_files`]: it returns the table of the files that the first one reaches, or the set's first fault.
 #![tactic(auto)]
 
 mod fault;

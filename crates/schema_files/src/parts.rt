@@ -1,4 +1,4 @@
-//! The files that the first one of a set reaches, as they are joined.
+//! The files that the first one of a set reaches, ready to be joined.
 
 ghost use Rattle.std.specs.Prelude.{◌≡◌, ◌<◌, ℕ, List, Some, None, All, IfOk, length, map, slice_get, slice_set};
 ghost use Rattle.file_bundle.specs.Packed.{files_of};
@@ -14,7 +14,7 @@ use proto_imports::{Member, Reach};
 use proto_join::Part;
 use std::alloc::Global;
 
-// The files of members, each one there.
+// The contents of the files of a set.
 fn files_in(alloc: Global, members: Vec<Member>) -> Result<Vec<Option<File>>, Memory>
     ensures { IfOk result (λ v. v.items ≡ map (λ m. Some m.file) members.items) }
 {
@@ -26,7 +26,7 @@ fn files_in(alloc: Global, members: Vec<Member>) -> Result<Vec<Option<File>>, Me
     Ok(files)
 }
 
-// Takes the file at a place, which then is there no longer.
+// Takes the contents of the file with an index; a later call finds none.
 fn take_file(files: &mut Vec<Option<File>>, place: usize) -> Option<File>
     requires { place < length files.old.items }
     ensures value { slice_get files.old.items place ≡ Some result }
@@ -35,7 +35,7 @@ fn take_file(files: &mut Vec<Option<File>>, place: usize) -> Option<File>
     files[place].take()
 }
 
-// Zeros for so many places.
+// A vector of this many zeros.
 fn zeros(alloc: Global, count: usize) -> Result<Vec<usize>, Memory>
     ensures { IfOk result (λ v. length v.items ≡ count) }
 {
@@ -46,7 +46,7 @@ fn zeros(alloc: Global, count: usize) -> Result<Vec<usize>, Memory>
     Ok(places)
 }
 
-// At which place of an order each one of so many stands.
+// The index of each file in an order.
 fn places_in(alloc: Global, order: &[usize], count: usize) -> Result<Vec<usize>, Memory>
     requires within { All (λ i. i < count) order.now }
     requires distinct { AreDistinct order.now }
@@ -59,7 +59,7 @@ fn places_in(alloc: Global, order: &[usize], count: usize) -> Result<Vec<usize>,
     Ok(places)
 }
 
-// The places of some of them.
+// The indices of some of the files.
 fn placed(alloc: Global, some: &[usize], places: &[usize]) -> Result<Places, Memory>
     requires { All (λ i. i < length places.now) some.now }
     ensures { IfOk result (ArePlaced places.now some.now) }
@@ -71,8 +71,8 @@ fn placed(alloc: Global, some: &[usize], places: &[usize]) -> Result<Places, Mem
     Ok(all)
 }
 
-// The files that the first one of a set reaches, as they are joined: what each says, what it sees and how long its
-// text is. What they say is moved.
+// The files that the first one of a set reaches, ready to be joined: the declarations of each, the files that it
+// sees, and the size of its text. The declarations are moved.
 pub(crate) fn parts_of(
     alloc: Global,
     files: &[Packed<'_>],

@@ -1,4 +1,4 @@
-//! What the texts of a set of files say.
+//! Reads the texts of a set of files.
 
 ghost use Rattle.std.specs.Prelude.{◌≡◌, IfOk, IfErr};
 ghost use Rattle.file_bundle.specs.Packed.{file_of, files_of};
@@ -13,10 +13,10 @@ use proto_parts::ProtoFault;
 use proto_schema::read_proto;
 use std::alloc::Global;
 
-// How many bytes a text has at least, of which no memory holds the tokens.
+// Texts of at least this size in bytes can't be read: memory can't hold their tokens.
 const MAX_READ: usize = 0x4000_0000_0000_0000;
 
-// What the file at a place says.
+// Reads the file with an index.
 fn member(alloc: Global, place: usize, packed: &Packed<'_>) -> Result<Member, FilesFault>
     ensures read { IfOk result (ReadsAs (file_of packed.now)) }
     ensures fault { IfErr result (IsUnread (file_of packed.now) place) }
@@ -38,7 +38,7 @@ fn member(alloc: Global, place: usize, packed: &Packed<'_>) -> Result<Member, Fi
     }
 }
 
-// What each file says, or the first one that is no proto file.
+// Reads each file; the error is the first one that isn't a proto file.
 pub(crate) fn members(alloc: Global, files: &[Packed<'_>]) -> Result<Vec<Member>, FilesFault>
     ensures read { IfOk result (λ v. ReadAs (files_of files.now) v.items) }
     ensures fault { IfErr result (IsFaultIn (files_of files.now)) }

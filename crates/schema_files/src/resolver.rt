@@ -27,7 +27,7 @@ use schema_offences::offences_stand;
 use schema_resolve::{ResolveFault, resolve_together};
 use std::alloc::Global;
 
-// What the first file of a set reaches.
+// The files that the first one of a set reaches.
 fn reached(alloc: Global, members: &[Member]) -> Result<Reach, FilesFault>
     requires some { 0 < length members.now }
     requires few { length members.now ≤ MAX_FILES }
@@ -46,7 +46,7 @@ fn reached(alloc: Global, members: &[Member]) -> Result<Reach, FilesFault>
     }
 }
 
-// How long the text of each part is.
+// The size of each text.
 fn sizes(alloc: Global, parts: &[Part]) -> Result<Vec<usize>, Memory>
     ensures { IfOk result (λ v. v.items ≡ sizes_of parts.now) }
 {
@@ -57,7 +57,7 @@ fn sizes(alloc: Global, parts: &[Part]) -> Result<Vec<usize>, Memory>
     Ok(sizes)
 }
 
-// The table of files that are joined, or their first offence, where this is the order in which they are joined.
+// The table of joined files, or their first violation, given the order in which they are joined.
 fn resolve_parts(alloc: Global, order: &[usize], parts: Vec<Part>) -> Result<Table, FilesFault>
     requires small { sum (sizes_of parts.items) < 2 ^ 64 }
     requires sound { AreSound parts.items }
@@ -95,7 +95,7 @@ fn resolve_parts(alloc: Global, order: &[usize], parts: Vec<Part>) -> Result<Tab
     }
 }
 
-// The table of files whose paths are right, or the first fault of what they say.
+// The table of files with valid paths, or the first fault of their contents.
 fn resolve_right(alloc: Global, files: &[Packed<'_>]) -> Result<Table, FilesFault>
     requires some { 0 < length files.now }
     requires few { length files.now ≤ MAX_FILES }
@@ -116,25 +116,32 @@ fn resolve_right(alloc: Global, files: &[Packed<'_>]) -> Result<Table, FilesFaul
     resolve_parts(alloc, reach.order.as_slice(), parts)
 }
 
-/// The table of the files that the first one reaches by imports, or the first fault of the set: the first file whose
-/// path isn't of the form of a path or is that of a file before it; else the first text that is no proto file; else the
-/// first import that is missing, else the first that stands twice, else the first that closes a ring; else the offence
-/// that starts first in the first of the joined files that has one. Without memory it answers `Memory`.
+/// Returns the table of the files that the first one reaches by imports, or the first fault of the set. These faults
+/// come in this order:
 ///
-/// The joined files are the first one and then the others that it reaches, by ascending path. The methods have indices
-/// from 0, along them.
+/// 1. the first file whose path is invalid or is that of an earlier file;
+/// 2. the first text that is not a proto file;
+/// 3. the first missing import;
+/// 4. the first repeated import;
+/// 5. the first import that closes a cycle;
+/// 6. in the first of the joined files with a violation, the violation that starts first.
+///
+/// Returns `Memory` if it runs out of memory.
+///
+/// The joined files are the first one, followed by the others that it reaches, by ascending path. The methods have
+/// indices from 0, in this order.
 pub fn resolve_files(alloc: Global, files: &[Packed<'_>]) -> Result<Table, FilesFault>
     requires some { 0 < length files.now }
     requires few { length files.now ≤ MAX_FILES }
     requires small { sum_by (λ f. length f.text.now) files.now < 2 ^ 63 }
-    // A table is what the files resolve to.
+    // A returned table is what the files resolve to.
     ensures resolves { IfOk result (FilesResolve (files_of files.now)) }
     // It is valid.
     ensures valid { IfOk result (λ t. IsValid t) }
-    // Files that resolve to a table give this table, unless memory runs out.
+    // If the files resolve to a table, this table is returned, unless memory runs out.
     ensures only { (t : Table) → FilesResolve (files_of files.now) t
         → MatchResult result (λ u. u ≡ t) (λ e. e ≡ faults.Memory) }
-    // A fault is the first one of the set.
+    // A returned fault is the first one of the set.
     ensures fault { IfErr result (IsFaultOf (files_of files.now)) }
 {
     one_refused();

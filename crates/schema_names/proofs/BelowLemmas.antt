@@ -1,4 +1,4 @@
--- What hangs below scopes.
+-- The names directly below scopes.
 use Rattle.std.proofs.Common.{◌≡◌, ℕ, ◌+◌, ◌-◌, ◌<◌, ◌≤◌, ◌⊎◌, ⊎_elim, inl, inr, Bool, true, false, cond, set}
 use Rattle.std.proofs.Common.{length-set, get_or-set_same, get_or-set_other, List, [], ◌∷◌, ◌++◌, length, take}
 use Rattle.std.proofs.Common.{get_or, Some, refl, ap, sym, ◌∙◌, subst, arith, length-append}
@@ -93,7 +93,7 @@ notes_more g n = record {
   last = λ k number. g.several k (n.last k number);
 }
 
--- ---- the home of a type
+-- ---- the enclosing scope of a type
 
 pub record TypeHome (F : Joined) (full : List (List ℕ)) : Type 0 where
   pub its_home : Home
@@ -121,7 +121,7 @@ type_home behind (enum i e {outer} at up) = record {
   is = refl;
 }
 
--- the scope of a home is known to have more
+-- the enclosing scope of a declaration is known to have more
 pub home_several : {F : Joined} {below : List Below} → Tells F below → (p : Home) (s : List (List ℕ)) (k : ℕ)
     → IsPlace F p → IsScope F p s → IsNumber F s k → get_or below k Nothing ≡ Several
 home_several {F} tells (home.File g) s k place up number =
@@ -129,7 +129,7 @@ home_several {F} tells (home.File g) s k place up number =
     (tells.files g place).last k (subst (λ (q : List (List ℕ)). IsNumber F q k) e number)
 home_several tells (home.Message i) s k place up number = tells.messages i k s up number
 
--- ---- where only the next part begins
+-- ---- only the next part is below
 
 module _ (F : Joined) (below : List Below) (file n k w : ℕ) (behind : StandBehind F) (tells : Tells F below)
     (there : file < length F.heads) (short : n ≤ length (package_at F file))
@@ -151,7 +151,7 @@ module _ (F : Joined) (below : List Below) (file n k w : ℕ) (behind : StandBeh
       absurd (not_several ((tells.files file there).last k (subst (λ (q : List (List ℕ)). IsNumber F q k) (take_all n (package_at F file) all) number))))
       (cases_lt n (length (package_at F file)))
 
-  -- the next front of a file whose package begins there
+  -- the next prefix of a file whose package starts there
   next_is : (other : ℕ) → other < length F.heads → n < length (package_at F other)
       → take n (package_at F other) ≡ take n (package_at F file) → IsNumber F (take (n + 1) (package_at F other)) w
   next_is other l long same =
@@ -176,7 +176,7 @@ module _ (F : Joined) (below : List Below) (file n k w : ℕ) (behind : StandBeh
   pub only_own : OnlyOwn F file n
   only_own = record { no_types = only_types; fronts = only_fronts }
 
--- ---- the busy fronts
+-- ---- the busy prefixes
 
 pub busy_none : {F : Joined} (file n : ℕ) → length (package_at F file) < n → IsBusyFrom F file n []
 busy_none file n past = record {

@@ -1,4 +1,4 @@
--- What is found.
+-- Look-ups.
 use Rattle.std.proofs.Common.{◌≡◌, ◌≢◌, ℕ, zero, suc, ◌+◌, ◌<◌, ◌≤◌, ◌⊎◌, ⊎_elim, Bool, true, false, cond, max, List}
 use Rattle.std.proofs.Common.{[], ◌∷◌, ◌++◌, length, take, get_or, Option, Some, None, refl, ap, sym, ◌∙◌, subst}
 use Rattle.std.proofs.Common.{arith, length-append, add-one}
@@ -35,7 +35,7 @@ use Rattle.schema_names.proofs.PlaceLemmas.{begins_there, front_of, scope_listed
 use Rattle.schema_names.proofs.TypeLemmas.{among}
 use Rattle.schema_names.proofs.BelowLemmas.{type_home}
 
--- ---- what is there
+-- ---- visible names
 
 pub stands_declared : {F : Joined} {named : Named} {full : List (List ℕ)} {span : Span} {file : ℕ}
     → StandsAt F named full span → IsOfFile F named file
@@ -210,7 +210,7 @@ file_decides {F} {file} {its_file} {name} (Some k) h w =
     let e : package_at F its_file ≡ h.reached = scope_one (of_file its_file) h.stands in
     (w.0, w.1, h.outward w.0 (subst (λ (q : List (List ℕ)). Decides F file name q w.0) e w.2))
 
--- ---- the longest front that has a name
+-- ---- the longest prefix that has a name
 
 module _ (F : Joined) (file its_file : ℕ) (name : List ℕ) where
   abbrev P : List (List ℕ)
@@ -270,7 +270,7 @@ module _ (F : Joined) (file its_file : ℕ) (name : List ℕ) where
     pub none_package : (d : List (List ℕ)) → Decides F file name P d → ⊥
     none_package d h = none_front (length P) P d (sym (take_all (length P) P (omega arith))) (omega arith) h
 
--- ---- the busy fronts of a package
+-- ---- the busy prefixes of a package
 
 module _ (F : Joined) (file its_file : ℕ) (name : List ℕ) (busy : List ℕ) (known : IsBusy F its_file busy) where
   at_busy : (m : ℕ) → (Contains busy m → ⊥) → IsThereAt F file its_file name m → IsOwnAt F file its_file name m
@@ -388,7 +388,7 @@ pub nothing_first : (F : Joined) (file : ℕ) (scope : List (List ℕ)) (name : 
     → ((rest : List ℕ) → name ≢ 46 ∷ rest) → parts_of name ≡ [] ∷ others → NamesNothing F file scope name
 nothing_first F file scope name others not_dot is sort full n = no_means others not_dot is n.means refl
 
--- ---- answers
+-- ---- results
 
 pub kept : (s : Inside) {F : Joined} → s.places ≡ F → AreScopes s → Keeps F s
 kept s e h = subst (λ (G : Joined). Keeps G s) e h

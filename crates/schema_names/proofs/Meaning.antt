@@ -1,4 +1,4 @@
--- Which full name a reference means.
+-- The full name that a reference means.
 use Rattle.std.proofs.Common.{◌≡◌, ◌≢◌, ℕ, true, List, [], ◌∷◌, ◌++◌, refl, ap, sym, ◌∙◌, subst}
 use Rattle.mrpc_table.specs.Names.{parts_of}
 use Rattle.proto_file.specs.Joined.{Joined}
@@ -12,7 +12,7 @@ use Rattle.schema_names.proofs.ScopeLemmas.{last_same, contained}
 
 -- ---- types
 
--- the type that a declaration of a file is
+-- the type that a file declares by a full name
 pub record Standing (F : Joined) (file : ℕ) (its_sort : Sort) (full : List (List ℕ)) (span : Span) : Type 0 where
   pub named : Named
   pub stands : StandsAt F named full span
@@ -38,7 +38,7 @@ declared_stands (value e v c d up) typ = absurd cc
 declared_stands (field m f c d up) typ = absurd cc
 declared_stands (oneof m o c d up) typ = absurd cc
 
--- ---- deciding
+-- ---- the deciding scope
 
 pub decides_one : {F : Joined} {file : ℕ} {name : List ℕ} {s d e : List (List ℕ)} → Decides F file name s d → Decides F file name s e → d ≡ e
 decides_one (here t) (here u) = refl

@@ -19,7 +19,7 @@ use Rattle.schema_names.specs.declared.numbering.Package.{Package}
 use Rattle.schema_names.proofs.Keys.{same_child_parts, same_child_itself, cases, at_true, at_false}
 use Rattle.schema_names.proofs.ScopeLemmas.{last_same, some_at, listed_full, number_full, number_same, fronts_one, scope_one, message_file}
 
--- ---- the next place
+-- ---- the next index
 
 module _ (F : Joined) (x y : Numbering) (p k n : ℕ) (s : List (List ℕ)) (name : List ℕ) (known : IsNumbered F p x)
     (here : IsListed F p (s ++ name ∷ [])) (outer : IsNumber F s k)
@@ -135,7 +135,7 @@ root_numbered {F} {x} {y} p known here some items inner = record {
   });
 }
 
--- ---- the fronts of a package
+-- ---- the prefixes of a package
 
 pub front_listed : (F : Joined) (file n : ℕ) → file < length F.heads → n ≤ length (package_at F file) → IsListed F (fronts_before F file + n) (take n (package_at F file))
 front_listed F file n l short = a_front file n l short refl refl
@@ -180,7 +180,7 @@ more_packages {F} n packages p known new = record {
       (cases_lt file (length packages));
 }
 
--- ---- homes
+-- ---- enclosing files and messages
 
 pub number_known : {F : Joined} {packages : List Package} {numbers : List ℕ} (n : ℕ)
     → ArePackages F (length F.heads) packages → AreNumbers F numbers → (p : Home) (s : List (List ℕ)) → n ≡ fronts F

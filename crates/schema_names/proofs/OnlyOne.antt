@@ -1,4 +1,4 @@
--- What is one: what a reference names.
+-- A reference names at most one message or enum.
 use Rattle.std.proofs.Common.{◌≡◌, ◌≢◌, ℕ, ◌≤◌, List, [], ◌∷◌, ◌++◌, refl, ap, sym, ◌∙◌, subst, arith}
 use Rattle.mrpc_table.specs.Names.{parts_of}
 use Rattle.proto_file.specs.Joined.{Joined}

@@ -1,4 +1,4 @@
--- What the scopes of files know of their places.
+-- The scopes of files by their indices.
 use Rattle.std.proofs.Common.{◌≡◌, ℕ, suc, ◌+◌, ◌<◌, ◌≤◌, ◌^◌, ⊎_elim, Bool, true, false, List, [], ◌∷◌, ◌++◌, length}
 use Rattle.std.proofs.Common.{take, drop, get_or, Option, Some, None, refl, ap, sym, ◌∙◌, subst, arith, length-append}
 use Rattle.std.specs.Prelude.{slice_get, ◌==◌, ◌↔◌, Contains, MatchOption, IfSome, ◌≢◌, nat_lt}
@@ -54,7 +54,7 @@ front_known {F} {p} file d k h l short e =
     let listed : IsListed F k (take d (package_at F file)) = subst (λ (q : ℕ). IsListed F q (take d (package_at F file))) (sym e) (front_listed F file d l short) in
     h.numbers.numbers.each k (take d (package_at F file)) (omega (arith, front_small F file d l short, h.numbers.count)) listed
 
--- ---- fronts of packages
+-- ---- prefixes of packages
 
 front_in : {F : Joined} {k : ℕ} {full : List (List ℕ)} → IsListed F k full → k < fronts F → IsFront F full
 front_in {F} (a_front file n there short at is) less = record {
@@ -73,7 +73,7 @@ begins_there F file full rest e some =
     absurd (omega (arith, ap length e, ap length none, length-append full rest)))
     (cases_lt file (length F.heads))
 
--- a package that begins with a scope has its front
+-- a package that starts with a scope has a prefix of that name
 pub record FrontOf (F : Joined) (file : ℕ) (full : List (List ℕ)) : Type 0 where
   pub there : file < length F.heads
   pub short : length full ≤ length (package_at F file)
@@ -138,7 +138,7 @@ pub not_seen : {F : Joined} {full : List (List ℕ)} {k : ℕ} (file : ℕ) → 
 not_seen {F} {full} {k} file some n past s =
     omega (arith, front_number s.other (front_of F s.other full s.its_front.rest s.its_front.begins some) n)
 
--- ---- what a file sees
+-- ---- the files that a file sees
 
 any_contains : (x : ℕ) (xs : List ℕ) → list_any (λ y. y == x) xs ≡ true → Contains xs x
 any_contains x [] e = absurd cc
@@ -160,7 +160,7 @@ sees_iff {F} hs file other h b e l is any =
           any ∙ list_any_at (λ y. y == other) h.sees c.0 other c.1 (eq-eqb (get_or h.sees c.0 other) other c.2),
     )
 
--- ---- each front of a scope is listed
+-- ---- each prefix of a scope is listed
 
 pub scope_listed : {F : Joined} {p : Home} {s : List (List ℕ)} → StandBehind F → IsPlace F p → IsScope F p s → (n : ℕ)
     → n ≤ length s → (place : ℕ) × IsListed F place (take n s)
@@ -177,7 +177,7 @@ scope_listed {F} behind there (of_message i m {outer} at up) n short =
     (r.0, subst (IsListed F r.0) (sym front) r.1))
     (cases_lt (length outer) n)
 
--- ---- answers
+-- ---- results
 
 pub no_iff : {P : Type 0} → (P → ⊥) → (false ≡ true) ↔ P
 no_iff none = (λ h. absurd cc, λ p. absurd (none p))

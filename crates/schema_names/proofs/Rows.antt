@@ -1,4 +1,4 @@
--- The definitions on small files: what a reference names there.
+-- The definitions on small files: what references name there.
 use Rattle.std.proofs.Common.{◌≡◌, ℕ, zero, suc, ◌+◌, ◌<◌, ◌≤◌, ◌⊎◌, ⊎_elim, inl, inr, false, List, [], ◌∷◌, ◌++◌}
 use Rattle.std.proofs.Common.{length, get_or, Option, Some, None, refl, ap, sym, ◌∙◌, subst, arith}
 use Rattle.std.specs.Prelude.{codes, Contains}
@@ -71,19 +71,19 @@ inner = message (bare (word (codes "N") 30) 0 (Some 0)) (1, omega arith, refl) s
 inner_first : Decides nested 0 (codes "N") (full (codes "M" ∷ [])) (full (codes "M" ∷ []))
 inner_first = here (a_type 0 a_message (at 30) itself inner refl)
 
--- a dot begins at the root
+-- a leading dot starts at the root
 rooted : Means nested 0 (full (codes "M" ∷ [])) (codes ".a.b.N") (full (codes "N" ∷ []))
 rooted = absolute (codes "a.b.N")
 
--- the first part alone decides, and the others follow it
+-- only the first part decides, and the others follow it
 parts_follow : Means nested 0 (full (codes "M" ∷ [])) (codes "N.X.Y") (full (codes "M" ∷ codes "N" ∷ codes "X" ∷ codes "Y" ∷ []))
 parts_follow = relative (codes "N.X.Y") (codes "N") refl (λ e. cc) inner_first
 
--- the package's parts are scopes, too
+-- the parts of the package are scopes, too
 package_part : IsThere nested 0 (codes "a" ∷ [])
 package_part = a_package 0 (codes "b" ∷ []) itself refl
 
--- an enum's values stand beside it, in the scope of the message that it stands in
+-- the values of an enum are in the enclosing scope, here that of the message
 beside : Declares nested 0 no_type (full (codes "M" ∷ codes "N" ∷ codes "Z" ∷ [])) (at 50)
 beside = value choices zero_value (0, omega arith, refl) (0, omega arith, refl) scope_n
 
@@ -114,7 +114,7 @@ module _ (seen : List ℕ) where
   abbrev F : Joined
   F = files seen
 
-  -- which types there are
+  -- the types of the files
   abbrev Types : Named → List (List ℕ) → Type 0
   Types named name =
       ((named ≡ Message 0) × (name ≡ codes "base" ∷ codes "Id" ∷ [])) ⊎ ((named ≡ Message 1) × (name ≡ codes "app" ∷ codes "User" ∷ []))
@@ -159,7 +159,7 @@ base_sees {other} s =
     let c : Contains h.sees other = subst (λ (q : Head). Contains q.sees other) (same_Some s.head h (sym s.at)) s.among in
     at_one c.0 other c.1 c.2
 
--- `base` is no name in `app.User`, and none in `app`
+-- neither `app.User` nor `app` has a name `base`
 not_in_user : IsThere two 1 (codes "app" ∷ codes "User" ∷ codes "base" ∷ []) → ⊥
 not_in_user (a_type other sort span sees declares typ) =
     let t = declared_stands declares typ in
@@ -181,7 +181,7 @@ not_in_app (a_package (suc zero) rest sees e) = omega (arith, ap length e)
 not_in_app (a_package (suc (suc zero)) rest sees e) = omega (arith, app_sees sees)
 not_in_app (a_package (suc (suc (suc n))) rest sees e) = omega (arith, ap length e)
 
--- so the root decides, which has the package `base`: a type that is seen is found through it
+-- so the root decides, which has the package `base`: a visible type is found through it
 base_in_root : Decides two 1 (codes "base") (codes "app" ∷ codes "User" ∷ []) []
 base_in_root = outward (codes "User") refl not_in_user (outward (codes "app") refl not_in_app (here (a_package 0 [] sees_base refl)))
 
@@ -191,7 +191,7 @@ base_id = relative (codes "base.Id") (codes "base") refl (λ e. cc) base_in_root
 id_there : IsThere two 1 (codes "base" ∷ codes "Id" ∷ [])
 id_there = a_type 0 a_message (at 30) sees_base (message id (0, omega arith, refl) (of_file 0)) refl
 
--- the first file doesn't see the second, so `app.User` isn't there for it
+-- the first file doesn't see the second, so `app.User` doesn't exist for it
 unseen : IsThere two 0 (codes "app" ∷ codes "User" ∷ []) → ⊥
 unseen (a_type other sort span sees declares typ) =
     let t = declared_stands declares typ in
@@ -206,7 +206,7 @@ unseen (a_package other rest sees e) =
     let f : codes "base" ∷ [] ≡ codes "app" ∷ codes "User" ∷ rest = subst (λ (q : ℕ). package_at two q ≡ codes "app" ∷ codes "User" ∷ rest) (base_sees sees) e in
     omega (arith, ap length f)
 
--- where the second file sees the third, `app` has `base`, so `app` decides, and there is no `app.base.Id`
+-- if the second file sees the third, `app` has `base`, so `app` decides, and there is no `app.base.Id`
 abbrev three : Joined
 three = files (1 ∷ 0 ∷ 2 ∷ [])
 

@@ -44,7 +44,7 @@ scope_one {F} (of_message i m {outer} at up) (of_message j n {outer = outer'} at
     let f : outer ≡ outer' = scope_one up up2 in
     cc
 
--- what a message's scope is
+-- the scope of a message
 pub record MessageScope (F : Joined) (i : ℕ) (s : List (List ℕ)) : Type 0 where
   pub decl : MessageDecl
   pub outer : List (List ℕ)
@@ -55,7 +55,7 @@ pub record MessageScope (F : Joined) (i : ℕ) (s : List (List ℕ)) : Type 0 wh
 pub message_scope : {F : Joined} {i : ℕ} {s : List (List ℕ)} → IsScope F (home.Message i) s → MessageScope F i s
 message_scope (of_message i m {outer} at up) = record { decl = m; outer = outer; at = at; up = up; is = refl }
 
--- each place has a full name
+-- each enclosing file or message has a full name
 pub home_scope : {F : Joined} (file : ℕ) (p : Option ℕ)
     → ((q : ℕ) → p ≡ Some q → (s : List (List ℕ)) × IsScope F (home.Message q) s)
     → (s : List (List ℕ)) × IsScope F (home_in file p) s
@@ -76,7 +76,7 @@ pub has_scope : (F : Joined) (p : Home) → StandBehind F → IsPlace F p → (s
 has_scope F (home.File k) b here = (package_at F k, of_file k)
 has_scope F (home.Message i) b here = scope_at b i here
 
--- ---- the fronts of packages
+-- ---- the prefixes of packages
 
 pub fronts_next : (F : Joined) (file : ℕ) → file < length F.heads → fronts_before F (file + 1) ≡ fronts_before F file + (length (package_at F file) + 1)
 fronts_next F file l =
@@ -93,7 +93,7 @@ fronts_up F a b l =
 
 -- ---- numbers
 
--- the number of a front is that of no later file, and of no message
+-- the number of a prefix is not that of a later file's prefix, nor that of a message
 front_below : (F : Joined) (file other n : ℕ) → file < length F.heads → n ≤ length (package_at F file) → file < other → fronts_before F file + n < fronts_before F other
 front_below F file other n l short less = omega (arith, fronts_next F file l, fronts_up F (file + 1) other (omega arith))
 
@@ -112,7 +112,7 @@ fronts_one F a b n m la lb sa sb e =
     apart)
     (cases_order a b)
 
--- a place has one scope
+-- an index lists one scope
 pub listed_full : {F : Joined} {k l : ℕ} {s t : List (List ℕ)} → IsListed F k s → IsListed F l t → k ≡ l → s ≡ t
 listed_full {F} (a_front file n there short at is) (a_front other m there' short' at' is') same =
     let e : file ≡ other = fronts_one F file other n m there there' short short' (sym at ∙ same ∙ at') in
@@ -147,7 +147,7 @@ listed_small {F} (a_message_scope i at up) =
 pub number_small : {F : Joined} {s : List (List ℕ)} {k : ℕ} → IsNumber F s k → k < scope_count F
 number_small n = listed_small n.listed
 
--- ---- what stands in messages and files that are there
+-- ---- enclosing messages and files that exist
 
 pub item_at : {X : Type 0} (xs ys : List X) (i : ℕ) (x : X) → xs ≡ ys → i < length ys → x ≡ get_or xs i x → slice_get ys i ≡ Some x
 item_at {X} xs ys i x e l is = slice_get_read ys (length ys) i x refl l (is ∙ ap (λ (zs : List X). get_or zs i x) e)

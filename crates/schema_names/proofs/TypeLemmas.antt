@@ -69,7 +69,7 @@ module _ (F : Joined) (a e a' e' : ℕ) (at at' : ℕ → List ℕ → List Decl
       let there : Whole l name u file = subst (λ (y : ℕ). Whole y name u file) ps.0 w in
       subst (λ (y : List ℕ). Whole l y u file) ps.1 there
 
-  -- the new one stands at its key
+  -- the new one is found at its key
   new_key : (other : Named) (t : List (List ℕ)) (o : List ℕ) (u : Span) (l : ℕ) → other ≡ named
       → StandsAt F other (t ++ o ∷ []) u → IsNumber F t l → (k ≡ l) × (name ≡ o) × (span ≡ u)
   new_key other t o u l same there n =

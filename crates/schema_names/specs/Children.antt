@@ -1,4 +1,4 @@
--- The code's own: a map by the numbers of scopes and the names that stand in them.
+-- The code's own: a map by the numbers of scopes and the names in them.
 use Rattle.std.specs.Prelude.{ℕ, Bool, List, Option}
 use Rattle.std.specs.Ordering.{nat_cmp, ordering_then, is_eq}
 use Rattle.std.specs.Cmp.Lexicographic.{slice_cmp}

@@ -1,4 +1,4 @@
--- The code's own: the longest front of a package that has a name.
+-- The code's own: the longest prefix of a package that has a name.
 use Rattle.std.specs.Prelude.{◌≡◌, ℕ, ◌+◌, ◌<◌, ◌≤◌, List, [], ◌∷◌, ◌++◌, length, take, Option, Some, None, slice_get, Contains, MatchOption, nat_le, max, if◌then◌else◌}
 use Rattle.proto_file.specs.Joined.{Joined, Sees, package_at}
 use Rattle.proto_file.specs.declared.joined.Home.{Home}
@@ -7,35 +7,35 @@ use Rattle.schema_names.specs.Scopes.{IsScope, IsThere, Decides}
 use Rattle.schema_names.specs.Known.{SeesFront}
 use Rattle.schema_names.specs.declared.named.Declared.{Declared}
 
--- the largest number that meets a fact, or none
+-- the largest number that satisfies P, or none
 abbrev pub IsDeepest : (ℕ → Type 0) → Option ℕ → Type 0
 IsDeepest P answer = MatchOption answer ((n : ℕ) → P n → ⊥) (λ n. P n × ((m : ℕ) → n < m → P m → ⊥))
 
--- the front with n parts has a type or a package of a name
+-- the prefix with n parts has a type or a package of a name
 pub record IsThereAt (F : Joined) (file its_file : ℕ) (name : List ℕ) (n : ℕ) : Type 0 where
   pub within : n ≤ length (package_at F its_file)
   pub there : IsThere F file (take n (package_at F its_file) ++ name ∷ [])
 
--- the name is the next part of the package, and the file sees a package that has it there
+-- the name is the next part of the package, and the file sees a package with that prefix
 pub record IsOwnAt (F : Joined) (file its_file : ℕ) (name : List ℕ) (n : ℕ) : Type 0 where
   pub its_part : slice_get (package_at F its_file) n ≡ Some name
   pub seen : SeesFront F file (take n (package_at F its_file) ++ name ∷ [])
 
--- each longer front that has the name has it as the package's next part
+-- if a longer prefix has the name, the name is the package's next part there
 abbrev pub IsDeepestBusy : Joined → ℕ → ℕ → List ℕ → Option ℕ → Type 0
 IsDeepestBusy F file its_file name answer =
     MatchOption answer ((m : ℕ) → IsThereAt F file its_file name m → IsOwnAt F file its_file name m)
     (λ n. IsThereAt F file its_file name n
     × ((m : ℕ) → n < m → IsThereAt F file its_file name m → IsOwnAt F file its_file name m))
 
--- of some declarations, the first one of a file that a file sees
+-- among some declarations, the first one in a file that is visible to a file
 abbrev pub IsFirstOf : Joined → ℕ → List Declared → Option Declared → Type 0
 IsFirstOf F file all answer =
     MatchOption answer ((d : Declared) → Contains all d → Sees F file d.file → ⊥)
     (λ first. Contains all first × Sees F file first.file
     × ((d : Declared) → Contains all d → Sees F file d.file → first.start ≤ d.start))
 
--- of two declarations, the one that starts first
+-- the first of two declarations
 abbrev pub earlier_of : Option Declared → Declared → Declared
 earlier_of None d = d
 earlier_of (Some other) d = if nat_le other.start d.start then other else d
@@ -45,7 +45,7 @@ larger_of None right = right
 larger_of (Some n) None = Some n
 larger_of (Some n) (Some m) = Some (max n m)
 
--- from a scope outward nothing has a name until this place is reached
+-- from a scope outward, no scope before this one has the name
 pub record Reaches (F : Joined) (file : ℕ) (name : List ℕ) (scope : List (List ℕ)) (place : Home) : Type 0 where
   pub reached : List (List ℕ)
   pub stands : IsScope F place reached

@@ -1,4 +1,4 @@
--- What a look-up finds.
+-- The result of a look-up.
 use Rattle.std.specs.Prelude.{ℕ, List, Option, MatchOption}
 use Rattle.proto_file.specs.Joined.{Joined}
 use Rattle.proto_file.specs.declared.file.Span.{Span}
@@ -10,11 +10,11 @@ use Rattle.schema_names.specs.declared.named.Named.{Named}
 abbrev pub NamesNothing : Joined → ℕ → List (List ℕ) → List ℕ → Type 0
 NamesNothing F file scope name = (sort : Sort) (full : List (List ℕ)) → Names F file scope name sort full → ⊥
 
--- the code's own: no message or enum that a file sees has this full name
+-- the code's own: no message or enum visible to a file has this full name
 abbrev pub NoType : Joined → ℕ → List (List ℕ) → Type 0
 NoType F file full = (named : Named) (span : Span) → IsSeen F file named → StandsAt F named full span → ⊥
 
--- the answer is the first message or enum that a reference of a file names in a scope
+-- the result is the first message or enum that a reference of a file names in a scope
 abbrev pub IsAnswer : Joined → ℕ → List (List ℕ) → List ℕ → Option Named → Type 0
 IsAnswer F file scope name answer =
     MatchOption answer (NamesNothing F file scope name)

@@ -1,4 +1,4 @@
--- The code's own: the numbers of the scopes at the first places, and the packages of the first files.
+-- The code's own: the numbers of the scopes listed so far, and the packages of the files so far.
 use Rattle.std.specs.Prelude.{◌≡◌, ℕ, ◌+◌, ◌<◌, ◌≤◌, List, [], ◌∷◌, ◌++◌, length, Option, Some, None, slice_get}
 use Rattle.std.proofs.Common.{get_or}
 use Rattle.proto_file.specs.Joined.{Joined, package_at}
@@ -10,31 +10,31 @@ use Rattle.schema_names.specs.Parts.{KnowsLast, values_of}
 use Rattle.schema_names.specs.declared.numbering.Numbering.{Numbering}
 use Rattle.schema_names.specs.declared.numbering.Package.{Package}
 
--- the scopes at the first places have these numbers
+-- the first listed scopes have these numbers
 pub record AreNumbers (F : Joined) (numbers : List ℕ) : Type 0 where
   pub each : (place : ℕ) (s : List (List ℕ)) → place < length numbers → IsListed F place s
       → IsNumber F s (get_or numbers place 0)
 
--- the numbers of the scopes at the first n places, by the number of the scope that each stands in and its name there
+-- the numbers of the first n listed scopes, by the number of the enclosing scope and the name in it
 pub record KnowsScopes (F : Joined) (n : ℕ) (at : ℕ → List ℕ → Option ℕ) : Type 0 where
   pub sound : (k : ℕ) (name : List ℕ) (v : ℕ) → at k name ≡ Some v
       → (s : List (List ℕ)) × IsNumber F s k × IsNumber F (s ++ name ∷ []) v
   pub whole : (place : ℕ) (s : List (List ℕ)) (name : List ℕ) (k : ℕ) → place < n
       → IsListed F place (s ++ name ∷ []) → IsNumber F s k → (v : ℕ) × (at k name ≡ Some v)
 
--- the scopes at the first n places are numbered
+-- the first n listed scopes are numbered
 pub record IsNumbered (F : Joined) (n : ℕ) (x : Numbering) : Type 0 where
   pub count : length x.numbers.items ≡ n
   pub numbers : AreNumbers F x.numbers.items
   pub inner : KnowsScopes F n (child x.inner)
 
--- how many parts the fronts at the first n places have
+-- the numbers of parts of the prefixes among the first n listed scopes
 pub record AreDepths (F : Joined) (n : ℕ) (depths : List ℕ) : Type 0 where
   pub count : length depths ≡ n
   pub each : (file depth : ℕ) → file < length F.heads → depth ≤ length (package_at F file)
       → fronts_before F file + depth < n → get_or depths (fronts_before F file + depth) 0 ≡ depth
 
--- what is kept of the package of a file
+-- the data stored for the package of a file
 pub record IsPackage (F : Joined) (file : ℕ) (p : Package) : Type 0 where
   pub its_parts : values_of p.parts.items ≡ package_at F file
   pub last : KnowsLast (package_at F file) p.last_places
@@ -46,7 +46,7 @@ pub record ArePackages (F : Joined) (n : ℕ) (packages : List Package) : Type 0
   pub count : length packages ≡ n
   pub each : (file : ℕ) (p : Package) → slice_get packages file ≡ Some p → IsPackage F file p
 
--- what is kept of the number of the scope of a home
+-- the stored number of the scope inside a file or a message
 abbrev pub package_number : Option Package → ℕ
 package_number None = 0
 package_number (Some p) = p.number

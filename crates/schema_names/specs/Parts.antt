@@ -1,11 +1,11 @@
--- The code's own: parts of names, and where each stands last.
+-- The code's own: parts of names, and the last index of each.
 use Rattle.std.specs.Prelude.{◌≡◌, ℕ, ◌<◌, List, Option, Some, slice_get, MatchOption, map, Bool}
 use Rattle.std.specs.Ordering.{nat_cmp, is_eq}
 use Rattle.std.specs.Cmp.Lexicographic.{slice_cmp}
 use Rattle.std.specs.BTreeMap.{BTreeMap, get_by}
 use Rattle.std.specs.Borrow.{Bor}
 
--- where each of these parts stands last
+-- the last index of each of these parts
 abbrev pub IsLast : List (List ℕ) → List ℕ → ℕ → Type 0
 IsLast parts part place = (slice_get parts place ≡ Some part)
     × ((i : ℕ) → place < i → slice_get parts i ≡ Some part → ⊥)

@@ -1,4 +1,4 @@
--- The code's own: what the scopes of files keep of their places.
+-- The code's own: the invariant of the scopes of files.
 use Rattle.std.specs.Prelude.{◌<◌, ◌^◌, length}
 use Rattle.proto_file.specs.Joined.{Joined}
 use Rattle.schema_names.specs.Numbers.{StandBehind, fronts, scope_count}

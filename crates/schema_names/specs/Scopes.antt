@@ -1,6 +1,7 @@
--- Names and scopes (Protocol Buffers, language guide, "Packages and Name Resolution"): which full name a declaration
--- has, and which one a reference means. A full name is a list of names, the outermost first; so is a scope, which the
--- names of what stands in it begin with. The scope of a package is one over all files of that package.
+-- Names and scopes (Protocol Buffers, language guide, "Packages and Name Resolution"): the full name of a
+-- declaration, and the one that a reference means. A full name is a list of names, the outermost first. A scope is
+-- such a list too: the prefix of the full names in it. The scope of a package is the same for all files of that
+-- package.
 use Rattle.std.specs.Prelude.{◌≡◌, ◌≢◌, ℕ, ◌≤◌, Bool, true, false, List, [], ◌∷◌, ◌++◌, Some, slice_get, Contains}
 use Rattle.std.specs.List.{join_with_byte}
 use Rattle.mrpc_table.specs.Names.{parts_of}
@@ -22,7 +23,7 @@ text_of full = join_with_byte dot full
 
 -- ---- declarations
 
--- the scope of what stands in the file, or in the message, at this place
+-- the scope inside the file or the message with this index
 pub data IsScope (F : Joined) : Home → List (List ℕ) → Type 0 where
   of_file : (k : ℕ) → IsScope F (home.File k) (package_at F k)
   of_message : (i : ℕ) (m : MessageDecl) {outer : List (List ℕ)} → slice_get F.messages i ≡ Some m
@@ -38,8 +39,8 @@ is_type a_message = true
 is_type an_enum = true
 is_type no_type = false
 
--- The file at a place declares this full name, here. The values of an enum stand beside it, in the scope that it stands
--- in. The rpcs of a service are in no scope but the service's own.
+-- The file with an index declares this full name, here. The values of an enum are in the scope that encloses the
+-- enum. The rpcs of a service are only in the service's own scope.
 pub data Declares (F : Joined) : ℕ → Sort → List (List ℕ) → Span → Type 0 where
   message : (m : MessageDecl) {outer : List (List ℕ)} → Contains F.messages m → IsScope F (home_of m) outer
       → Declares F m.file a_message (outer ++ m.name.name ∷ []) m.name.span
@@ -55,7 +56,7 @@ pub data Declares (F : Joined) : ℕ → Sort → List (List ℕ) → Span → T
   oneof : (m : MessageDecl) (o : Word) {outer : List (List ℕ)} → Contains F.messages m → Contains m.oneofs o
       → IsScope F (home_of m) outer → Declares F m.file no_type (outer ++ m.name.name ∷ o.name ∷ []) o.span
 
--- the package of a file has this full name, or begins with it
+-- the package of a file has this full name, or starts with it
 pub record IsFront (F : Joined) (full : List (List ℕ)) : Type 0 where
   pub file : ℕ
   pub rest : List (List ℕ)
@@ -63,28 +64,28 @@ pub record IsFront (F : Joined) (full : List (List ℕ)) : Type 0 where
 
 -- ---- references
 
--- a type of the files that a file sees, or one of their packages or a front of one
+-- a type of a visible file, or the package of one, or a prefix of such a package
 pub data IsThere (F : Joined) (file : ℕ) (full : List (List ℕ)) : Type 0 where
   a_type : (other : ℕ) (sort : Sort) (span : Span) → Sees F file other → Declares F other sort full span
       → is_type sort ≡ true → IsThere F file full
   a_package : (other : ℕ) (rest : List (List ℕ)) → Sees F file other → package_at F other ≡ full ++ rest
       → IsThere F file full
 
--- the innermost scope, from this one outward, that has a type or a package of a name, as a file sees it
+-- the innermost scope, from this one outward, that has a visible type or package of a name
 pub data Decides (F : Joined) (file : ℕ) (name : List ℕ) : List (List ℕ) → List (List ℕ) → Type 0 where
   here : {scope : List (List ℕ)} → IsThere F file (scope ++ name ∷ []) → Decides F file name scope scope
   outward : (last : List ℕ) {outer scope decisive : List (List ℕ)} → scope ≡ outer ++ last ∷ []
       → (IsThere F file (scope ++ name ∷ []) → ⊥) → Decides F file name outer decisive
       → Decides F file name scope decisive
 
--- The full name that a reference of a file means in a scope. Its first part alone decides; behind a dot it is the full
--- name.
+-- The full name that a reference of a file means in a scope. Only its first part is searched for; after a leading dot
+-- it is the full name itself.
 pub data Means (F : Joined) (file : ℕ) (scope : List (List ℕ)) : List ℕ → List (List ℕ) → Type 0 where
   absolute : (name : List ℕ) → Means F file scope (dot ∷ name) (parts_of name)
   relative : (name first : List ℕ) {others decisive : List (List ℕ)} → parts_of name ≡ first ∷ others → first ≢ []
       → Decides F file first scope decisive → Means F file scope name (decisive ++ first ∷ others)
 
--- what a full name is, as a file sees it: where it is declared twice, the first declaration counts
+-- the declaration of a full name that is visible to a file; if there are several, the first one counts
 pub record Finds (F : Joined) (file : ℕ) (sort : Sort) (full : List (List ℕ)) : Type 0 where
   pub span : Span
   pub other : ℕ

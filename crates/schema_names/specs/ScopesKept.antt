@@ -1,4 +1,4 @@
--- The code's own: what the names of files keep.
+-- The code's own: the invariant of the symbol table.
 use Rattle.std.specs.Prelude.{length}
 use Rattle.proto_file.specs.Joined.{Joined}
 use Rattle.schema_names.specs.Numbers.{StandBehind}

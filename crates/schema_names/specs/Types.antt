@@ -1,4 +1,4 @@
--- The code's own: the first declarations of names in scopes, one for each file that has some.
+-- The code's own: the first declarations of names in scopes, one for each file that declares them.
 use Rattle.std.specs.Prelude.{◌≡◌, ℕ, ◌<◌, ◌≤◌, false, List, [], ◌∷◌, ◌++◌, Option, Some, None, Contains, ◌⊎◌}
 use Rattle.std.specs.Global.{Vec}
 use Rattle.proto_file.specs.Joined.{Joined}
@@ -17,7 +17,7 @@ items_of (Some all) = all.items
 abbrev pub declared_in : Types → ℕ → List ℕ → List Declared
 declared_in types scope name = items_of (child types.by scope name)
 
--- a declaration is added: of each file the first one stays
+-- a declaration is added: the first one of each file is kept
 pub record KeepsFirst (old new : List Declared) (d : Declared) : Type 0 where
   pub among : (x : Declared) → Contains new x → Contains old x ⊎ (x ≡ d)
   pub kept : (x : Declared) → Contains old x → (y : Declared) × Contains new y × (y.file ≡ x.file) × (y.start ≤ x.start)

@@ -1,7 +1,7 @@
-//! What hangs below the fronts of packages.
+//! The names directly below the prefixes of packages.
 //!
-//! A package may have very many parts, and at most of its fronts nothing begins but its next part. The other fronts are
-//! few, and found once.
+//! A package may have many parts, and below most of its prefixes there is only its next part. The other prefixes are
+//! few, and are found once.
 
 ghost use Rattle.std.specs.Prelude.{◌≡◌, ◌<◌, IfOk, length};
 ghost use Rattle.schema_names.specs.Numbers.{StandBehind, scope_count};
@@ -12,18 +12,18 @@ use mrpc_table::Memory;
 use proto_file::Home;
 use std::alloc::Global;
 
-// What hangs below a scope.
+// What is known of the names directly below a scope.
 #[derive(Clone, Copy)]
 pub(crate) enum Below {
     Nothing,
-    // Fronts of packages of one full name, whose scope has this number.
+    // Package prefixes of one full name, whose scope has this number.
     One(usize),
-    // Fronts of several full names, or types.
+    // Package prefixes of several full names, or types.
     Several,
 }
 
 impl Below {
-    // With a front of a package.
+    // Adds a package prefix.
     fn with(self, scope: usize) -> Below
         ensures { result ≡ with_front self scope }
     {
@@ -40,7 +40,7 @@ impl Below {
         }
     }
 
-    // Whether it is known to be fronts of one full name alone.
+    // True if only package prefixes of one full name are known.
     fn is_one(self) -> bool
         ensures { result ≡ is_one self }
     {
@@ -48,7 +48,7 @@ impl Below {
     }
 }
 
-// Notes the fronts of a file's package, and that types stand in the package.
+// Records the prefixes of a file's package, and that the package may contain types.
 fn note_package(places: &Places, file: usize, below: &mut [Below])
     requires there { file < length places.now.heads }
     requires all { length below.old ≡ scope_count places.now }
@@ -65,7 +65,7 @@ fn note_package(places: &Places, file: usize, below: &mut [Below])
     below[package] = Below::Several;
 }
 
-// What hangs below each scope.
+// What is below each scope.
 fn hanging(alloc: Global, places: &Places) -> Result<Vec<Below>, Memory>
     ensures all { IfOk result (λ v. length v.items ≡ scope_count places.now) }
     ensures tells { IfOk result (λ v. Tells places.now v.items) }
@@ -81,8 +81,8 @@ fn hanging(alloc: Global, places: &Places) -> Result<Vec<Below>, Memory>
     Ok(below)
 }
 
-// The fronts of a file's package at which more may begin than its next part, by their number of parts, the longest
-// first.
+// The prefixes of a file's package below which there may be more than its next part, by their number of parts, the
+// longest first.
 fn busy_fronts(
     alloc: Global,
     places: &Places,
@@ -106,8 +106,8 @@ fn busy_fronts(
     Ok(busy)
 }
 
-// For each file, the fronts of its package at which more may begin than its next part, by their number of parts, the
-// longest first.
+// For each file, the prefixes of its package below which there may be more than its next part, by their number of
+// parts, the longest first.
 pub(crate) fn all_busy_fronts(alloc: Global, places: &Places) -> Result<Vec<Vec<usize>>, Memory>
     requires { StandBehind places.now }
     ensures { IfOk result (λ v. AreBusy places.now (length places.now.heads) v.items) }

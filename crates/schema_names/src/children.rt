@@ -1,4 +1,4 @@
-//! What stands in scopes, by its name.
+//! The contents of scopes, by name.
 
 ghost use Rattle.std.specs.Prelude.{◌≡◌, ℕ, List, Some, None, cond, OnOk};
 ghost use Rattle.std.specs.Option.{option_copied};
@@ -8,14 +8,14 @@ use mrpc_table::Memory;
 use std::alloc::Global;
 use std::collections::BTreeMap;
 
-// Values by the numbers of scopes and the names that stand in them.
+// Values by the number of a scope and a name in it.
 #[derive(Drop)]
 pub(crate) struct Children<'a, V> {
     by: BTreeMap<(usize, &'a [u8]), V>,
 }
 
 impl<'a, V: Drop> Children<'a, V> {
-    // No values.
+    // An empty map.
     pub(crate) fn new(alloc: Global) -> Children<'a, V>
         ensures { (scope : ℕ) (name : List ℕ) → child result scope name ≡ None }
     {
@@ -31,7 +31,7 @@ impl<'a, V: Drop> Children<'a, V> {
         self.by.get(&(scope, name))
     }
 
-    // Gives a name in a scope this value.
+    // Sets the value of a name in a scope.
     pub(crate) fn insert(&mut self, scope: usize, name: &'a [u8], value: V) -> Result<(), Memory>
         ensures { OnOk result ((k : ℕ) (other : List ℕ)
             → child self.new k other ≡ cond (same_child scope name.now k other) (Some value) (child self.old k other)) }
@@ -40,7 +40,7 @@ impl<'a, V: Drop> Children<'a, V> {
         Ok(())
     }
 
-    // Takes the value of a name in a scope away.
+    // Removes the value of a name in a scope, and returns it.
     pub(crate) fn remove(&mut self, scope: usize, name: &'a [u8]) -> Option<V>
         ensures value { result ≡ child self.old scope name.now }
         ensures others { (k : ℕ) (other : List ℕ)

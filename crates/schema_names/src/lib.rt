@@ -1,13 +1,14 @@
 //! The names of proto files that are resolved together: which message or enum a reference names (Protocol Buffers,
 //! language guide, "Packages and Name Resolution").
 //!
-//! `specs/Scopes.antt` says which full name each declaration has and which one a reference means. [`Scopes`] is made of
-//! files that were read; clauses see it as those files. The layer above uses three contracts: of [`Scopes::find`], that
-//! it answers the first message or enum that a reference names among those that its file sees, or that it names none,
-//! of [`Scopes::number`], that scopes have one number exactly where they have one full name ([`one_number`]), and of
-//! [`Scopes::is_package`], that it tells a package's name. They take time by the length of what is asked, by how deep
-//! it stands in messages, by the number of files, and by the logarithm of the number of types. The crate stands on
-//! `mrpc_table` and `proto_file`.
+//! `specs/Scopes.antt` defines the full name of each declaration and the one that a reference means. The symbol
+//! table, [`Scopes`], is made of files that were read; clauses see it as those files. The layer above relies on three
+//! contracts. [`Scopes::find`] returns the first message or enum that a reference names among those visible to its
+//! file, or none if it names none. [`Scopes::number`] returns the same number for two scopes exactly if their full
+//! names are equal ([`one_number`]). [`Scopes::is_package`] returns true for the name of a package.
+//!
+//! These calls take time by the length of their input, by the depth of nesting, by the number of files, and by the
+//! logarithm of the number of types. The crate uses `mrpc_table` and `proto_file`.
 #![tactic(auto)]
 
 mod below;

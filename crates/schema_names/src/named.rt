@@ -1,6 +1,6 @@
-//! Messages and enums, by their places.
+//! Messages and enums, by index.
 
-/// A message or an enum, by its place among those of the files that are resolved together.
+/// A message or an enum, by its index among those of the files that are resolved together.
 #[derive(Clone, Copy)]
 pub enum Named {
     /// A message.
@@ -9,7 +9,7 @@ pub enum Named {
     Enum(usize),
 }
 
-// A message or an enum, the place of its file, and where its name starts.
+// A message or an enum, the index of its file, and the offset where its name starts.
 #[derive(Clone, Copy)]
 pub(crate) struct Declared {
     pub file: usize,

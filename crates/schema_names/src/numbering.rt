@@ -13,7 +13,7 @@ use proto_file::{Home, Joined};
 use std::alloc::Global;
 use std::collections::BTreeMap;
 
-// The numbers of the scopes at the first places, and those of what stands in scopes, by its name.
+// The numbers of the scopes listed so far, and the number of each name in a scope.
 #[derive(Drop)]
 pub(crate) struct Numbering<'a> {
     pub numbers: Vec<usize>,
@@ -24,16 +24,16 @@ pub(crate) struct Numbering<'a> {
 #[derive(Drop)]
 pub(crate) struct Package<'a> {
     pub parts: Vec<&'a [u8]>,
-    // Where each part stands last.
+    // The last index of each part.
     pub last_places: BTreeMap<&'a [u8], usize>,
-    // The place of its first front, which is the root.
+    // The index of its first prefix, which is the root.
     pub start: usize,
     // The number of its scope.
     pub number: usize,
 }
 
 impl<'a> Numbering<'a> {
-    // No numbers.
+    // An empty numbering.
     pub(crate) fn new(alloc: Global) -> Numbering<'a>
         ensures numbers { result.numbers.items ≡ [] }
         ensures inner { (k : ℕ) (name : List ℕ) → child result.inner k name ≡ None }
@@ -44,7 +44,7 @@ impl<'a> Numbering<'a> {
         }
     }
 
-    // Gives the next place the root's number.
+    // Gives the next listed scope the root's number.
     pub(crate) fn list_root(&mut self) -> Result<(), Memory>
         ensures numbers { OnOk result (self.new.numbers.items ≡ self.old.numbers.items ++ 0 ∷ []) }
         ensures inner { OnOk result (self.new.inner ≡ self.old.inner) }
@@ -53,7 +53,7 @@ impl<'a> Numbering<'a> {
         Ok(())
     }
 
-    // Gives the next place the number that a name in a scope has, or a new one.
+    // Gives the next listed scope the number of a name in a scope, or a new one.
     pub(crate) fn list(&mut self, outer: usize, name: &'a [u8]) -> Result<usize, Memory>
         ensures number { IfOk result (λ n. n
             ≡ unwrap_or (child self.old.inner outer name.now) (length self.old.numbers.items)) }
@@ -69,7 +69,7 @@ impl<'a> Numbering<'a> {
     }
 }
 
-// The number of the scope of what stands in a file or in a message.
+// The number of the scope inside a file or a message.
 pub(crate) fn number_in(packages: &[Package], fronts: usize, numbers: &[usize], home: Home) -> usize
     requires { IsWithin packages.now fronts numbers.now home }
     ensures { result ≡ number_at packages.now fronts numbers.now home }
@@ -80,7 +80,7 @@ pub(crate) fn number_in(packages: &[Package], fronts: usize, numbers: &[usize], 
     }
 }
 
-// Numbers the fronts of a file's package.
+// Numbers the prefixes of a file's package.
 fn number_package<'a>(
     alloc: Global,
     files: &Joined<'a>,
@@ -114,7 +114,7 @@ fn number_package<'a>(
     })
 }
 
-// Numbers the fronts of the files' packages. The depths get the number of parts of each front.
+// Numbers the prefixes of the files' packages. `depths` receives the number of parts of each prefix.
 pub(crate) fn number_packages<'a>(
     alloc: Global,
     files: &Joined<'a>,
@@ -135,7 +135,7 @@ pub(crate) fn number_packages<'a>(
     Ok(packages)
 }
 
-// Numbers the scopes of messages, behind those of packages.
+// Numbers the scopes of messages, after those of packages.
 pub(crate) fn number_messages<'a>(
     files: &Joined<'a>,
     packages: &[Package],

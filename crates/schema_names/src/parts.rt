@@ -10,7 +10,7 @@ use proto_file::Word;
 use std::alloc::Global;
 use std::collections::BTreeMap;
 
-// What stands behind a dot at the front.
+// The part of a name after a leading dot; `None` if there is no leading dot.
 pub(crate) fn after_dot(name: &[u8]) -> Option<&[u8]>
     ensures { MatchOption result ((rest : List ℕ) → name.now ≢ 46 ∷ rest) (λ r. name.now ≡ 46 ∷ r.now) }
 {
@@ -54,7 +54,7 @@ pub(crate) fn package_parts(alloc: Global, declared: &Option<Word>) -> Result<Ve
     }
 }
 
-// Lets a part stand last at a place.
+// Sets the last index of a part.
 fn put_last<'a>(
     places: &mut BTreeMap<&'a [u8], usize>,
     part: &'a [u8],
@@ -67,7 +67,7 @@ fn put_last<'a>(
     Ok(())
 }
 
-// Where each of some parts stands last.
+// The last index of each of some parts.
 pub(crate) fn last_places<'a>(
     alloc: Global,
     parts: &[&'a [u8]],

@@ -1,4 +1,4 @@
-//! Scopes by their places and numbers.
+//! Scopes by their indices and numbers.
 
 ghost use Rattle.std.specs.Prelude.{◌≡◌, ◌≢◌, ◌<◌, ◌≤◌, ◌^◌, ◌↔◌, ◌++◌, ◌∷◌, [], ℕ, List, Some, IfOk, IfSome, IsTrue, MatchOption, length, take, slice_get};
 ghost use Rattle.proto_file.specs.Joined.{Sees, package_at};
@@ -14,7 +14,7 @@ use proto_file::{EnumDecl, Head, Home, Joined, MessageDecl};
 use std::alloc::Global;
 use std::marker::Model;
 
-// More scopes than memory has room for.
+// More scopes than fit in memory.
 const TOO_MANY: usize = 1 << 62;
 
 // The scopes of files that are resolved together. Clauses see the files.
@@ -22,7 +22,7 @@ const TOO_MANY: usize = 1 << 62;
 pub(crate) struct Places<'a> {
     files: Joined<'a>,
     numbering: Numbering<'a>,
-    // Of each front, the number of its parts.
+    // For each prefix, its number of parts.
     depths: Vec<usize>,
     packages: Vec<Package<'a>>,
 }
@@ -39,7 +39,7 @@ impl<'a> Model for Places<'a> {
     ghost invariant = { ArePlaces };
 }
 
-// The same files.
+// Another view of the same files.
 fn same_files<'a>(files: &Joined<'a>) -> Joined<'a>
     ensures { result ≡ files.now }
 {
@@ -93,7 +93,7 @@ impl<'a> Places<'a> {
         self.files.enums()
     }
 
-    // How many numbers there are.
+    // The number of scope numbers.
     pub(crate) fn count(&self) -> usize
         ensures is { result ≡ scope_count self.now }
         ensures few { result < 2 ^ 62 }
@@ -101,7 +101,7 @@ impl<'a> Places<'a> {
         self.numbering.numbers.len()
     }
 
-    // The number of the scope of what stands in a file or in a message.
+    // The number of the scope inside a file or a message.
     pub(crate) fn number(&self, home: Home) -> usize
         requires { IsPlace self.now home }
         ensures number { (scope : List (List ℕ)) → IsScope self.now home scope → IsNumber self.now scope result }
@@ -115,7 +115,7 @@ impl<'a> Places<'a> {
         )
     }
 
-    // The number of a name's scope in a scope.
+    // The number of the scope of a name in a scope.
     pub(crate) fn inner(&self, scope: usize, name: &'a [u8]) -> Option<usize>
         ensures { (outer : List (List ℕ)) → IsNumber self.now outer scope
             → MatchOption result ((place : ℕ) → IsListed self.now place (outer ++ name.now ∷ []) → ⊥)
@@ -124,7 +124,7 @@ impl<'a> Places<'a> {
         self.numbering.inner.get(scope, name).copied()
     }
 
-    // How many parts the package of a file has.
+    // The number of parts of a file's package.
     pub(crate) fn depth(&self, file: usize) -> usize
         requires { file < length self.now.heads }
         ensures is { result ≡ length (package_at self.now file) }
@@ -142,7 +142,7 @@ impl<'a> Places<'a> {
         self.packages[file].parts[place]
     }
 
-    // The last place at which the package of a file has a part.
+    // The last index at which the package of a file has a part.
     pub(crate) fn last_place(&self, file: usize, part: &'a [u8]) -> Option<usize>
         requires { file < length self.now.heads }
         ensures last { MatchOption result ((i : ℕ) → slice_get (package_at self.now file) i ≢ Some part.now)
@@ -152,7 +152,7 @@ impl<'a> Places<'a> {
         self.packages[file].last_places.get(&part).copied()
     }
 
-    // The number of the front of a file's package that has this many parts.
+    // The number of the prefix of a file's package with this many parts.
     pub(crate) fn front(&self, file: usize, depth: usize) -> usize
         requires file { file < length self.now.heads }
         requires depth { depth ≤ length (package_at self.now file) }
@@ -162,7 +162,7 @@ impl<'a> Places<'a> {
         self.numbering.numbers[self.packages[file].start + depth]
     }
 
-    // Whether a scope is that of a package, or of a front of one.
+    // True if a scope is that of a package or of a prefix of one.
     pub(crate) fn is_front(&self, scope: usize) -> bool
         ensures { (full : List (List ℕ)) → 0 < length full → IsNumber self.now full scope
             → IsTrue result ↔ IsFront self.now full }
@@ -170,7 +170,7 @@ impl<'a> Places<'a> {
         scope < self.depths.len()
     }
 
-    // Whether the package of a file begins with the scope of a number, which has this many parts.
+    // True if the package of a file starts with the scope of this number, which has this many parts.
     fn has_front(&self, file: usize, depth: usize, scope: usize) -> bool
         ensures { (full : List (List ℕ)) → 0 < length full → length full ≡ depth → IsNumber self.now full scope
             → IsTrue result ↔ Begins self.now file full }
@@ -182,7 +182,7 @@ impl<'a> Places<'a> {
         depth <= package.parts.len() && self.numbering.numbers[package.start + depth] == scope
     }
 
-    // Whether a file sees one whose package begins with a scope.
+    // True if a file sees a file whose package starts with a scope.
     pub(crate) fn sees_front(&self, file: usize, scope: usize) -> bool
         requires { file < length self.now.heads }
         ensures { (full : List (List ℕ)) → 0 < length full → IsNumber self.now full scope
@@ -200,7 +200,7 @@ impl<'a> Places<'a> {
         false
     }
 
-    // Whether the references of one file may name types of the other.
+    // True if the references of one file may name types of the other.
     pub(crate) fn sees(&self, file: usize, other: usize) -> bool
         requires { file < length self.now.heads }
         ensures { IsTrue result ↔ Sees self.now file other }

@@ -19,7 +19,7 @@ use proto_file::{Home, Joined};
 use std::alloc::Global;
 use std::marker::Model;
 
-/// The names of the types of files that are resolved together, by their scopes. Clauses see the files.
+/// A symbol table: the types of files that are resolved together, by scope and name. Clauses see the files.
 #[derive(Drop)]
 pub struct Scopes<'a> {
     places: Places<'a>,
@@ -39,7 +39,7 @@ impl<'a> Model for Scopes<'a> {
     ghost invariant = { AreScopes };
 }
 
-// The one of two declarations that starts first.
+// The first of two declarations.
 fn first_of(known: Option<Declared>, declared: Declared) -> Declared
     ensures { result ≡ earlier_of known declared }
 {
@@ -49,7 +49,7 @@ fn first_of(known: Option<Declared>, declared: Declared) -> Declared
     }
 }
 
-// The larger one of two numbers, or the one that is there.
+// The larger of two optional numbers, or the one that is present.
 fn larger(left: Option<usize>, right: Option<usize>) -> Option<usize>
     ensures { result ≡ larger_of left right }
 {
@@ -61,7 +61,8 @@ fn larger(left: Option<usize>, right: Option<usize>) -> Option<usize>
 }
 
 impl<'a> Scopes<'a> {
-    /// The scopes of files. It takes time by what they declare and the logarithm of the number of their types.
+    /// Makes the symbol table of files. Takes time by their declarations and the logarithm of the number of their
+    /// types.
     pub fn new(alloc: Global, files: &Joined<'a>) -> Result<Scopes<'a>, Memory>
         requires { StandBehind files.now }
         ensures { IfOk result (λ s. s ≡ files.now) }
@@ -78,7 +79,7 @@ impl<'a> Scopes<'a> {
         })
     }
 
-    /// How many numbers of scopes there are.
+    /// The number of scope numbers.
     pub fn count(&self) -> usize
         ensures is { result ≡ scope_count self.now }
         ensures few { result < 2 ^ 62 }
@@ -86,7 +87,7 @@ impl<'a> Scopes<'a> {
         self.places.count()
     }
 
-    /// The number of the scope of what stands in a file or in a message.
+    /// The number of the scope inside a file or a message.
     pub fn number(&self, home: Home) -> usize
         requires { IsPlace self.now home }
         ensures { (scope : List (List ℕ)) → IsScope self.now home scope → IsNumber self.now scope result }
@@ -94,7 +95,7 @@ impl<'a> Scopes<'a> {
         self.places.number(home)
     }
 
-    /// Whether a name in the scope of what stands in a file or in a message is a package's, or a front of one.
+    /// True if a name in the scope inside a file or a message is a package's name or a prefix of one.
     pub fn is_package(&self, home: Home, name: &'a [u8]) -> bool
         requires { IsPlace self.now home }
         ensures { (scope : List (List ℕ)) → IsScope self.now home scope
@@ -106,8 +107,8 @@ impl<'a> Scopes<'a> {
         }
     }
 
-    /// What a reference of a file names that stands in a file or in a message: the first message or enum of its full
-    /// name among those that the file sees.
+    /// Returns what a reference of a file names in the scope inside a file or a message: the first message or enum of
+    /// its full name among those visible to the file.
     pub fn find(&self, file: usize, home: Home, name: &'a [u8]) -> Option<Named>
         requires file { file < length self.now.heads }
         requires home { IsPlace self.now home }
@@ -120,7 +121,7 @@ impl<'a> Scopes<'a> {
         }
     }
 
-    // The innermost scope that has the first part decides.
+    // Looks a name up from a scope outward. The innermost scope that has the first part decides.
     fn find_outward(&self, file: usize, home: Home, name: &'a [u8]) -> Option<Named>
         requires file { file < length self.now.heads }
         requires home { IsPlace self.now home }
@@ -161,7 +162,7 @@ impl<'a> Scopes<'a> {
         }
     }
 
-    // The number of the longest front of a package that has a type or a package of a name.
+    // The number of the longest prefix of a package that has a type or a package of a name.
     fn deciding_front(&self, file: usize, its_file: usize, name: &'a [u8]) -> Option<usize>
         requires file { file < length self.now.heads }
         requires its_file { its_file < length self.now.heads }
@@ -177,7 +178,7 @@ impl<'a> Scopes<'a> {
         }
     }
 
-    // The longest front of a package whose next part is a name. It is found at once where the file sees the package.
+    // The longest prefix of a package whose next part is a name. Found at once if the file sees the package.
     fn own_front(&self, file: usize, its_file: usize, name: &'a [u8]) -> Option<usize>
         requires file { file < length self.now.heads }
         requires its_file { its_file < length self.now.heads }
@@ -198,8 +199,8 @@ impl<'a> Scopes<'a> {
         None
     }
 
-    // The longest front of a package that has a type or a package of a name, of those at which more may begin than its
-    // next part.
+    // The longest prefix of a package that has a type or a package of a name, among those below which there may be
+    // more than the next part.
     fn busy_front(&self, file: usize, its_file: usize, name: &'a [u8]) -> Option<usize>
         requires file { file < length self.now.heads }
         requires its_file { its_file < length self.now.heads }
@@ -214,7 +215,7 @@ impl<'a> Scopes<'a> {
         None
     }
 
-    // Whether a name in a scope is a type's or a package's, as a file sees it.
+    // True if a name in a scope is that of a type or a package visible to a file.
     fn is_there(&self, file: usize, scope: usize, name: &'a [u8]) -> bool
         requires { file < length self.now.heads }
         ensures { (outer : List (List ℕ)) → IsNumber self.now outer scope
@@ -229,7 +230,7 @@ impl<'a> Scopes<'a> {
         }
     }
 
-    // The first type of a name in a scope among those that a file sees.
+    // The first type of a name in a scope among those visible to a file.
     fn first_type(&self, file: usize, scope: usize, name: &'a [u8]) -> Option<Named>
         requires { file < length self.now.heads }
         ensures { (outer : List (List ℕ)) → IsNumber self.now outer scope
@@ -248,7 +249,7 @@ impl<'a> Scopes<'a> {
         }
     }
 
-    // The first type whose full name is a name in a scope, among those that a file sees.
+    // The first type whose full name is a name in a scope, among those visible to a file.
     fn find_in(&self, file: usize, start: usize, name: &'a [u8]) -> Option<Named>
         requires { file < length self.now.heads }
         ensures { (scope : List (List ℕ)) → IsNumber self.now scope start

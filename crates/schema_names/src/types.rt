@@ -1,4 +1,4 @@
-//! The types that stand in scopes.
+//! The types in scopes.
 
 ghost use Rattle.std.specs.Prelude.{◌≡◌, [], ℕ, List, OnOk, length};
 ghost use Rattle.schema_names.specs.Numbers.{StandBehind};
@@ -10,7 +10,7 @@ use crate::places::Places;
 use mrpc_table::Memory;
 use std::alloc::Global;
 
-// Of each name in a scope, the first declaration of each file that declares a type of it.
+// For each name in a scope, the first declaration of each file that declares a type by that name.
 #[derive(Drop)]
 pub(crate) struct Types<'a> {
     by: Children<'a, Vec<Declared>>,
@@ -34,7 +34,7 @@ fn keep_first(all: &mut Vec<Declared>, declared: Declared) -> Result<(), Memory>
 }
 
 impl<'a> Types<'a> {
-    // No types.
+    // An empty map.
     pub(crate) fn new(alloc: Global) -> Types<'a>
         ensures { (scope : ℕ) (name : List ℕ) → declared_in result scope name ≡ [] }
     {
@@ -43,7 +43,7 @@ impl<'a> Types<'a> {
         }
     }
 
-    // The first declarations of a name in a scope, one for each file that has some.
+    // The first declarations of a name in a scope, one for each file that declares it.
     pub(crate) fn get(&self, scope: usize, name: &'a [u8]) -> &[Declared]
         ensures { result.now ≡ declared_in self.now scope name.now }
     {

@@ -1,5 +1,5 @@
--- A name that stands twice: what the numbers of scopes say of it is what full names say, and what the number of a
--- service says is that two rpcs of the service have one name.
+-- Duplicate names: the entries by numbers of scopes agree with the full names, and those with the number of a service
+-- are two rpcs of the service with the same name.
 use Rattle.std.proofs.Common.{◌≡◌, ℕ, ◌+◌, ◌<◌, ◌⊎◌, inl, inr, true, List, [], ◌∷◌, ◌++◌, length, refl, sym, ap, ◌∙◌, subst, arith, length-append}
 use Rattle.std.specs.Prelude.{Some, slice_get, Contains}
 use Rattle.std.proofs.lemmas.List.{append_assoc}
@@ -40,13 +40,13 @@ last_same (a ∷ xs) (b ∷ ys) x y e =
     let whole : a ∷ xs ≡ b ∷ ys = cc in
     (whole, r.1)
 
--- a pair at the end
+-- two elements at the end
 two_last : {X : Type 0} (xs : List X) (x y : X) → (xs ++ x ∷ []) ++ y ∷ [] ≡ xs ++ x ∷ y ∷ []
 two_last xs x y = append_assoc xs (x ∷ []) (y ∷ [])
 
 -- ---- full names
 
--- what a message's scope is
+-- the scope of a message
 record MessageScope (F : Joined) (i : ℕ) (s : List (List ℕ)) : Type 0 where
   pub decl : MessageDecl
   pub outer : List (List ℕ)
@@ -57,14 +57,14 @@ record MessageScope (F : Joined) (i : ℕ) (s : List (List ℕ)) : Type 0 where
 message_scope : {F : Joined} {i : ℕ} {s : List (List ℕ)} → IsScope F (home.Message i) s → MessageScope F i s
 message_scope (of_message i m {outer} at up) = record { decl = m; outer = outer; at = at; up = up; is = refl }
 
--- what holds of numbers
+-- the laws of numbers
 pub record Laws (F : Joined) : Type 0 where
   pub scope : (s t : List (List ℕ)) (k : ℕ) → IsNumber F s k → IsNumber F t k → s ≡ t
   pub number : (s : List (List ℕ)) (k l : ℕ) → IsNumber F s k → IsNumber F s l → k ≡ l
   pub small : (s : List (List ℕ)) (k : ℕ) → IsNumber F s k → k < scope_count F
   pub place : (p : Home) (s t : List (List ℕ)) → IsScope F p s → IsScope F p t → s ≡ t
 
--- what is gathered
+-- the entries that are collected
 abbrev IsKept : Joined → Entry → Type 0
 IsKept F e = (OfSome F.messages (OfMessage F) e ⊎ OfSome F.enums (OfEnum F) e) ⊎ OfSome F.services (OfService F) e
 
@@ -97,7 +97,7 @@ keeps F none a b c empty p q r = record {
   ];
 }
 
--- what declarations stand in has numbers
+-- the scopes that enclose declarations have numbers
 pub record Numbered (F : Joined) : Type 0 where
   pub of_messages : HaveNumbers F (length F.messages) F.messages home_of
   pub own : HaveOwnNumbers F (length F.messages)
@@ -105,7 +105,7 @@ pub record Numbered (F : Joined) : Type 0 where
   pub of_services : HaveNumbers F (length F.services) F.services (λ s. home.File s.file)
 
 module _ (F : Joined) (es : List Entry) (laws : Laws F) (numbers : Numbered F) (kept : Keeps F es) where
-  -- ---- what is gathered is declared
+  -- ---- collected entries are declared
 
   data IsDeclared (e : Entry) : Type 0 where
     in_scope : (file : ℕ) (sort : Sort) (full : List (List ℕ)) → IsNumber F full e.scope
@@ -163,7 +163,7 @@ module _ (F : Joined) (es : List Entry) (laws : Laws F) (numbers : Numbered F) (
   declared e (inl (inr o)) = declared_enum o.place o.thing e o.at o.is
   declared e (inr o) = declared_service o.place o.thing e o.at o.is
 
-  -- ---- what is later in its scope stands twice
+  -- ---- an entry that is later in its scope is a duplicate
 
   twice : (d e : Entry) → d.scope ≡ e.scope → d.name ≡ e.name → d.span.start < e.span.start
       → IsDeclared d → IsDeclared e → IsTwice F e.span
@@ -191,7 +191,7 @@ module _ (F : Joined) (es : List Entry) (laws : Laws F) (numbers : Numbered F) (
   abbrev Later : ResolveReason → Span → Type 0
   Later = AtSome (OfElement es (IsLater es))
 
-  -- what is met
+  -- the violations that are recorded
   abbrev pub Noted : ResolveReason → Span → Type 0
   Noted q s =
       (Later q s ⊎ AtSome (OfElement F.messages (λ i m. IsPackageNamed F (home_of m) m.name)) q s)
@@ -221,9 +221,9 @@ module _ (F : Joined) (es : List Entry) (laws : Laws F) (numbers : Numbered F) (
         n.is.is.is,
       )
 
-  -- ---- what stands twice is met
+  -- ---- duplicates are recorded
 
-  -- what is declared is gathered, with the number of its scope
+  -- a declaration is collected, with the number of its scope
   record IsGathered (full : List (List ℕ)) (span : Span) : Type 0 where
     scope : List (List ℕ)
     name : List ℕ
@@ -275,7 +275,7 @@ module _ (F : Joined) (es : List Entry) (laws : Laws F) (numbers : Numbered F) (
         is = o;
       }))
 
-  -- the number of a place is that of its scope
+  -- the number of an enclosing file or message is that of its scope
   number_of : (place : Home) (scope : List (List ℕ)) (k : ℕ) → IsScope F place scope → HasNumber F place k
       → IsNumber F scope k
   number_of place scope k is h =
@@ -386,7 +386,7 @@ module _ (F : Joined) (es : List Entry) (laws : Laws F) (numbers : Numbered F) (
       (keep_service p.0 x (entry scope r.name) p.1 (Entries.rpc r d))
       (keep_service p.0 x (entry scope u.name) p.1 (Entries.rpc u e)) refl name l
 
-  -- a type that is a package, too
+  -- a type with the name of a package
   type_noted : (file : ℕ) (sort : Sort) (full : List (List ℕ)) (span : Span) → Declares F file sort full span
       → is_type sort ≡ true → IsFront F full → Noted DuplicateName span
   type_noted file sort full span (Scopes.message m {outer} c is) h front =

@@ -1,4 +1,4 @@
--- Entries that are gathered one behind another.
+-- Entries that are collected one after another.
 use Rattle.std.proofs.Common.{◌≡◌, ℕ, zero, suc, ◌+◌, ◌<◌, ◌⊎◌, inl, inr, List, [], ◌∷◌, ◌++◌, length, map, take}
 use Rattle.std.proofs.Common.{get_or, refl, sym, ap, ◌∙◌, subst, arith}
 use Rattle.std.specs.Prelude.{Some, slice_get, Contains}
@@ -54,7 +54,7 @@ contains_map f xs y c =
     let g = contains_get (map f xs) y c in
     map_from f xs g.0 y g.1
 
--- ---- one behind another
+-- ---- one after another
 
 pub adds_then : (P Q R : Entry → Type 0) (a b c : List Entry) → Adds P a b → Adds Q b c
     → ((e : Entry) → (P e ⊎ Q e) → R e) → ((e : Entry) → R e → P e ⊎ Q e) → Adds R a c
@@ -129,13 +129,13 @@ adds_map f xs a b is = record {
   ]);
 }
 
--- a name that was pushed
+-- a name that is pushed
 pub pushed : (ds es : List Declared) (d : Declared) (e : Entry) → es ≡ ds ++ d ∷ [] → entry_of d ≡ e
     → entries_of es ≡ entries_of ds ++ e ∷ []
 pushed ds es d e is same =
     ap entries_of is ∙ (map-append entry_of ds (d ∷ []) ∙ ap (λ (x : Entry). entries_of ds ++ x ∷ []) same)
 
--- the one number of a place
+-- the only number of an enclosing file or message
 abbrev pub IsTheNumber : Joined → Home → ℕ → Type 0
 IsTheNumber F place k = HasNumber F place k × ((j : ℕ) → HasNumber F place j → j ≡ k)
 

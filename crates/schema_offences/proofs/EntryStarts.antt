@@ -1,4 +1,4 @@
--- Where the names of entries start first.
+-- The first occurrences of the names of entries.
 use Rattle.std.proofs.Common.{◌≡◌, ℕ, ◌+◌, ◌<◌, ◌⊎◌, inl, inr, Bool, true, false, cond, List, [], ◌∷◌, ◌++◌, length}
 use Rattle.std.proofs.Common.{get_or, refl, sym, ap, ◌∙◌, subst, arith}
 use Rattle.std.specs.Prelude.{◌↔◌, Option, Some, slice_get}
@@ -24,7 +24,7 @@ use Rattle.schema_offences.specs.declared.names.Starts.{Starts}
 use Rattle.schema_offences.proofs.Meetings.{meets_when, meets_next}
 use Rattle.schema_offences.proofs.EntryLists.{mapped_get}
 
--- the same name in the same scope
+-- the two names and their scopes are equal
 abbrev same_child : ℕ → List ℕ → ℕ → List ℕ → Bool
 same_child scope name k other = is_eq (ordering_then (nat_cmp scope k) (slice_cmp nat_cmp name other))
 
@@ -138,13 +138,13 @@ module _ (old new : Starts) (es : List Entry) (d : Entry) (start : ℕ)
   pub starts_put : AreStarts (es ++ d ∷ []) new
   starts_put k name place = agrees k name (same_child d.scope d.name k name) refl place
 
--- ---- a name that starts earlier too
+-- ---- a name that also starts earlier
 
 module _ (names : List Declared) (starts : Starts) (known : AreStarts (entries_of names) starts) where
   abbrev Later : ℕ → Entry → ResolveReason → Span → Type 0
   Later = IsLater (entries_of names)
 
-  -- the next name was met
+  -- the next name is checked
   pub meets_later : (i : ℕ) (d : Declared) (later : Bool) (a b c : First) → i < length names
       → ((later ≡ true)
       ↔ IsBefore (start_in starts (get_or names i d).scope (get_or names i d).name.now) (get_or names i d).span.start)

@@ -1,4 +1,4 @@
--- What a field's types and its label make of it.
+-- The shape of a field, by its types and its label.
 use Rattle.std.proofs.Common.{◌≡◌, ◌≢◌, ℕ, Bool, true, false, List, ◌++◌, refl, sym, ap, subst}
 use Rattle.std.specs.Prelude.{Option, Some, None, not, codes}
 use Rattle.std.specs.Option.{is_some}
@@ -44,7 +44,7 @@ is_misplaced_at : (f : FieldDecl) (key value : Word) (oneof : Option ℕ) → f.
 is_misplaced_at f key value None e h t = absurd cc
 is_misplaced_at f key value (Some o) e h t = Members.in_oneof key value o e h
 
--- a map that has no label is misplaced where it is in a oneof
+-- a map without a label is misplaced if it is in a oneof
 pub misplaced_in_oneof : (f : FieldDecl) (key value : Word) → f.kind ≡ Map key value
     → is_some f.oneof ≡ true → IsMisplaced f
 misplaced_in_oneof f key value e t = is_misplaced_at f key value f.oneof e refl t
@@ -74,7 +74,7 @@ map_oneof f key value e none = oneof_at f key value f.oneof e refl none
 
 -- ---- types
 
--- the word that a type has
+-- a type has a word
 pub record HasWord (F : Joined) (file : ℕ) (scope : List (List ℕ)) (w : Word) (t : TypeOf) : Type 0 where
   pub word : List ℕ
   pub of_type : IsWordOf F t word
@@ -101,7 +101,7 @@ no_type F file scope w word m p none unknown (Types.scalar k is) = none k is
 no_type F file scope w word m p none unknown (Types.message full s names) = unknown _ full names
 no_type F file scope w word m p none unknown (Types.enum full s names) = unknown _ full names
 
--- ---- forms
+-- ---- shapes
 
 module _ (F : Joined) (file : ℕ) (scope : List (List ℕ)) (f : FieldDecl) where
   pub no_single : (w : Word) → f.kind ≡ Named w → IsNoScalar w.name → NamesNothing F file scope w.name

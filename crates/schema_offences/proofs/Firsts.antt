@@ -1,4 +1,4 @@
--- What is kept after all was met is the first offence.
+-- The violation that is kept after all are recorded is the first one.
 use Rattle.std.proofs.Common.{◌≡◌, ◌⊎◌, inl, inr, refl, sym, ◌∙◌, subst}
 use Rattle.std.specs.Prelude.{Option, Some, None, slice_get}
 use Rattle.std.proofs.lemmas.Option.{same_Some, none-some}
@@ -46,7 +46,7 @@ meets_no_import F a b none is =
 nothing : First
 nothing = record { found = None }
 
--- what is the first offence was met
+-- the first violation is recorded
 met_at : (F : Joined) (a : First) (found : Option Offence) → a.found ≡ found → FirstIs F found
     → Meets (Offends F) nothing a
 unfolding nothing
@@ -77,7 +77,7 @@ file_first_at F a b (Some o) e none m = record {
   first = λ r t p. kept_is_first (IsOffence F) a b o m e r t p;
 }
 
--- the first offence of a file alone, once its first import was met
+-- the first violation of a file alone, after its first import is recorded
 pub file_first_is : (F : File) (a b : First) → FirstIs (alone F) a.found → Meets (ImportOffends F) a b
     → FirstOfFileIs F b.found
 unfolding nothing

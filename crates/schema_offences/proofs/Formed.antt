@@ -1,4 +1,4 @@
--- What holds of files that were read gives what their names want.
+-- The invariants of files that were read imply the preconditions of `schema_names`.
 use Rattle.std.proofs.Common.{◌≡◌, ℕ, ◌<◌, List, length, refl, ap, subst, arith}
 use Rattle.std.specs.Prelude.{Option, Some, None, slice_get, Contains}
 use Rattle.std.proofs.lemmas.List.Elements.{All-contains}
@@ -35,7 +35,7 @@ stand_behind F formed = record {
 at_contains : {X : Type 0} (xs : List X) (i : ℕ) (x : X) → slice_get xs i ≡ Some x → Contains xs x
 at_contains xs i x at = (i, slice_get_within xs i x at, get_or_from_slice_get xs i x x at)
 
--- the files of declarations are there
+-- the files of declarations exist
 pub message_file : (F : Joined) → IsFormed F → (i : ℕ) (m : MessageDecl) → slice_get F.messages i ≡ Some m
     → m.file < length F.heads
 message_file F formed i m at =
@@ -58,7 +58,7 @@ place_at : (F : Joined) (file : ℕ) (parent : Option ℕ) → file < length F.h
 place_at F file None here h = here
 place_at F file (Some p) here h = h p refl
 
--- what messages and enums stand in is there
+-- the file or message that encloses a message or an enum exists
 pub message_place : (F : Joined) → StandBehind F → (i : ℕ) (m : MessageDecl) → slice_get F.messages i ≡ Some m
     → IsPlace F (home_of m)
 message_place F behind i m at =
@@ -102,7 +102,7 @@ apart_types F order a b f g s t (Numbers.enum i m at h) (Numbers.enum j n bt k) 
 pub start_apart : (F : Joined) → IsOrdered F → StartApart F
 start_apart F order = record { apart = apart_types F order }
 
--- what an answer means for an rpc's type
+-- what the result of a look-up means for an rpc's type
 pub message_some : (F : Joined) (file : ℕ) (name : List ℕ) (o : Option Named) (i : ℕ) → o ≡ Some (Message i)
     → IsAnswer F file (package_at F file) name o
     → (full : List (List ℕ)) × Names F file (package_at F file) name a_message full × IsFirstAt F file (Message i) full

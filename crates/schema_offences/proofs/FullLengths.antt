@@ -1,4 +1,4 @@
--- How long full names are.
+-- The lengths of full names.
 use Rattle.std.proofs.Common.{◌≡◌, ℕ, ◌+◌, ◌<◌, ◌≤◌, inl, inr, List, [], ◌∷◌, ◌++◌, length, get_or, refl, sym, ap, ◌∙◌, arith, length-append}
 use Rattle.std.specs.Prelude.{◌==◌, map, Option, Some, None, slice_get, Contains}
 use Rattle.std.proofs.lemmas.Bool.{cases_lt}
@@ -30,7 +30,7 @@ use Rattle.schema_offences.proofs.EntryLists.{mapped_get}
 
 -- ---- numbers
 
--- a sum of a length that is cut off is cut off alike
+-- capping a length before an addition doesn't change the capped sum
 pub cut_sum : (a b c : ℕ) → a ≡ capped b → capped (a + c) ≡ capped (b + c)
 cut_sum a b c e = omega arith
 
@@ -65,7 +65,7 @@ package_length w =
 pub contains_at : {X : Type 0} (xs : List X) (i : ℕ) (x : X) → slice_get xs i ≡ Some x → Contains xs x
 contains_at xs i x at = (i, slice_get_within xs i x at, get_or_from_slice_get xs i x x at)
 
--- the length that is kept of a package and its dot
+-- the stored length of a package and its dot
 front_at : (F : Joined) (kept : Lengths) (k : ℕ)
     → kept.fronts.items ≡ map (λ h. capped (front_length (package_parts h.package))) F.heads
     → k < length kept.fronts.items
@@ -99,7 +99,7 @@ full_is F messages enums kept (home.Message i) w k here (Scopes.of_message place
     cut_sum (get_or kept.messages.items i 0) (length (text_of full)) (1 + length w.name) known in
     omega arith
 
--- ---- places
+-- ---- indices
 
 module _ (F : Joined) (messages enums : ℕ) (kept : Lengths) (k : KeepsLengths F messages enums kept) where
   pub file_kept : (file : ℕ) → file < length F.heads → IsKeptHome kept (home.File file)
@@ -130,7 +130,7 @@ module _ (F : Joined) (messages enums : ℕ) (kept : Lengths) (k : KeepsLengths 
       let b : p < length F.messages = (stand_behind F formed).enums x p (contains_at F.enums i x at) e in
       omega arith)
 
--- ---- lengths that are kept
+-- ---- stored lengths
 
 at_end : (xs : List ℕ) (x j : ℕ) → j ≡ length xs → get_or (xs ++ x ∷ []) j 0 ≡ x
 at_end xs x j e = ap (λ (i : ℕ). get_or (xs ++ x ∷ []) i 0) e ∙ get_or-append_seam xs x [] 0

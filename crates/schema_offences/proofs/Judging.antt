@@ -1,4 +1,4 @@
--- What stands against a message, an enum or a method is what its judges meet one behind another.
+-- The violations of a message, an enum or a method are those that its checks record one after another.
 use Rattle.std.proofs.Common.{◌≡◌, ℕ, ◌≤◌, ◌⊎◌, inl, inr, List, subst}
 use Rattle.mrpc_table.specs.declared.limits.TheConstants.{MAX_MESSAGES, MAX_ENUMS, MAX_METHODS, MAX_FIELDS, MAX_VALUES}
 use Rattle.proto_file.specs.declared.file.Span.{Span}

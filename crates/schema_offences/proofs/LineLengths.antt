@@ -1,4 +1,4 @@
--- How long the lines of names are.
+-- The lengths of the lines of names.
 use Rattle.std.proofs.Common.{◌≡◌, ℕ, ◌+◌, ◌-◌, ◌^◌, ◌<◌, List, [], ◌∷◌, ◌++◌, length, get_or, sym, ap, ◌∙◌, subst, arith, length-append}
 use Rattle.std.specs.Prelude.{min, pos, codes, map, Option, Some, None, slice_get, MatchOption, FitsSigned}
 use Rattle.std.specs.Int.{w32}
@@ -70,7 +70,7 @@ six_words a b c d e f =
       length-append (join_with_byte 32 (a ∷ b ∷ c ∷ d ∷ e ∷ f ∷ [])) (10 ∷ []),
     )
 
--- ---- cut sums
+-- ---- capped sums
 
 cut_three : (front label word name l t r : ℕ) → l ≡ capped label → capped t ≡ capped word
     → r ≡ capped (capped (capped (front + l) + t) + name)
@@ -83,7 +83,7 @@ cut_four : (front full name input output l i o r : ℕ) → l ≡ capped full �
     → r ≡ capped (front + full + name + input + output)
 cut_four front full name input output l i o r a b d e = omega arith
 
--- the sums as the code makes them
+-- the sums as the code computes them
 pub sums_three : (d digits l t len n a b c : ℕ) → digits ≡ d → len ≡ n → a ≡ min ((10 + digits) + l) (2 ^ 64 - 1)
     → b ≡ min (a + t) (2 ^ 64 - 1) → c ≡ min (b + len) (2 ^ 64 - 1)
     → c ≡ capped (capped (capped ((10 + d) + l) + t) + n)

@@ -1,4 +1,4 @@
--- The lines of names as they are added one behind another.
+-- The lines of names, added one after another.
 use Rattle.std.proofs.Common.{◌≡◌, ◌≢◌, ℕ, ◌+◌, ◌<◌, ◌≤◌, ◌⊎◌, inl, inr, List, [], ◌∷◌, ◌++◌, zero, suc, length, refl}
 use Rattle.std.proofs.Common.{sym, ap, ◌∙◌, subst, arith}
 use Rattle.std.specs.Prelude.{Option, Some, None, slice_get, Contains}
@@ -20,7 +20,7 @@ use Rattle.schema_offences.specs.Lengths.{LineAt, IsLineOf, IsLengthAt, added, c
 
 -- ---- declarations with lines
 
--- the declaration of a class, a place and a part
+-- the declaration with a class, an index and a part
 decl_of : ℕ → ℕ → ℕ → Declaration
 decl_of zero i zero = message_decl i
 decl_of zero i (suc j) = field_decl i j
@@ -37,7 +37,7 @@ back F d s text (Lengths.of_enum i e at is) = refl
 back F d s text (Lengths.of_value i j e v at vat fits) = refl
 back F d s text (Lengths.of_method i j n x r at rat e a b) = refl
 
--- a declaration that is known by its class, its place and its part
+-- a declaration that its class, index and part determine
 pub data IsOwn : Declaration → Type 0 where
   own_message : (i : ℕ) → IsOwn (message_decl i)
   own_field : (i j : ℕ) → IsOwn (field_decl i j)
@@ -62,7 +62,7 @@ same_decl F d e s text own at c p q =
     ∙ ap (λ (n : ℕ). decl_of (class_of d) (place_of d) n) q
     ∙ own_back d own
 
--- the name of a line stands in the text
+-- the name of a line is in the text
 pub line_stands : (F : Joined) (d : Declaration) (s : Span) (text : List ℕ) → LineAt F d s text
     → StandsAt F s d its_name
 line_stands F d s text (Lengths.of_message i m at is) = Together.message i m at refl
@@ -143,7 +143,7 @@ before_class c i d (inr p) = elim p.1 [
   | inr q ↦ absurd (let l : part_of d < 0 = q.1 in omega arith)
 ]
 
--- ---- names apart
+-- ---- distinct names
 
 none_in : {X : Type 0} (x : X) → Contains [] x → ⊥
 none_in x c = let l : c.0 < 0 = c.1 in omega arith
@@ -165,10 +165,10 @@ apart_push (z ∷ zs) x a h = (
   apart_push zs x a.1 (λ y c. h y (later z y zs c)),
 )
 
--- ---- lines that were added
+-- ---- added lines
 
 module _ (F : Joined) (c i j : ℕ) (lines : List (Span × ℕ)) where
-  -- the same lines up to another declaration
+  -- these are the lines up to another declaration, too
   covers_as : (a b e : ℕ) → Covers F c i j lines → ((d : Declaration) → IsBefore c i j d → IsBefore a b e d)
       → ((d : Declaration) (s : Span) (text : List ℕ) → LineAt F d s text → IsBefore a b e d → IsBefore c i j d)
       → Covers F a b e lines

@@ -1,4 +1,4 @@
--- A name has one line.
+-- A name has at most one line.
 use Rattle.std.proofs.Common.{◌≡◌, ℕ, Bool, List, [], ◌∷◌, ◌++◌, refl, sym, ap, ◌∙◌, subst}
 use Rattle.std.specs.Prelude.{Some, pos, codes, map, slice_get}
 use Rattle.std.specs.Fmt.{decimal}
@@ -28,7 +28,7 @@ use Rattle.schema_offences.specs.Lengths
 use Rattle.schema_offences.specs.Lengths.{LineAt}
 use Rattle.schema_offences.proofs.Scalars.{scalar_one}
 
--- ---- types and forms
+-- ---- types and shapes
 
 module _ (F : Joined) (apart : StartApart F)
     (scopes : (G : Joined) (place : Home) (s t : List (List ℕ)) → IsScope G place s → IsScope G place t → s ≡ t)

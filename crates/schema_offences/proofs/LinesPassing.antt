@@ -1,4 +1,4 @@
--- The lines of an ordered file that pass the limit of a table's text.
+-- The lines of an ordered file that exceed the limit of a table's text.
 use Rattle.std.proofs.Common.{◌≡◌, ◌≢◌, ℕ, ◌+◌, ◌-◌, ◌^◌, ◌<◌, ◌≤◌, ◌⊎◌, inl, inr, Bool, false, eqb, List, [], ◌∷◌}
 use Rattle.std.proofs.Common.{◌++◌, zero, suc, length, get_or, take, refl, sym, ap, ◌∙◌, subst, arith, length-append}
 use Rattle.std.specs.Prelude.{Option, Some, option_map, map, sum_by, slice_get, All, Contains, min}
@@ -140,7 +140,7 @@ every_before F d s text (Lengths.of_enum i e at is) = inl (omega arith)
 every_before F d s text (Lengths.of_value i j e v at vat fits) = inl (omega arith)
 every_before F d s text (Lengths.of_method i j n x r at rat e a b) = inl (omega arith)
 
--- ---- starts that rise
+-- ---- ascending starts
 
 abbrev pub Rise : List (Span × ℕ) → Type 0
 Rise xs = (i j : ℕ) (d : Span × ℕ) → i < j → j < length xs → (get_or xs i d).0.start < (get_or xs j d).0.start
@@ -260,7 +260,7 @@ module _ (F : Joined) where
 
 -- ---- sums of lines
 
--- a later line starts behind
+-- a later line starts later
 ascends_all : (l : Span × List ℕ) (ls : List (Span × List ℕ)) → Ascends (λ a b. a.0.start < b.0.start) (l ∷ ls)
     → (m : Span × List ℕ) → Contains ls m → l.0.start < m.0.start
 ascends_all l [] a m c = absurd (let k : c.0 < 0 = c.1 in omega arith)
@@ -275,11 +275,11 @@ ascends_tail : (l : Span × List ℕ) (ls : List (Span × List ℕ)) → Ascends
 ascends_tail l [] a = tt
 ascends_tail l (x ∷ ls) a = a.1
 
--- a name with the length of a line, which is cut off
+-- a name with the capped length of its line
 abbrev cut : Span × List ℕ → Span × ℕ
 cut l = (l.0, capped (length l.1))
 
--- what stands behind the first name isn't the first
+-- an element that starts after the first one isn't the first
 behind_first : (x : Span × ℕ) (xs : List (Span × ℕ)) (y : Span × ℕ) → x.0.start < y.0.start → Contains (x ∷ xs) y
     → Contains xs y
 behind_first x xs y l (zero, k, e) =
@@ -345,7 +345,7 @@ all_covered (x ∷ xs) (l ∷ ls) r a among =
           omega (arith, sum, rest)
     ]
 
--- ---- the offence of a long text
+-- ---- the violation of a long text
 
 module _ (F : Joined) (lines ys : List (Span × ℕ)) (v : CoversAll F lines) (p : IsPermutation lines ys)
     (up : IsNonDecreasingBy {X = Span × ℕ} (λ x. x.0.start) ys)

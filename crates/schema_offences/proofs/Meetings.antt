@@ -1,4 +1,4 @@
--- The first of the offences that were met.
+-- The first of the recorded violations.
 use Rattle.std.proofs.Common.{◌≡◌, ℕ, ◌+◌, ◌<◌, ◌≤◌, ◌⊎◌, inl, inr, Bool, true, false, cond, List, length, get_or}
 use Rattle.std.proofs.Common.{leb, leb-true, le-leb, refl, sym, ap, ◌∙◌, subst, arith}
 use Rattle.std.specs.Prelude.{Option, Some, None, slice_get}
@@ -47,7 +47,7 @@ at_false : {X : Type 0} (b : Bool) (x y z : X) → b ≡ false → z ≡ cond b 
 at_false true x y z e h = absurd (false≢true (sym e))
 at_false false x y z e h = h
 
--- ---- what is kept
+-- ---- the kept violation
 
 pub kept_trans : (found : Option Offence) (q r : ResolveReason) (s t : Span) → IsKeptBefore found q s
     → ComesFirst q s r t
@@ -69,7 +69,7 @@ pub kept_later : (P : ResolveReason → Span → Type 0) (a b : First) (q : Reso
     → IsKeptBefore a.found q s → IsKeptBefore b.found q s
 kept_later P a b q s m k = kept_later_at P a b q s a.found refl m k
 
--- ---- meetings
+-- ---- recorded violations
 
 noted_one : (found : Option Offence) (o : Offence) → (found ≡ Some (first_of found o)) ⊎ (first_of found o ≡ o)
 noted_one None o = inr refl
@@ -101,7 +101,7 @@ noted_old (Some f) o p e =
           (sym (at_false (comes_before o f) o f (first_of (Some f) o) h refl)) (comes_same f.reason f.span)
     ])
 
--- one offence was noted
+-- one violation is recorded
 pub meets_noted : (reason : ResolveReason) (span : Span) (a b : First)
     → b.found ≡ Some (first_of a.found (record { reason = reason; span = span })) → Meets (Is reason span) a b
 meets_noted reason span a b is =
@@ -144,7 +144,7 @@ meets_then P Q a b c m n = record {
   before = λ o e. kept_later Q b c o.reason o.span n (m.before o e);
 }
 
--- the same offences under another name
+-- the same violations under another name
 pub meets_as : (P Q : ResolveReason → Span → Type 0) (a b : First) → Meets P a b
     → ((q : ResolveReason) (s : Span) → P q s → Q q s) → ((q : ResolveReason) (s : Span) → Q q s → P q s)
     → Meets Q a b
@@ -154,7 +154,7 @@ meets_as P Q a b m to from = record {
   before = m.before;
 }
 
--- nothing was noted
+-- nothing is recorded
 pub meets_kept : (P : ResolveReason → Span → Type 0) (a b : First) → ((q : ResolveReason) (s : Span) → P q s → ⊥)
     → b.found ≡ a.found → Meets P a b
 meets_kept P a b none e = record {
@@ -172,13 +172,13 @@ where_at holds true reason span a b e is =
 where_at holds false reason span a b e is =
     meets_kept (IsWhere holds reason span) a b (λ q s p. absurd (false≢true (sym e ∙ p.0))) is
 
--- one offence was noted where a test holds
+-- one violation is recorded if a test holds
 pub meets_where : (holds : Bool) (reason : ResolveReason) (span : Span) (a b : First)
     → b.found ≡ cond holds (Some (first_of a.found (record { reason = reason; span = span }))) a.found
     → Meets (IsWhere holds reason span) a b
 meets_where holds reason span a b is = where_at holds holds reason span a b refl is
 
--- the same where the test decides something
+-- one is recorded if a test holds that decides P
 pub meets_when : (P : Type 0) (holds : Bool) (reason : ResolveReason) (span : Span) (a b : First)
     → (holds ≡ true → P) → (P → holds ≡ true)
     → b.found ≡ cond holds (Some (first_of a.found (record { reason = reason; span = span }))) a.found
@@ -187,14 +187,14 @@ meets_when P holds reason span a b to from is =
     meets_as (IsWhere holds reason span) (λ q s. P × Is reason span q s) a b (meets_where holds reason span a b is)
     (λ q s p. (to p.0, p.1)) (λ q s p. (from p.0, p.1))
 
--- the same where the test is of a place against a limit
+-- one is recorded if a number is at least a limit
 pub meets_least : (limit n : ℕ) (reason : ResolveReason) (span : Span) (a b : First)
     → b.found ≡ cond (leb limit n) (Some (first_of a.found (record { reason = reason; span = span }))) a.found
     → Meets (λ q s. (limit ≤ n) × Is reason span q s) a b
 meets_least limit n reason span a b is =
     meets_when (limit ≤ n) (leb limit n) reason span a b (leb-true limit n) (le-leb limit n) is
 
--- ---- a loop's start and step
+-- ---- the start and the step of a loop
 
 pub meets_start : (P : ℕ → ResolveReason → Span → Type 0) (a : First) → Meets (OfFirst 0 P) a a
 meets_start P a = meets_none (OfFirst 0 P) a (λ q s p. let l : p.place < 0 = p.below in omega arith)
@@ -249,7 +249,7 @@ meets_elements xs R n a b e m =
     meets_all (OfElement xs R) n a b
     (λ i q s o. let l : i < length xs = slice_get_within xs i o.element o.at in omega arith) m
 
--- a loop's step over the elements
+-- the step of a loop over the elements
 pub meets_next : {X : Type 0} (xs : List X) (R : ℕ → X → ResolveReason → Span → Type 0) (i : ℕ) (x : X) (a b c : First)
     → slice_get xs i ≡ Some x → Meets (OfFirst i (OfElement xs R)) a b → Meets (R i x) b c
     → Meets (OfFirst (i + 1) (OfElement xs R)) a c
@@ -257,7 +257,7 @@ meets_next xs R i x a b c at m n = meets_more (OfElement xs R) i a b c m (meets_
 
 -- ---- the end
 
--- what is kept after all were met that there are
+-- what is kept after all of them are recorded is one of them
 pub kept_is_one : (P : ResolveReason → Span → Type 0) (a b : First) (o : Offence) → a.found ≡ None → Meets P a b
     → b.found ≡ Some o → P o.reason o.span
 kept_is_one P a b o none m e = elim (m.one o e) [ inl x ↦ absurd cc | inr x ↦ x ]

@@ -1,4 +1,4 @@
--- What stands against the numbers of fields and values is what their judges meet.
+-- The violations of the numbers of fields and values are those that their checks record.
 use Rattle.std.proofs.Common.{◌≡◌, ◌≢◌, ℕ, ◌+◌, ◌^◌, ◌<◌, ◌⊎◌, inl, inr, Bool, true, false, not, ◌||◌, List, []}
 use Rattle.std.proofs.Common.{length, refl, sym, ap, ◌∙◌, eqb-true, subst, arith}
 use Rattle.std.specs.Prelude.{ℤ, pos, ◌==◌, Some, is_some, slice_get, FitsSigned}
@@ -24,9 +24,9 @@ use Rattle.schema_offences.specs.declared.reason.ResolveReason.{ResolveReason}
 use Rattle.schema_offences.specs.declared.reason.ResolveReason.TheVariants.{NumberRange, DuplicateNumber, Reserved, FirstEnum}
 use Rattle.schema_offences.proofs.Places.{number_same, place_same}
 
--- ---- the numbers that were met
+-- ---- the numbers that were seen
 
--- the places of the numbers of the first n fields were met, and no others
+-- the positions of the numbers of the first n fields were seen, and no others
 pub record HaveMet (fields : List FieldDecl) (n : ℕ) (met : BTreeMap ℕ (Unit {0})) : Type 0 where
   pub sound : (p : ℕ) → has_met met p ≡ true
       → (j : ℕ) × (j < n) × ((g : FieldDecl) × (slice_get fields j ≡ Some g) × IsPlaceOf p (value_of g.number))
@@ -116,7 +116,7 @@ module _ (m : MessageDecl) (i place : ℕ) (f : FieldDecl) (met : BTreeMap ℕ (
 
 -- ---- values
 
--- the place of 0
+-- the position of 0
 place_zero : (p : ℕ) (v : ℤ) → IsPlaceOf p v → v ≡ pos 0 → p ≡ 2 ^ 64
 place_zero p v is z = omega (arith, ints)
 
@@ -165,7 +165,7 @@ module _ (e : EnumDecl) (i : ℕ) (v : ValueDecl) (is_reserved is_first : Bool) 
       one
       (first z, p, here))
 
--- ---- places within their lists
+-- ---- indices within their lists
 
 pub number_within : (m : MessageDecl) (i : ℕ) (q : ResolveReason) (s : Span) → NumberOffends m i q s
     → i < length m.fields

@@ -1,4 +1,4 @@
--- Ranges of numbers by the places of their ends.
+-- Ranges of numbers by the positions of their ends.
 use Rattle.std.proofs.Common.{◌≡◌, ℕ, ◌+◌, ◌-◌, ◌^◌, ◌<◌, ◌≤◌, ◌⊎◌, inl, inr, List, [], ◌∷◌, ◌++◌, zero, suc, length}
 use Rattle.std.proofs.Common.{get_or, take, drop, append_assoc, append-nil, refl, sym, ap, ◌∙◌, subst, arith}
 use Rattle.std.specs.Prelude.{max, ℤ, ◌≤ℤ◌, Option, Some, None, IfSome, Contains}
@@ -17,7 +17,7 @@ use Rattle.schema_offences.specs.Members.{IsReserved}
 use Rattle.schema_offences.specs.Ranges.{IsPlaceOf, IsLastPlace, IsInSome, reach_from, AreSortedEnds, KeepsRanges}
 use Rattle.schema_offences.specs.declared.numbers.Reserved.{Reserved}
 
--- ---- places and numbers
+-- ---- positions and numbers
 
 pub place_le : (p q : ℕ) (m n : ℤ) → IsPlaceOf p m → IsPlaceOf q n → m ≤ℤ n → p ≤ q
 place_le p q m n a b l = omega (arith, ints)
@@ -41,7 +41,7 @@ last_from : (last : Option Number) (q place : ℕ) (n : ℤ) → IsLastPlace las
 last_from None q place n e p l = tt
 last_from (Some m) q place n e p l = number_le place q n (value_of m) p e l
 
--- ---- ends that reach out
+-- ---- extended ends
 
 at_place : (xs : List (ℕ × ℕ)) (x : ℕ × ℕ) (c : Contains xs x) (d : ℕ × ℕ) → get_or xs c.0 d ≡ x
 at_place xs x c d = get_or_default xs c.0 d x c.1 ∙ c.2
@@ -187,7 +187,7 @@ module _ (ranges : List Range) (old : List (ℕ × ℕ)) (kept : Reserved) (s : 
 
 -- ---- a search among them
 
--- the place where those that begin behind it begin decides
+-- the number of ranges that start at or below the position decides
 pub found_in : (ends : List (ℕ × ℕ)) (low place : ℕ) → IsNonDecreasingBy {X = ℕ × ℕ} (λ e. e.1) ends
     → low ≤ length ends → ((k : ℕ) (d : ℕ × ℕ) → low ≤ k → k < length ends → place < (get_or ends k d).0)
     → IsInSome ends place → (0 < low) × (place ≤ (get_or ends (low - 1) (0, 0)).1)
@@ -239,14 +239,14 @@ module _ (ranges : List Range) (kept : Reserved) (ends : List (ℕ × ℕ)) (low
         subst (λ (es : List (ℕ × ℕ)). IsInSome es place) (sym same) (keeps.all_in place n is small reserved) in
         found_in ends low place lasts within (λ k d l h. search_parts.1 k d l h) some
 
-    -- what is found is reserved
+    -- a number that the search finds is reserved
     pub search_found : 0 < low → place ≤ (get_or ends (low - 1) (0, 0)).1 → IsReserved ranges n
     search_found some reaches =
         keeps.none_else place n is
         (subst (λ (es : List (ℕ × ℕ)). IsInSome es place) same
         (in_some ends low place some within (λ k d h. search_parts.0 k d (omega arith) h) reaches))
 
--- ---- ends as they are reached
+-- ---- ends as they are extended
 
 pub reach_more : (sorted out new : List (ℕ × ℕ)) (i least high : ℕ) (d : ℕ × ℕ) → i < length sorted
     → high ≡ max least (get_or sorted i d).1 → new ≡ out ++ ((get_or sorted i d).0, high) ∷ []
@@ -293,7 +293,7 @@ those_more R xs ys i x y l e r those =
       ];
     })
 
--- the same, for the element itself
+-- one more pair, given the element itself
 pub those_next : {X Y : Type 0} (R : X → Y → Type 0) (xs : List X) (ys : List Y) (i : ℕ) (d : X) (y : Y)
     → i < length xs → R (get_or xs i d) y → AreThose R (take i xs) ys
     → AreThose R (take (i + 1) xs) (ys ++ y ∷ [])

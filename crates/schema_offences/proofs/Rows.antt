@@ -1,4 +1,4 @@
--- Small files with an offence of each reason, alone and resolved together, and files of which nothing is said.
+-- Small files with a violation for each reason, alone and resolved together, and files without a violation.
 use Rattle.std.proofs.Common.{◌≡◌, ℕ, zero, suc, ◌<◌, ◌≤◌, true, false, List, [], ◌∷◌, ◌++◌, length, codes, inr, refl}
 use Rattle.std.proofs.Common.{sym, ap, ◌∙◌, subst, arith, length-append}
 use Rattle.std.specs.Prelude.{Option, Some, None, Contains, slice_get, pos}
@@ -51,12 +51,12 @@ word name n = record { name = name; span = at n }
 abbrev number : ℕ → ℕ → Number
 number k n = record { negative = false; value = Small k; span = at n }
 
--- a field: its type, its name with its place, its number with its place
+-- a field: its type, its name and the name's offset, its number and the number's offset
 abbrev field : FieldType → List ℕ → ℕ → ℕ → ℕ → FieldDecl
 field type name n k l =
     record { name = word name n; number = number k l; kind = type; label = Plain; oneof = None; packed = None }
 
--- a message whose name stands at 1
+-- a message whose name starts at offset 1
 abbrev message_with : List ℕ → List FieldDecl → List Word → MessageDecl
 message_with name fields names =
     record { name = word name 1; file = 0; parent = None; fields = fields; oneofs = []; ranges = []; names = names }
@@ -68,14 +68,14 @@ file_of messages enums services imports =
 abbrev of_one : MessageDecl → File
 of_one m = file_of (m ∷ []) [] [] []
 
--- what stands against the one message of a file
+-- the violations of the only message of a file
 in_one : (m : MessageDecl) (q : ResolveReason) (s : Span) → home_of m ≡ home.File 0
     → MessageOffends (alone (of_one m)) m.file (m.name.name ∷ []) 0 m q s → IsOffence (of_one m) q s
 in_one m q s e o =
     offends (Offences.of_message 0 m refl (in_message 0 m refl
     (subst (λ (p : Home). IsScope (alone (of_one m)) p []) (sym e) (of_file 0))) o)
 
--- ---- one offence of each reason
+-- ---- one violation for each reason
 
 nothing_in : {X : Type 0} (x : X) → Contains [] x → ⊥
 nothing_in x c = let l : c.0 < 0 = c.1 in omega arith
@@ -224,7 +224,7 @@ message_at file name n = record {
   names = [];
 }
 
--- message A {} in one file, message A {} in the other: the later one is the offence
+-- message A {} in one file, message A {} in the other: the later one is the violation
 later_row : Offends (two_files None None (message_at 0 (codes "A") 1 ∷ message_at 1 (codes "A") 11 ∷ []) [])
     DuplicateName (at 11)
 later_row =
@@ -232,7 +232,7 @@ later_row =
     (Offences.declared 0 1 a_message a_message (codes "A" ∷ []) (at 1) (message _ (0, omega arith, refl) (of_file 0))
     (message _ (1, omega arith, refl) (of_file 1)) (omega arith)) (refl, refl)
 
--- the same in two packages of one name
+-- message A {} in both files, in packages with equal names: the later one is the violation
 same_package_row : Offends (two_files (Some (word (codes "p") 0)) (Some (word (codes "p") 10))
     (message_at 0 (codes "A") 1 ∷ message_at 1 (codes "A") 11 ∷ []) []) DuplicateName (at 11)
 same_package_row =
@@ -249,7 +249,7 @@ package_row =
     (Offences.a_package 0 a_message (codes "p" ∷ []) (message _ (0, omega arith, refl) (of_file 0)) refl
     (record { file = 1; rest = []; begins = refl })) (refl, refl)
 
--- the same where the other file has package p.q
+-- message p {} in a file without a package, the other file has package p.q
 front_row : Offends (two_files None (Some (word (codes "p.q") 10)) (message_at 0 (codes "p") 1 ∷ []) []) DuplicateName
     (at 1)
 front_row =
@@ -257,7 +257,7 @@ front_row =
     (Offences.a_package 0 a_message (codes "p" ∷ []) (message _ (0, omega arith, refl) (of_file 0)) refl
     (record { file = 1; rest = codes "q" ∷ []; begins = refl })) (refl, refl)
 
--- service S { rpc R (X) returns (X); rpc R (X) returns (X); }: the later one is the offence
+-- service S { rpc R (X) returns (X); rpc R (X) returns (X); }: the later one is the violation
 abbrev later_rpc : RpcDecl
 later_rpc = record { name = word (codes "R") 5; input = word (codes "X") 6; output = word (codes "X") 7 }
 
@@ -282,7 +282,7 @@ in_one_of x y c = let p = contains_get (x ∷ []) y c in only_one x y p.0 p.1
 file_scope : {F : Joined} {k : ℕ} {s : List (List ℕ)} → IsScope F (home.File k) s → s ≡ package_at F k
 file_scope (of_file k) = refl
 
--- package p; service S { rpc R (X) returns (X); } and package p.S; message R {}: neither is declared twice
+-- package p; service S { rpc R (X) returns (X); } and package p.S; message R {}: neither is a duplicate
 abbrev r_of_package_s : MessageDecl
 r_of_package_s = message_at 1 (codes "R") 11
 
@@ -353,7 +353,7 @@ service_row s (Offences.declared j k a b full earlier d e l) = apart_here (decla
 service_row s (Offences.a_package k sort full d t front) = no_front (declared_these d) t front
 service_row s (Offences.two_rpcs x r u c d e name l is) = one_rpc x r u (in_one_of a_service x c) d e l
 
--- ---- whole answers: a file of which nothing but imports is said
+-- ---- complete results: a file whose only violation is an import
 
 no_declaration : (imports : List Import) (file : ℕ) (sort : Sort) (full : List (List ℕ)) (s : Span)
     → Declares (alone (file_of [] [] [] imports)) file sort full s → ⊥
@@ -424,7 +424,7 @@ import_first = record {
   first = λ r t o. import_comes r t o;
 }
 
--- ---- whole answers: service p {} in a file without a package, the other file has package p
+-- ---- complete results: service p {} in a file without a package, the other file has package p
 
 abbrev service_p : ServiceDecl
 service_p = record { name = word (codes "p") 1; file = 0; rpcs = [] }

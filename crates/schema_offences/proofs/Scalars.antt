@@ -1,4 +1,4 @@
--- The look-up of a scalar's name is the definition.
+-- The look-up of a scalar's name agrees with the definition.
 use Rattle.std.proofs.Common.{◌≡◌, true, false, ℕ, List, refl, sym, ◌∙◌, subst}
 use Rattle.std.specs.Prelude.{Some, None}
 use Rattle.std.proofs.lemmas.Bool.{false≢true}
@@ -36,6 +36,6 @@ scalar_found name k s = subst (λ (n : List ℕ). scalar_of n ≡ Some k) s.name
 pub no_scalar : (name : List ℕ) → scalar_of name ≡ None → IsNoScalar name
 no_scalar name e k s = none-some k (sym e ∙ scalar_found name k s)
 
--- one scalar has a name
+-- at most one scalar has a name
 pub scalar_one : (name : List ℕ) (j k : Kind) → IsScalar name j → IsScalar name k → j ≡ k
 scalar_one name j k a b = same_Some j k (sym (scalar_found name j a) ∙ scalar_found name k b)

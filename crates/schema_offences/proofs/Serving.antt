@@ -1,4 +1,4 @@
--- What stands against methods and packages is what their judges meet.
+-- The violations of methods and packages are those that their checks record.
 use Rattle.std.proofs.Common.{◌≡◌, ℕ, ◌+◌, ◌-◌, ◌^◌, ◌<◌, ◌≤◌, Bool, true, false, cond, not, List, [], ◌∷◌, ◌++◌}
 use Rattle.std.proofs.Common.{length, get_or, take, refl, sym, ap, ◌∙◌, subst, arith, length-append, append-nil}
 use Rattle.std.specs.Prelude.{min, Some, None, option_map, slice_get}
@@ -51,9 +51,9 @@ pub meets_no_package : (h : Head) (a b : First) → h.package ≡ None → b.fou
 meets_no_package h a b none is =
     meets_kept (PackageOffends h) a b (λ q s p. none-some p.name (sym none ∙ p.declared)) is
 
--- ---- methods by their places among all
+-- ---- methods by their index among all
 
--- how many methods the first services have
+-- the number of methods of the first services
 abbrev pub methods_of : List ServiceDecl → ℕ → ℕ
 methods_of services i = length (flat_map service_rpcs (take i services))
 
@@ -95,7 +95,7 @@ methods_more services i x at =
     length-append (flat_map service_rpcs (take i services)) (service_rpcs x ++ []) in
     omega arith
 
--- the place may stop at the largest number
+-- the index may be capped at the largest number
 counted_to : (F : Joined) (file : ℕ) (scope : List (List ℕ)) (n place : ℕ) (r : RpcDecl) → n ≡ min place (2 ^ 64 - 1)
     → (q : ResolveReason) (s : Span) → MethodOffends F file scope n r q s → MethodOffends F file scope place r q s
 counted_to F file scope n place r e q s (Members.too_many_methods p is) = Members.too_many_methods (omega arith) is

@@ -1,4 +1,4 @@
--- Each offence stands at a name or a number, so that of files in order there is one first offence.
+-- Every violation is at a name or a number, so files in order have at most one first violation.
 use Rattle.std.proofs.Common.{◌≡◌, ℕ, zero, suc, ◌≤◌, ◌⊎◌, inl, inr, List, [], ◌∷◌, ◌++◌, length, map, refl, sym, ap, ◌∙◌, subst, arith}
 use Rattle.std.specs.Prelude.{Some, slice_get, Contains}
 use Rattle.std.specs.List.{flat_map}
@@ -31,16 +31,16 @@ use Rattle.schema_offences.specs.declared.reason.ResolveReason.TheVariants.{Dupl
 use Rattle.schema_offences.specs.declared.reason.ResolveReason.TheVariants.{MapKey, MapPlace, Limit}
 use Rattle.schema_offences.specs.declared.reason.ResolveReason.TheVariants.{Import as HasImport}
 
--- a name or a number stands here
+-- a name or a number has this span
 abbrev Stands : Joined → Span → Type 0
 Stands F s = (x : Declaration) × (p : Part) × StandsAt F s x p
 
--- ---- places
+-- ---- indices
 
 placed : {X : Type 0} (xs : List X) (x : X) → Contains xs x → (i : ℕ) × (slice_get xs i ≡ Some x)
 placed xs x c = (c.0, slice_get_read xs (length xs) c.0 x refl c.1 (sym c.2))
 
--- an element of the pairs of one thing with its parts, or of what follows them
+-- an element of the pairs of an item with its parts, or of the elements after them
 mapped_or_later : (s : ServiceDecl) (rs : List RpcDecl) (later : List (ServiceDecl × RpcDecl)) (i : ℕ)
     (x : ServiceDecl) (r : RpcDecl) → slice_get (map (λ y. (s, y)) rs ++ later) i ≡ Some (x, r)
     → ((s ≡ x) × ((j : ℕ) × (slice_get rs j ≡ Some r))) ⊎ ((k : ℕ) × (slice_get later k ≡ Some (x, r)))
@@ -200,7 +200,7 @@ line_stands F s line (Lines.of_method x r i at a b) =
     let p = rpc_placed F.services i x r at in
     (rpc_decl p.0 p.1, its_name, Together.rpc p.0 p.1 x r p.2 p.3 (Order.rpc_name refl))
 
--- ---- offences
+-- ---- violations
 
 twice_stands : (F : Joined) (s : Span) → IsTwice F s → Stands F s
 twice_stands F s (Offences.declared j k a b full earlier d e l) = declared_stands F k b full s e
@@ -235,7 +235,7 @@ offends_stands F q s (Offences.twice span t is) = subst (Stands F) (sym is.1) (t
 offends_stands F q s (Offences.long_in_full span t is) = subst (Stands F) (sym is.1) (long_stands F span t)
 offends_stands F q s (Offences.long_text span t is) = subst (Stands F) (sym is.1) (text_stands F span t)
 
--- ---- one first offence
+-- ---- the first violation is unique
 
 -- the reason of a rank
 reason_of : ℕ → ResolveReason
@@ -276,7 +276,7 @@ one_start q r s t (inr a) (inr b) =
     let l : rank_of r ≤ rank_of q = b.1 in
     (a.0, omega arith)
 
--- of files in order two first offences are one
+-- two first violations of files in order are equal
 pub first_is_one : (F : Joined) (q r : ResolveReason) (s t : Span) → IsOrdered F → HasFirst F q s → HasFirst F r t
     → (q ≡ r) × (s ≡ t)
 first_is_one F q r s t order a b =

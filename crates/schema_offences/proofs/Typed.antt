@@ -1,4 +1,4 @@
--- What stands against the types of a field is what its judges meet.
+-- The violations of the types of a field are those that their checks record.
 use Rattle.std.proofs.Common.{◌≡◌, ℕ, ◌⊎◌, inl, inr, Bool, true, false, cond, not, List, refl, sym, subst}
 use Rattle.std.specs.Prelude.{Option, Some, is_some, MatchOption}
 use Rattle.mrpc_table.specs.Words.{is_key}
@@ -25,7 +25,7 @@ use Rattle.schema_offences.proofs.Scalars.{scalar_one}
 use Rattle.schema_offences.proofs.Meetings.{meets_noted, meets_where, meets_as}
 use Rattle.schema_offences.proofs.Unless.{meets_unless}
 
--- ---- a type that nothing has
+-- ---- an unknown type
 
 abbrev IsNone : Joined → ℕ → List (List ℕ) → Word → Type 0
 IsNone F file scope w = IsNoScalar w.name × NamesNothing F file scope w.name

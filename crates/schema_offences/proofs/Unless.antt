@@ -1,4 +1,4 @@
--- An offence that is noted unless an answer is there.
+-- A violation that is recorded if a result is missing.
 use Rattle.std.proofs.Common.{◌≡◌, Bool, true, false, cond, not, refl, subst}
 use Rattle.std.specs.Prelude.{Option, Some, None, is_some, IfSome, IfNone, MatchOption}
 use Rattle.proto_file.specs.declared.file.Span.{Span}
@@ -16,7 +16,7 @@ some_fails : {P : Type 0} (r : Bool) → true ≡ not r → r ≡ true → P
 some_fails true e t = absurd cc
 some_fails false e t = absurd cc
 
--- one offence was noted where there was no answer
+-- one violation is recorded if there is no result
 pub meets_unless : {X : Type 0} (P : Type 0) (Q : X → Type 0) (o : Option X) (missing : Bool) (reason : ResolveReason)
     (span : Span) (a b : First) → is_some o ≡ not missing → MatchOption o P Q → ((x : X) → o ≡ Some x → Q x → P → ⊥)
     → b.found ≡ cond missing (Some (first_of a.found (record { reason = reason; span = span }))) a.found

@@ -1,5 +1,5 @@
--- The code's own: the names that files declare, each with the number of its scope. The methods of a service stand in a
--- scope of their own here, whose number is behind those of all scopes.
+-- The code's own: the names that files declare, each with the number of its scope. Here the methods of a service are
+-- in a scope of their own, whose number comes after those of all other scopes.
 use Rattle.std.specs.Prelude.{◌≡◌, ◌⊎◌, ◌↔◌, ℕ, ◌+◌, ◌<◌, List, [], ◌∷◌, ◌++◌, map, length, Option, Some, slice_get, Contains}
 use Rattle.std.specs.Ordering.{nat_cmp, ordering_then}
 use Rattle.std.specs.Cmp.Lexicographic.{slice_cmp}
@@ -23,7 +23,7 @@ use Rattle.schema_offences.specs.declared.reason.ResolveReason.TheVariants.{Dupl
 use Rattle.schema_offences.specs.declared.names.Declared.{Declared}
 use Rattle.schema_offences.specs.declared.names.Starts.{Starts}
 
--- a name in the scope of a number, and where it stands
+-- a name in the scope with a number, and its span
 pub record Entry : Type 0 where
   pub scope : ℕ
   pub name : List ℕ
@@ -40,13 +40,13 @@ entries_of names = map entry_of names
 
 -- ---- what files declare
 
--- what stands in a file or in a message has a scope of this number
+-- the scope inside a file or a message has this number
 pub record HasNumber (F : Joined) (place : Home) (k : ℕ) : Type 0 where
   pub full : List (List ℕ)
   pub is_scope : IsScope F place full
   pub number : IsNumber F full k
 
--- what each of the first n things of a list stands in has a scope with a number
+-- for each of the first n items of a list, the enclosing scope has a number
 abbrev pub HaveNumbers : {X : Type 0} → Joined → ℕ → List X → (X → Home) → Type 0
 HaveNumbers {X} F n xs stands_in =
     (i : ℕ) (x : X) → i < n → slice_get xs i ≡ Some x → (k : ℕ) × HasNumber F (stands_in x) k
@@ -55,14 +55,14 @@ HaveNumbers {X} F n xs stands_in =
 abbrev pub HaveOwnNumbers : Joined → ℕ → Type 0
 HaveOwnNumbers F n = (i : ℕ) → i < n → (k : ℕ) × HasNumber F (home.Message i) k
 
--- a message, and what stands in it
+-- a message, and its fields and oneofs
 pub data OfMessage (F : Joined) (i : ℕ) (m : MessageDecl) : Entry → Type 0 where
   message : (k : ℕ) → HasNumber F (home_of m) k → OfMessage F i m (entry k m.name)
   field : (k : ℕ) (f : FieldDecl) → HasNumber F (home.Message i) k → Contains m.fields f
       → OfMessage F i m (entry k f.name)
   oneof : (k : ℕ) (o : Word) → HasNumber F (home.Message i) k → Contains m.oneofs o → OfMessage F i m (entry k o)
 
--- an enum, and its values beside it
+-- an enum, and its values in the same scope
 pub data OfEnum (F : Joined) (i : ℕ) (e : EnumDecl) : Entry → Type 0 where
   enum : (k : ℕ) → HasNumber F (enum_home_of e) k → OfEnum F i e (entry k e.name)
   value : (k : ℕ) (v : ValueDecl) → HasNumber F (enum_home_of e) k → Contains e.values v → OfEnum F i e (entry k v.name)
@@ -72,7 +72,7 @@ pub data OfService (F : Joined) (i : ℕ) (s : ServiceDecl) : Entry → Type 0 w
   service : (k : ℕ) → HasNumber F (home.File s.file) k → OfService F i s (entry k s.name)
   rpc : (r : RpcDecl) → Contains s.rpcs r → OfService F i s (entry (scope_count F + i) r.name)
 
--- an entry of one of the first n things of a list
+-- an entry of one of the first n items of a list
 pub record EntryOfFirst {X : Type 0} (n : ℕ) (xs : List X) (of : ℕ → X → Entry → Type 0) (e : Entry) : Type 0 where
   pub place : ℕ
   pub thing : X
@@ -83,14 +83,14 @@ pub record EntryOfFirst {X : Type 0} (n : ℕ) (xs : List X) (of : ℕ → X →
 abbrev pub OfSome : {X : Type 0} → List X → (ℕ → X → Entry → Type 0) → Entry → Type 0
 OfSome xs of e = EntryOfFirst (length xs) xs of e
 
--- the new entries are the old ones and some more
+-- the new entries are the old ones and further ones
 pub record Adds (more : Entry → Type 0) (old new : List Entry) : Type 0 where
   pub one : (e : Entry) → Contains new e → Contains old e ⊎ more e
   pub each : (e : Entry) → Contains old e ⊎ more e → Contains new e
 
--- ---- which of them stand twice
+-- ---- duplicate entries
 
--- an entry of this name starts before a place
+-- an entry of this name starts before an offset
 pub record StartsBefore (es : List Entry) (scope : ℕ) (name : List ℕ) (place : ℕ) : Type 0 where
   pub earlier : Entry
   pub among : Contains es earlier
@@ -102,7 +102,7 @@ abbrev pub start_in : Starts → ℕ → List ℕ → Option ℕ
 start_in s scope name =
     get_by (λ key. ordering_then (nat_cmp scope key.0) (slice_cmp nat_cmp name key.1.now)) s.by
 
--- where a name starts first is before a place
+-- the first occurrence of a name is before an offset
 pub record IsBefore (known : Option ℕ) (place : ℕ) : Type 0 where
   pub first : ℕ
   pub is : known ≡ Some first
@@ -112,11 +112,11 @@ abbrev pub AreStarts : List Entry → Starts → Type 0
 AreStarts es s = (scope : ℕ) (name : List ℕ) (place : ℕ)
     → IsBefore (start_in s scope name) place ↔ StartsBefore es scope name place
 
--- a duplicate name where an entry of its name starts before it
+-- an entry of the same name starts before this one: a duplicate name
 abbrev pub IsLater : List Entry → ℕ → Entry → ResolveReason → Span → Type 0
 IsLater es i e q s = StartsBefore es e.scope e.name e.span.start × Is DuplicateName e.span q s
 
--- what has this name in this scope is a package, too, or a front of one
+-- a declaration with this name in this scope is also a package, or a prefix of one
 pub record IsPackageNamed (F : Joined) (place : Home) (w : Word) (q : ResolveReason) (s : Span) : Type 0 where
   pub scope : List (List ℕ)
   pub is_scope : IsScope F place scope

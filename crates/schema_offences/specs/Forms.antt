@@ -1,4 +1,4 @@
--- Types and forms of fields as the resolver keeps them: a named type by its place.
+-- Types and shapes of fields as the resolver stores them: a named type by its index.
 use Rattle.std.specs.Prelude.{◌≡◌, ℕ, Bool, true, false, List, ◌++◌, codes}
 use Rattle.mrpc_table.specs.Scalars.{no_table}
 use Rattle.mrpc_table.specs.Words.{is_numeric, is_key}
@@ -21,18 +21,18 @@ IsType F file scope name (Scalar k) = IsScalar name k
 IsType F file scope name (OfName n) =
     IsNoScalar name × ((full : List (List ℕ)) × Names F file scope name (sort_of n) full × IsFirstAt F file n full)
 
--- the code's own: it is a message
+-- the code's own: the type is a message
 abbrev pub is_message : TypeOf → Bool
 is_message (OfName (Message i)) = true
 is_message _ = false
 
--- the code's own: repeated values of it may stand packed
+-- the code's own: repeated values of the type may be packed
 abbrev pub is_packable : TypeOf → Bool
 is_packable (Scalar k) = is_numeric k
 is_packable (OfName (Message i)) = false
 is_packable (OfName (Enum i)) = true
 
--- the code's own: a map's key may have it
+-- the code's own: the type may be the key of a map
 abbrev pub may_be_key : TypeOf → Bool
 may_be_key (Scalar k) = is_key k
 may_be_key (OfName n) = false
@@ -47,7 +47,7 @@ IsWordOf F (Scalar k) word = word ≡ kind_text no_table k
 IsWordOf F (OfName n) word =
     (full : List (List ℕ)) × (span : Span) × StandsAt F n full span × (word ≡ sort_word n ++ text_of full)
 
--- a field of a file has this form
+-- a field of a file has this shape
 pub record IsForm (F : Joined) (file : ℕ) (scope : List (List ℕ)) (f : FieldDecl) (form : Form) : Type 0 where
   pub word : List ℕ
   pub of_type : IsWordOf F form.type_of word

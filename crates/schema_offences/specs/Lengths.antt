@@ -1,5 +1,5 @@
--- The code's own: how long full names and the lines of a table's text are, where no length is above the largest number
--- of 64 bits, and which lines were added up to a declaration.
+-- The code's own: the lengths of full names and of the lines of a table's text, capped at the largest number of 64
+-- bits, and the lines that were added up to a declaration.
 use Rattle.std.specs.Prelude.{◌≡◌, ◌⊎◌, ℕ, pos, ◌+◌, ◌<◌, ◌≢◌, List, [], ◌∷◌, ◌++◌, codes, length, map, take, sum_by, Option, Some, None, slice_get, Contains, FitsSigned}
 use Rattle.std.proofs.Common.{suc, get_or}
 use Rattle.std.specs.Int.{w32}
@@ -37,12 +37,12 @@ use Rattle.schema_offences.specs.declared.lines.Lengths.{Lengths}
 
 -- ---- full names
 
--- what stands before the last part of a full name: its scope and a dot
+-- the length of a full name before its last part: its scope and a dot
 abbrev pub front_length : List (List ℕ) → ℕ
 front_length [] = 0
 front_length (part ∷ parts) = length (text_of (part ∷ parts)) + 1
 
--- the first messages and enums have the lengths of their full names
+-- the lengths of the full names of the first messages and enums
 pub record KeepsLengths (F : Joined) (messages enums : ℕ) (kept : Lengths) : Type 0 where
   pub fronts : kept.fronts.items ≡ map (λ h. capped (front_length (package_parts h.package))) F.heads
   pub all_messages : length kept.messages.items ≡ messages
@@ -52,7 +52,7 @@ pub record KeepsLengths (F : Joined) (messages enums : ℕ) (kept : Lengths) : T
   pub of_enum : (i : ℕ) (full : List (List ℕ)) (s : Span) → i < enums → StandsAt F (Enum i) full s
       → get_or kept.enums.items i 0 ≡ capped (length (text_of full))
 
--- all of them
+-- the lengths of all full names
 abbrev pub AreLengths : Joined → Lengths → Type 0
 AreLengths F kept = KeepsLengths F (length F.messages) (length F.enums) kept
 
@@ -64,7 +64,7 @@ abbrev pub IsKeptHome : Lengths → Home → Type 0
 IsKeptHome kept (home.File k) = k < length kept.fronts.items
 IsKeptHome kept (home.Message i) = i < length kept.messages.items
 
--- the length of the full name of what stands in a file or in a message
+-- the length of the full name of a declaration inside a file or a message
 abbrev pub full_length : Lengths → Home → Word → ℕ
 full_length kept parent w = capped (kept_front kept parent + length w.name)
 
@@ -75,7 +75,7 @@ IsKept kept (Scalar k) = Unit {0}
 IsKept kept (OfName (Message i)) = i < length kept.messages.items
 IsKept kept (OfName (Enum i)) = i < length kept.enums.items
 
--- the length of the word for a type
+-- the length of the word for a type in a table's text
 abbrev pub type_length : Lengths → TypeOf → ℕ
 type_length kept (Scalar k) = length (kind_text no_table k)
 type_length kept (OfName (Message i)) = capped (get_or kept.messages.items i 0 + 8)
@@ -83,11 +83,11 @@ type_length kept (OfName (Enum i)) = capped (get_or kept.enums.items i 0 + 5)
 
 -- ---- lines
 
--- how many rpcs stand in the services before a place
+-- the number of rpcs in the services before an index
 abbrev pub rpcs_before : Joined → ℕ → ℕ
 rpcs_before F i = length (flat_map service_rpcs (take i F.services))
 
--- the lines of names, by their declarations
+-- the lines of names, by declaration
 pub data LineAt (F : Joined) : Declaration → Span → List ℕ → Type 0 where
   of_message : (i : ℕ) (m : MessageDecl) {outer : List (List ℕ)} → slice_get F.messages i ≡ Some m
       → IsScope F (home_of m) outer
@@ -112,13 +112,13 @@ pub data LineAt (F : Joined) : Declaration → Span → List ℕ → Type 0 wher
       (codes "method" ∷ decimal n ∷ text_of (package_at F s.file ++ s.name.name ∷ []) ∷ r.name.name ∷ text_of input
       ∷ text_of output ∷ []))
 
--- a name with the length of its line
+-- a name, with the length of its line
 pub record IsLineOf (F : Joined) (d : Declaration) (x : Span × ℕ) : Type 0 where
   pub text : List ℕ
   pub at : LineAt F d x.0 text
   pub is : x.1 ≡ capped (length text)
 
--- the length of the line of a declaration's name here, where it has a line
+-- the length of the line of a declaration, if it has a line
 abbrev pub IsLengthAt : Joined → Declaration → Span → Option ℕ → Type 0
 IsLengthAt F d span None = (s : Span) (text : List ℕ) → LineAt F d s text → ⊥
 IsLengthAt F d span (Some n) = IsLineOf F d (span, n)
@@ -130,7 +130,7 @@ added span (Some n) = (span, n) ∷ []
 
 -- ---- the order in which lines are added
 
--- messages with their fields stand before enums with their values, and these before methods
+-- messages with their fields come before enums with their values, and these before methods
 abbrev pub class_of : Declaration → ℕ
 class_of (message_decl i) = 0
 class_of (field_decl i j) = 0
@@ -156,26 +156,26 @@ abbrev pub IsBefore : ℕ → ℕ → ℕ → Declaration → Type 0
 IsBefore class place part d =
     (class_of d < class) ⊎ ((class_of d ≡ class) × ((place_of d < place) ⊎ ((place_of d ≡ place) × (part_of d < part))))
 
--- no two names start at one place
+-- no two names start at the same offset
 abbrev pub AreApart : List (Span × ℕ) → Type 0
 AreApart [] = Unit {0}
 AreApart (x ∷ xs) = ((y : Span × ℕ) → Contains xs y → x.0.start ≢ y.0.start) × AreApart xs
 
--- of the declarations before one each that has a line stands once among these lengths
+-- each declaration before this one that has a line is listed once with its length
 pub record Covers (F : Joined) (class place part : ℕ) (lines : List (Span × ℕ)) : Type 0 where
   pub sound : (x : Span × ℕ) → Contains lines x → (d : Declaration) × IsBefore class place part d × IsLineOf F d x
   pub whole : (d : Declaration) (s : Span) (text : List ℕ) → IsBefore class place part d → LineAt F d s text
       → (x : Span × ℕ) × Contains lines x × IsLineOf F d x
   pub once : AreApart lines
 
--- those of all declarations
+-- the lines of all declarations
 abbrev pub CoversAll : Joined → List (Span × ℕ) → Type 0
 CoversAll F lines = Covers F 3 0 0 lines
 
--- the first lines up to this one pass the limit
+-- the lines up to this one exceed the limit
 abbrev pub IsPast : List (Span × ℕ) → ℕ → Span × ℕ → ResolveReason → Span → Type 0
 IsPast lines i x q s = (MAX_TEXT < sum_by (λ (y : Span × ℕ). y.1) (take (i + 1) lines)) × Is Limit x.0 q s
 
--- a full name in a file or in a message is too long
+-- a full name inside a file or a message is too long
 abbrev pub IsLongName : Lengths → Home → Word → ResolveReason → Span → Type 0
 IsLongName kept parent w q s = (MAX_FULL_NAME < full_length kept parent w) × Is Limit w.span q s

@@ -1,4 +1,4 @@
--- Which lines the names of files have in the table's text, and which name passes the text's limit (this project's own).
+-- The lines of names in a table's text, and the name that exceeds the text's limit (this project's own).
 use Rattle.std.specs.Prelude.{◌≡◌, ℕ, pos, ◌<◌, ◌≤◌, List, [], ◌∷◌, ◌++◌, codes, length, map, Some, slice_get, All, Contains, FitsSigned}
 use Rattle.std.specs.Int.{w32}
 use Rattle.std.specs.List.{flat_map}
@@ -21,7 +21,7 @@ use Rattle.schema_names.specs.Scopes.{a_message, text_of, IsScope, Names}
 use Rattle.schema_offences.specs.Methods.{rpcs_of}
 use Rattle.schema_offences.specs.Types.{value_of, HasForm}
 
--- a field of a message, and the scope in which its types are looked for: the message itself
+-- a field of a message, and the scope in which its types are looked up: the message itself
 pub record HasField (F : Joined) (scope : List (List ℕ)) (m : MessageDecl) (f : FieldDecl) : Type 0 where
   pub place : ℕ
   pub message : slice_get F.messages place ≡ Some m
@@ -32,7 +32,7 @@ pub record HasValue (F : Joined) (e : EnumDecl) (v : ValueDecl) : Type 0 where
   pub enum : Contains F.enums e
   pub value : Contains e.values v
 
--- the line that a name has in the table's text, where it has one: its types are known and its number is in range
+-- the line of a name in a table's text; a name has one if its types are known and its number is in range
 pub data HasLine (F : Joined) : Span → List ℕ → Type 0 where
   of_message : (m : MessageDecl) {outer : List (List ℕ)} → Contains F.messages m → IsScope F (home_of m) outer
       → HasLine F m.name.span (line (codes "message" ∷ text_of (outer ++ m.name.name ∷ []) ∷ []))
@@ -52,7 +52,7 @@ pub data HasLine (F : Joined) : Span → List ℕ → Type 0 where
       (codes "method" ∷ decimal i ∷ text_of (package_at F s.file ++ s.name.name ∷ []) ∷ r.name.name ∷ text_of input
       ∷ text_of output ∷ []))
 
--- with the line of this name, the lines in the order of the text take more than a table's text may have
+-- the lines in the order of the text, up to the line of this name, exceed the limit of a table's text
 pub record PassesAt (F : Joined) (span : Span) : Type 0 where
   pub lines : List (Span × List ℕ)
   pub are : All (λ l. HasLine F l.0 l.1) lines

@@ -1,4 +1,4 @@
--- The code's own: what the search for the first offence keeps of the offences that it meets.
+-- The code's own: the search for the first violation, and which of the recorded ones it keeps.
 use Rattle.std.specs.Prelude.{◌≡◌, ◌⊎◌, ℕ, ◌<◌, ◌==◌, nat_lt, Bool, true, false, ◌&&◌, ◌||◌, if◌then◌else◌, List, Option, Some, None, slice_get}
 use Rattle.std.specs.Option.{is_some}
 use Rattle.std.specs.Ordering.{nat_cmp}
@@ -21,11 +21,11 @@ use Rattle.schema_offences.specs.declared.reason.ResolveReason.TheVariants.{Unkn
 use Rattle.schema_offences.specs.declared.first.Offence.{Offence}
 use Rattle.schema_offences.specs.declared.first.First.{First}
 
--- one where a test holds
+-- a violation if a test holds
 abbrev pub IsWhere : Bool → ResolveReason → Span → ResolveReason → Span → Type 0
 IsWhere holds reason span q s = (holds ≡ true) × Is reason span q s
 
--- it comes first, and isn't at the same place for the same reason
+-- it comes strictly first: at an earlier offset, or at the same one for an earlier reason
 abbrev pub comes_before : Offence → Offence → Bool
 comes_before a b =
     nat_lt a.span.start b.span.start || (a.span.start == b.span.start && nat_lt (rank_of a.reason) (rank_of b.reason))
@@ -34,36 +34,36 @@ abbrev pub first_of : Option Offence → Offence → Offence
 first_of None other = other
 first_of (Some found) other = if comes_before other found then other else found
 
--- what is kept comes first, also where the two are one
+-- the kept one comes first, or is the same
 abbrev pub IsKeptBefore : Option Offence → ResolveReason → Span → Type 0
 IsKeptBefore None q s = ⊥
 IsKeptBefore (Some o) q s = ComesFirst o.reason o.span q s
 
--- Some offences were met: of these and of what was kept before, the first one is kept now.
+-- Some violations were recorded: the first one of these and of the earlier ones is kept.
 pub record Meets (offends : ResolveReason → Span → Type 0) (old new : First) : Type 0 where
   pub one : (o : Offence) → new.found ≡ Some o → (old.found ≡ Some o) ⊎ offends o.reason o.span
   pub first : (q : ResolveReason) (s : Span) → offends q s → IsKeptBefore new.found q s
   pub before : (o : Offence) → old.found ≡ Some o → IsKeptBefore new.found o.reason o.span
 
--- the offences of the first n of some things
+-- the violations of the first n items
 pub record OfFirst (n : ℕ) (offends : ℕ → ResolveReason → Span → Type 0) (q : ResolveReason) (s : Span) : Type 0 where
   pub place : ℕ
   pub below : place < n
   pub is : offends place q s
 
--- those of some one of them
+-- the violations of any item
 pub record AtSome (offends : ℕ → ResolveReason → Span → Type 0) (q : ResolveReason) (s : Span) : Type 0 where
   pub place : ℕ
   pub is : offends place q s
 
--- those against the element at a place of a list
+-- the violations of the element with an index
 pub record OfElement {X : Type 0} (xs : List X) (offends : ℕ → X → ResolveReason → Span → Type 0) (i : ℕ)
     (q : ResolveReason) (s : Span) : Type 0 where
   pub element : X
   pub at : slice_get xs i ≡ Some element
   pub is : offends i element q s
 
--- those against a message, and against a method
+-- the violations of a message, and of a method
 abbrev pub MessageIn : Joined → ℕ → MessageDecl → ResolveReason → Span → Type 0
 MessageIn F i m q s =
     (scope : List (List ℕ)) × IsScope F (home.Message i) scope × MessageOffends F m.file scope i m q s
@@ -88,7 +88,7 @@ pub record PackageOffends (h : Head) (q : ResolveReason) (s : Span) : Type 0 whe
 abbrev pub PackageIn : ℕ → Head → ResolveReason → Span → Type 0
 PackageIn i h = PackageOffends h
 
--- a name that stands twice, one that is long in full, one whose line passes the limit of a table's text
+-- a duplicate name, a long full name, a name whose line exceeds the limit of a table's text
 abbrev pub TwiceIn : Joined → ResolveReason → Span → Type 0
 TwiceIn F q s = (span : Span) × IsTwice F span × Is DuplicateName span q s
 
@@ -98,6 +98,6 @@ LongIn F q s = (span : Span) × IsLongInFull F span × Is Limit span q s
 abbrev pub PassesIn : Joined → ResolveReason → Span → Type 0
 PassesIn F q s = (span : Span) × PassesAt F span × Is Limit span q s
 
--- the places of numbers that were met
+-- the positions of numbers that were seen
 abbrev pub has_met : BTreeMap ℕ (Unit {0}) → ℕ → Bool
 has_met met place = is_some (get_by (nat_cmp place) met)

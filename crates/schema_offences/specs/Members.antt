@@ -1,6 +1,6 @@
--- What stands against messages, enums and services by themselves, and at which name or number (Protocol Buffers, proto3
--- language guide; the limits, and where each offence stands, are this project's own). Each reason stands at a span:
--- `Is REASON SPAN` is that one offence.
+-- Violations of single messages, enums and services, and the name or number where each one is (Protocol Buffers,
+-- proto3 language guide; the limits, and where each violation is, are this project's own). Each reason is at a span:
+-- `Is REASON SPAN` is that one violation.
 use Rattle.std.specs.Prelude.{◌≡◌, ◌≢◌, ℕ, ℤ, pos, ◌<◌, ◌≤◌, ◌≤ℤ◌, false, List, Some, IfSome, slice_get, Contains, FitsSigned}
 use Rattle.std.specs.Int.{w32}
 use Rattle.mrpc_table.specs.Names.{is_short}
@@ -34,14 +34,14 @@ Is reason span q s = (q ≡ reason) × (s ≡ span)
 abbrev pub IsNoMessage : Joined → ℕ → List (List ℕ) → List ℕ → Type 0
 IsNoMessage F file scope name = (full : List (List ℕ)) → Names F file scope name a_message full → ⊥
 
--- the type of a field or of a map's value is no scalar, and no message or enum has this name
+-- the type of a field or of a map's value is not a scalar, and no message or enum has this name
 pub record IsNoType (F : Joined) (file : ℕ) (scope : List (List ℕ)) (w : Word) (q : ResolveReason)
     (s : Span) : Type 0 where
   pub no_scalar : IsNoScalar w.name
   pub unknown : NamesNothing F file scope w.name
   pub is : Is UnknownName w.span q s
 
--- the key of a map is no type, a scalar that no key may have, or a message or enum
+-- the key of a map is an unknown name, a scalar that can't be a key, or a message or enum
 pub data KeyOffends (F : Joined) (file : ℕ) (scope : List (List ℕ)) (key : Word) (q : ResolveReason)
     (s : Span) : Type 0 where
   unknown_key : IsNoType F file scope key q s → KeyOffends F file scope key q s
@@ -50,7 +50,7 @@ pub data KeyOffends (F : Joined) (file : ℕ) (scope : List (List ℕ)) (key : W
   type_key : (sort : Sort) (full : List (List ℕ)) → IsNoScalar key.name → Names F file scope key.name sort full
       → Is MapKey key.span q s → KeyOffends F file scope key q s
 
--- a map as a map's value, under a label, or in a oneof
+-- a map that is the value of a map, has a label, or is in a oneof
 pub data IsMisplaced (f : FieldDecl) : Type 0 where
   nested : (key : Word) → f.kind ≡ NestedMap key → IsMisplaced f
   labelled : (key value : Word) → f.kind ≡ Map key value → f.label ≢ Plain → IsMisplaced f
@@ -60,7 +60,7 @@ pub data TypeOffends (F : Joined) (file : ℕ) (scope : List (List ℕ)) (f : Fi
     (s : Span) : Type 0 where
   unknown_type : (w : Word) → f.kind ≡ Named w → IsNoType F file scope w q s → TypeOffends F file scope f q s
   bad_key : (k v : Word) → f.kind ≡ Map k v → KeyOffends F file scope k q s → TypeOffends F file scope f q s
-  -- of a map as a map's value nothing else is judged
+  -- for a map whose value is a map, only the outer key is checked
   bad_outer_key : (k : Word) → f.kind ≡ NestedMap k → KeyOffends F file scope k q s → TypeOffends F file scope f q s
   unknown_value : (k v : Word) → f.kind ≡ Map k v → IsNoType F file scope v q s → TypeOffends F file scope f q s
   misplaced : IsMisplaced f → Is MapPlace f.name.span q s → TypeOffends F file scope f q s
@@ -80,7 +80,7 @@ IsReserved ranges n = (r : Range) × Contains ranges r × IsIn r n
 abbrev pub IsReservedName : List Word → List ℕ → Type 0
 IsReservedName words name = (w : Word) × Contains words w × (w.name ≡ name)
 
--- against the number of the field at a place
+-- the violations of the number of the field with an index
 pub data NumberOffends (m : MessageDecl) (i : ℕ) (q : ResolveReason) (s : Span) : Type 0 where
   number_out_of_range : (f : FieldDecl) → slice_get m.fields i ≡ Some f → (IsFieldNumberOf (value_of f.number) → ⊥)
       → Is NumberRange f.number.span q s → NumberOffends m i q s
@@ -89,7 +89,7 @@ pub data NumberOffends (m : MessageDecl) (i : ℕ) (q : ResolveReason) (s : Span
   number_reserved : (f : FieldDecl) → slice_get m.fields i ≡ Some f → IsReserved m.ranges (value_of f.number)
       → Is Reserved f.number.span q s → NumberOffends m i q s
 
--- against the number of the value at a place
+-- the violations of the number of the value with an index
 pub data ValueOffends (e : EnumDecl) (i : ℕ) (q : ResolveReason) (s : Span) : Type 0 where
   value_out_of_range : (v : ValueDecl) → slice_get e.values i ≡ Some v → (FitsSigned w32 (value_of v.number) → ⊥)
       → Is NumberRange v.number.span q s → ValueOffends e i q s
@@ -104,13 +104,13 @@ pub data ValueOffends (e : EnumDecl) (i : ℕ) (q : ResolveReason) (s : Span) : 
 abbrev pub IsLong : Word → ResolveReason → Span → Type 0
 IsLong w q s = (is_short w.name ≡ false) × Is Limit w.span q s
 
--- against a name: it is reserved, long, or one too many
+-- the violations of a name: it is reserved, long, or past a limit
 pub data NameOffends (names : List Word) (limit i : ℕ) (w : Word) (q : ResolveReason) (s : Span) : Type 0 where
   name_reserved : IsReservedName names w.name → Is Reserved w.span q s → NameOffends names limit i w q s
   name_long : IsLong w q s → NameOffends names limit i w q s
   name_too_many : limit ≤ i → Is Limit w.span q s → NameOffends names limit i w q s
 
--- ---- messages, enums and methods, of which n stand before this one
+-- ---- messages, enums and methods, after n others
 
 pub data MessageOffends (F : Joined) (file : ℕ) (scope : List (List ℕ)) (n : ℕ) (m : MessageDecl) (q : ResolveReason)
     (s : Span) : Type 0 where
@@ -130,7 +130,7 @@ pub data EnumOffends (n : ℕ) (e : EnumDecl) (q : ResolveReason) (s : Span) : T
   of_value_name : (i : ℕ) (v : ValueDecl) → slice_get e.values i ≡ Some v → NameOffends e.names MAX_VALUES i v.name q s
       → EnumOffends n e q s
 
--- an rpc's types are looked for in the package; scalars and enums are no messages
+-- the types of an rpc are looked up in the package, and must be messages
 pub data MethodOffends (F : Joined) (file : ℕ) (scope : List (List ℕ)) (n : ℕ) (r : RpcDecl) (q : ResolveReason)
     (s : Span) : Type 0 where
   too_many_methods : MAX_METHODS ≤ n → Is Limit r.name.span q s → MethodOffends F file scope n r q s

@@ -1,5 +1,5 @@
--- What stands against files, and where (Protocol Buffers, proto3 language guide; the limits, and which name or number
--- each offence stands at, are this project's own). Of several the first one counts.
+-- Violations of files, and where they are (Protocol Buffers, proto3 language guide; the limits, and the name or
+-- number where each violation is, are this project's own). Only the first one counts.
 use Rattle.std.specs.Prelude.{◌≡◌, ◌⊎◌, ℕ, ◌<◌, ◌≤◌, true, false, List, [], ◌∷◌, ◌++◌, length, Option, Some, None, slice_get, Contains}
 use Rattle.mrpc_table.specs.Names.{is_short_full}
 use Rattle.mrpc_table.specs.declared.limits.TheConstants.{MAX_FULL_NAME}
@@ -24,12 +24,12 @@ use Rattle.schema_offences.specs.declared.reason.ResolveReason.TheVariants.{Unkn
 
 -- ---- full names
 
--- what files declare twice, or what is a type, and a package too, or a front of one
+-- a duplicate name, or a type with the name of a package or of a prefix of one
 pub data IsTwice (F : Joined) (span : Span) : Type 0 where
-  -- two things of one scope, at the later one
+  -- two declarations of one scope, at the later one
   declared : (j k : ℕ) (a b : Sort) (full : List (List ℕ)) (earlier : Span) → Declares F j a full earlier
       → Declares F k b full span → earlier.start < span.start → IsTwice F span
-  -- a type that is a package too
+  -- a type with the name of a package
   a_package : (k : ℕ) (sort : Sort) (full : List (List ℕ)) → Declares F k sort full span → is_type sort ≡ true
       → IsFront F full → IsTwice F span
   -- two rpcs of one service, at the later one
@@ -44,7 +44,7 @@ pub data IsLongInFull (F : Joined) (span : Span) : Type 0 where
       → MAX_FULL_NAME < length (text_of (package_at F s.file ++ s.name.name ∷ [])) → span ≡ s.name.span
       → IsLongInFull F span
 
--- ---- offences
+-- ---- violations
 
 pub data Offends (F : Joined) (q : ResolveReason) (s : Span) : Type 0 where
   of_message : (i : ℕ) (m : MessageDecl) {scope : List (List ℕ)} → slice_get F.messages i ≡ Some m
@@ -53,7 +53,7 @@ pub data Offends (F : Joined) (q : ResolveReason) (s : Span) : Type 0 where
   of_service : (i : ℕ) (x : ServiceDecl) → slice_get F.services i ≡ Some x → IsLong x.name q s → Offends F q s
   of_method : (i : ℕ) (x : ServiceDecl) (r : RpcDecl) → slice_get (rpcs_of F) i ≡ Some (x, r)
       → MethodOffends F x.file (package_at F x.file) i r q s → Offends F q s
-  -- a package with a part of more than 64 bytes, or of more than 255
+  -- a package with a part of more than 64 bytes, or with more than 255 bytes
   of_package : (k : ℕ) (h : Head) (w : Word) → slice_get F.heads k ≡ Some h → h.package ≡ Some w
       → is_short_full w.name ≡ false → Is Limit w.span q s → Offends F q s
   twice : (span : Span) → IsTwice F span → Is DuplicateName span q s → Offends F q s
@@ -62,14 +62,14 @@ pub data Offends (F : Joined) (q : ResolveReason) (s : Span) : Type 0 where
 
 -- ---- a file alone
 
--- a file alone has no other to import
+-- a file alone has no other file to import
 pub data IsOffence (F : File) (q : ResolveReason) (s : Span) : Type 0 where
   offends : Offends (alone F) q s → IsOffence F q s
   has_import : (x : Import) → slice_get F.imports 0 ≡ Some x → Is HasImport x.span q s → IsOffence F q s
 
 -- ---- the first one
 
--- the order of the reasons at one place
+-- the order of the reasons at one offset
 abbrev pub rank_of : ResolveReason → ℕ
 rank_of UnknownName = 1
 rank_of NumberRange = 2
@@ -85,22 +85,22 @@ rank_of HasImport = 10
 abbrev pub ComesFirst : ResolveReason → Span → ResolveReason → Span → Type 0
 ComesFirst q s r t = (s.start < t.start) ⊎ ((s.start ≡ t.start) × (rank_of q ≤ rank_of r))
 
--- a file has its first offence here
+-- the first violation of a file is here
 pub record HasOffence (F : File) (q : ResolveReason) (span : Span) : Type 0 where
   pub offence : IsOffence F q span
   pub first : (r : ResolveReason) (t : Span) → IsOffence F r t → ComesFirst q span r t
 
--- files that are resolved together have their first offence here
+-- the first violation of files that are resolved together is here
 pub record HasFirst (F : Joined) (q : ResolveReason) (span : Span) : Type 0 where
   pub offence : Offends F q span
   pub first : (r : ResolveReason) (t : Span) → Offends F r t → ComesFirst q span r t
 
--- what is found is the first offence of files that are resolved together, or there is none
+-- the result is the first violation of files that are resolved together, or there is none
 abbrev pub FirstIs : Joined → Option Offence → Type 0
 FirstIs F None = (q : ResolveReason) (s : Span) → Offends F q s → ⊥
 FirstIs F (Some o) = HasFirst F o.reason o.span
 
--- what is found is the first offence of a file alone, or there is none
+-- the result is the first violation of a file alone, or there is none
 abbrev pub FirstOfFileIs : File → Option Offence → Type 0
 FirstOfFileIs F None = (q : ResolveReason) (s : Span) → IsOffence F q s → ⊥
 FirstOfFileIs F (Some o) = HasOffence F o.reason o.span

@@ -1,4 +1,4 @@
--- The code's own: numbers by their places among those from -2^64 on.
+-- The code's own: numbers by their positions, counted from -2^64.
 use Rattle.std.specs.Prelude.{◌≡◌, ℕ, ℤ, pos, ◌+ℤ◌, ◌^◌, ◌≤◌, max, List, [], ◌∷◌, Option, Some, None, Contains}
 use Rattle.std.specs.List.Sorted.{IsNonDecreasingBy}
 use Rattle.proto_file.specs.declared.file.Number.{Number}
@@ -16,7 +16,7 @@ abbrev pub IsLastPlace : Option Number → ℕ → Type 0
 IsLastPlace None place = place ≡ 2 ^ 65
 IsLastPlace (Some n) place = IsPlaceOf place (value_of n)
 
--- the places of the first and the last number of a range
+-- the positions of the first and the last number of a range
 pub record IsEndsOf (r : Range) (ends : ℕ × ℕ) : Type 0 where
   pub first : IsPlaceOf ends.0 (value_of r.first)
   pub last : IsLastPlace r.last ends.1
@@ -27,17 +27,17 @@ pub record IsInSome (ends : List (ℕ × ℕ)) (place : ℕ) : Type 0 where
   pub at_least : one.0 ≤ place
   pub at_most : place ≤ one.1
 
--- each with the largest last place up to there, and not below the least one
+-- each last position is replaced by the largest one up to there, and at least `least`
 abbrev pub reach_from : ℕ → List (ℕ × ℕ) → List (ℕ × ℕ)
 reach_from least [] = []
 reach_from least (e ∷ es) = (e.0, max least e.1) ∷ reach_from (max least e.1) es
 
--- by ascending first place
+-- by ascending first position
 pub record AreSortedEnds (ranges : List Range) (ends : List (ℕ × ℕ)) : Type 0 where
   pub those : AreThose IsEndsOf ranges ends
   pub ascend : IsNonDecreasingBy {X = ℕ × ℕ} (λ e. e.0) ends
 
--- by ascending first place, each with the largest last one up to there: the same numbers are in one of them
+-- by ascending first position, each extended to the largest last position so far: the same numbers are covered
 pub record KeepsRanges (ranges : List Range) (kept : Reserved) : Type 0 where
   pub firsts : IsNonDecreasingBy {X = ℕ × ℕ} (λ e. e.0) kept.ranges.items
   pub lasts : IsNonDecreasingBy {X = ℕ × ℕ} (λ e. e.1) kept.ranges.items

@@ -1,4 +1,4 @@
--- The words of printed faults.
+-- The words for reasons in the text of faults.
 use Rattle.std.specs.Prelude.{ℕ, List, codes}
 use Rattle.schema_offences.specs.declared.reason.ResolveReason.{ResolveReason}
 use Rattle.schema_offences.specs.declared.reason.ResolveReason.TheVariants.{UnknownName, NumberRange, DuplicateNumber, DuplicateName, Reserved, FirstEnum, MapKey, MapPlace, Limit, Import}

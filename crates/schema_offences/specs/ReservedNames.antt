@@ -1,4 +1,4 @@
--- The code's own: reserved names as a set.
+-- The code's own: a set of reserved names.
 use Rattle.std.specs.Prelude.{◌≡◌, ◌↔◌, ℕ, Bool, true, List}
 use Rattle.std.specs.Borrow.{Bor}
 use Rattle.std.specs.Option.{is_some}

@@ -1,12 +1,12 @@
 -- Two lists that correspond.
 use Rattle.std.specs.Prelude.{List, [], ◌∷◌, Contains}
 
--- each of one list has one of the other, and there are no others
+-- each element of a list corresponds to one of the other, and the other way round
 pub record AreThose {X Y : Type 0} (R : X → Y → Type 0) (xs : List X) (ys : List Y) : Type 0 where
   pub each : (x : X) → Contains xs x → (y : Y) × Contains ys y × R x y
   pub alone : (y : Y) → Contains ys y → (x : X) × Contains xs x × R x y
 
--- the same in order
+-- the elements correspond in order
 pub data AreThoseInOrder {X Y : Type 0} (R : X → Y → Type 0) : List X → List Y → Type 0 where
   none : AreThoseInOrder R [] []
   next : {x : X} {y : Y} {xs : List X} {ys : List Y} → R x y → AreThoseInOrder R xs ys

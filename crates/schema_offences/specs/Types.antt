@@ -30,7 +30,7 @@ is_scalar (OfMessage i) = false
 is_scalar (Choice i) = false
 is_scalar k = true
 
--- the name of a scalar
+-- a scalar with this name
 pub record IsScalar (name : List ℕ) (k : Kind) : Type 0 where
   pub is_one : is_scalar k ≡ true
   pub named : kind_text no_table k ≡ name
@@ -38,8 +38,8 @@ pub record IsScalar (name : List ℕ) (k : Kind) : Type 0 where
 abbrev pub IsNoScalar : List ℕ → Type 0
 IsNoScalar name = (k : Kind) → IsScalar name k → ⊥
 
--- The word for a type in a table's text, whether it is a message, and whether many of it can stand in one record. The
--- name of a scalar is that scalar, whatever is declared by that name.
+-- The word for a type in a table's text, whether it is a message, and whether repeated values can be packed in one
+-- record. The name of a scalar always means the scalar, whatever is declared.
 pub data HasType (F : Joined) (file : ℕ) (scope : List (List ℕ)) (w : Word) : List ℕ → Bool → Bool → Type 0 where
   scalar : (k : Kind) → IsScalar w.name k → HasType F file scope w w.name false (is_numeric k)
   message : (full : List (List ℕ)) → IsNoScalar w.name → Names F file scope w.name a_message full
@@ -53,7 +53,7 @@ abbrev pub isnt_false : Option Bool → Bool
 isnt_false (Some false) = false
 isnt_false _ = true
 
--- a message has presence without a label; what can be packed is, unless an option says otherwise
+-- a message has presence without a label; packable values are packed unless the option `packed` is `false`
 abbrev pub single_label : FieldLabel → Option Bool → Bool → Bool → Label
 single_label Plain packed is_message packable = labels.Plain
 single_label Optional packed is_message packable = if is_message then labels.Plain else labels.Optional
@@ -64,7 +64,7 @@ abbrev pub label_in : Option ℕ → Label → Label
 label_in None label = label
 label_in (Some i) label = labels.Member i
 
--- the label and the word for the type of a field; a oneof is that at its place in the text's message
+-- the label of a field and the word for its type; a oneof is given by its index in the message
 pub data HasForm (F : Joined) (file : ℕ) (scope : List (List ℕ)) (f : FieldDecl) : Label → List ℕ → Type 0 where
   single : (w : Word) (word : List ℕ) (is_message packable : Bool) → f.kind ≡ Named w
       → HasType F file scope w word is_message packable

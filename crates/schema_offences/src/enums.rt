@@ -1,4 +1,4 @@
-//! What stands against enums and their values.
+//! Violations of enums and their values.
 
 ghost use Rattle.std.specs.Prelude.{◌≡◌, ◌≢◌, ◌⊎◌, true, pos, OnOk, FitsSigned};
 ghost use Rattle.std.specs.Int.{w32};
@@ -16,7 +16,7 @@ use mrpc_table::{MAX_ENUMS, MAX_VALUES, Memory};
 use proto_file::{EnumDecl, Joined, Number};
 use std::alloc::Global;
 
-// Against a number, of which it is known whether it is reserved and whether it is that of the first value.
+// Records the violations of a number, given whether it is reserved and whether it is that of the first value.
 fn note_number(number: &Number, is_reserved: bool, is_first: bool, first: &mut First)
     ensures { Meets (λ q s. (((FitsSigned w32 (value_of number.now) → ⊥) × Is reasons.NumberRange number.now.span q s)
         ⊎ IsWhere is_reserved reasons.Reserved number.now.span q s)
@@ -68,7 +68,7 @@ fn note_enum(alloc: Global, i: usize, choices: &EnumDecl, first: &mut First) -> 
     Ok(())
 }
 
-// Meets what stands against the enums, but for names that stand twice and names that are long in full.
+// Records the violations of the enums, except duplicate names and long full names.
 pub(crate) fn note_enums(alloc: Global, files: &Joined<'_>, first: &mut First) -> Result<(), Memory>
     ensures { OnOk result (Meets (AtSome (OfElement files.now.enums EnumOffends)) first.old first.new) }
 {

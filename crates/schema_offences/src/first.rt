@@ -1,4 +1,4 @@
-//! The first offence among those that were met.
+//! The first of the recorded violations.
 
 ghost use Rattle.std.specs.Prelude.{◌≡◌, if◌then◌else◌, Some, None};
 ghost use Rattle.schema_offences.specs.Offences.{rank_of};
@@ -7,20 +7,20 @@ ghost use Rattle.schema_offences.specs.Meeting.{comes_before, first_of};
 use crate::reason::ResolveReason;
 use proto_file::Span;
 
-/// What stands against a name or a number, and where that stands.
+/// A violation of a schema rule by a name or a number, and its span.
 #[derive(Clone, Copy)]
 pub struct Offence {
     pub reason: ResolveReason,
     pub span: Span,
 }
 
-// The first of some offences.
+// The first of some violations.
 #[derive(Drop)]
 pub(crate) struct First {
     pub found: Option<Offence>,
 }
 
-// The order of the reasons at one place.
+// The order of the reasons at one offset.
 fn rank(reason: ResolveReason) -> u8
     ensures { result ≡ rank_of reason }
 {
@@ -44,7 +44,7 @@ fn comes_before(a: Offence, b: Offence) -> bool
     a.span.start < b.span.start || (a.span.start == b.span.start && rank(a.reason) < rank(b.reason))
 }
 
-// Of what was found and another one the first.
+// The first of the violation found so far and another one.
 fn first_of(found: Option<Offence>, other: Offence) -> Offence
     ensures { result ≡ first_of found other }
 {
@@ -61,21 +61,21 @@ fn first_of(found: Option<Offence>, other: Offence) -> Offence
 }
 
 impl First {
-    // None was met.
+    // No violation is recorded.
     pub(crate) fn new() -> First
         ensures { result.found ≡ None }
     {
         First { found: None }
     }
 
-    // Meets an offence.
+    // Records a violation.
     pub(crate) fn note(&mut self, reason: ResolveReason, span: Span)
         ensures { self.new.found ≡ Some (first_of self.old.found (record { reason = reason; span = span })) }
     {
         self.found = Some(first_of(self.found, Offence { reason, span }));
     }
 
-    // Meets an offence where something holds.
+    // Records a violation if `holds` is true.
     pub(crate) fn note_if(&mut self, holds: bool, reason: ResolveReason, span: Span)
         ensures { self.new.found ≡ (if holds
             then Some (first_of self.old.found (record { reason = reason; span = span })) else self.old.found) }

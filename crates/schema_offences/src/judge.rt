@@ -1,4 +1,4 @@
-//! All that stands against files.
+//! All violations of files.
 
 ghost use Rattle.std.specs.Prelude.{◌≡◌, IfOk};
 ghost use Rattle.proto_file.specs.Together.{IsFormed, IsOrdered};
@@ -17,7 +17,7 @@ use proto_file::{File, Joined};
 use schema_names::Scopes;
 use std::alloc::Global;
 
-/// The first offence of files that are resolved together, or none where nothing stands against them.
+/// Returns the first violation of files that are resolved together; none if there are none.
 pub fn first_offence<'a>(
     alloc: Global,
     files: &Joined<'a>,
@@ -41,8 +41,8 @@ pub fn first_offence<'a>(
     Ok(first.found)
 }
 
-/// The first offence of a file alone, whose first offence but for imports was found. Where it has imports, the first
-/// one stands against it, too.
+/// Returns the first violation of a file alone, given the first one that isn't an import. If the file has imports,
+/// its first import is a violation, too.
 pub fn with_import(file: &File, found: Option<Offence>) -> Option<Offence>
     requires { FirstIs (alone file.now) found }
     ensures { FirstOfFileIs file.now result }

@@ -1,4 +1,4 @@
-//! Laws of offences. These functions do nothing; their clauses hold.
+//! Laws of violations. These functions do nothing; their clauses hold.
 
 ghost use Rattle.std.specs.Prelude.{◌≡◌};
 ghost use Rattle.proto_file.specs.Order.{Part};
@@ -8,13 +8,13 @@ ghost use Rattle.proto_file.specs.Joined.{Joined};
 ghost use Rattle.schema_offences.specs.Offences.{Offends, HasFirst};
 ghost use Rattle.schema_offences.specs.declared.reason.ResolveReason.{ResolveReason};
 
-/// Files in order have one first offence at most: two of them have one reason and stand at one place.
+/// Files in order have at most one first violation: two of them have the same reason and span.
 pub fn one_offence()
     ensures { (F : Joined) (q r : ResolveReason) (s t : Span) → IsOrdered F → HasFirst F q s → HasFirst F r t
         → (q ≡ r) × (s ≡ t) }
 {}
 
-/// Each offence stands at a name or a number.
+/// Every violation is at a name or a number.
 pub fn offences_stand()
     ensures { (F : Joined) (q : ResolveReason) (s : Span) → Offends F q s
         → (d : Declaration) × (part : Part) × StandsAt F s d part }

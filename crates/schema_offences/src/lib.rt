@@ -1,12 +1,14 @@
-//! What stands against proto files that were read: names that name nothing or stand twice, numbers out of range, maps
-//! out of place, limits (Protocol Buffers, proto3 language guide; the limits are this project's own).
+//! Validation of proto files that were read: undefined and duplicate names, numbers out of range, misplaced maps,
+//! limits (Protocol Buffers, proto3 language guide; the limits are this project's own).
 //!
-//! `specs/Members.antt` says what stands against messages, enums and services by themselves, `specs/Lines.antt` which
-//! lines the names have in a table's text, and `specs/Offences.antt` all that stands against files, and which offence
-//! comes first. `schema_names` says which full name a declaration has and which one a reference means. It stands on that
-//! crate, on `proto_file` and on `mrpc_table`. The layer above uses the contracts of [`first_offence`] and, for a file
-//! alone, [`with_import`], and those of [`form_of`], [`message_of`], [`field_number`] and [`enum_number`], which say what a
-//! field, an rpc's type and a number are in a table.
+//! `specs/Members.antt` defines the violations of single messages, enums and services, `specs/Lines.antt` the lines
+//! that names have in a table's text, and `specs/Offences.antt` all violations of files, and which one comes first.
+//! The crate uses `schema_names`, which defines the full name of a declaration and the meaning of a reference,
+//! `proto_file` and `mrpc_table`.
+//!
+//! The layer above relies on the contracts of [`first_offence`] and, for a file alone, [`with_import`]. It also uses
+//! [`form_of`], [`message_of`], [`field_number`] and [`enum_number`], which return what a field, an rpc's type and a
+//! number are in a table.
 #![tactic(auto)]
 
 mod enums;

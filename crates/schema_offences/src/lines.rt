@@ -1,4 +1,4 @@
-//! How long full names and the lines of a table's text are, before the table is made.
+//! The lengths of full names, and of the lines of a table's text, before the table is made.
 
 ghost use Rattle.std.specs.Prelude.{◌≡◌, ◌+◌, ◌*◌, ◌<◌, ◌≤◌, ◌^◌, ℕ, List, ◌++◌, length, Some, slice_get, IfOk, OnOk, MatchOption, FitsSigned, map};
 ghost use Rattle.std.specs.Int.{w32};
@@ -30,13 +30,13 @@ use std::alloc::Global;
 // The lengths of full names.
 #[derive(Drop)]
 pub(crate) struct Lengths {
-    // Of each file's package and the dot behind it.
+    // For each file, the length of its package and the dot after it.
     fronts: Vec<usize>,
     messages: Vec<usize>,
     enums: Vec<usize>,
 }
 
-// The length of a package and the dot behind it.
+// The length of a package and the dot after it.
 fn package_front(declared: &Option<Word>) -> usize
     ensures { result ≡ capped (front_length (package_parts declared.now)) }
 {
@@ -46,7 +46,7 @@ fn package_front(declared: &Option<Word>) -> usize
     }
 }
 
-// The same for each file.
+// The length of each file's package and the dot after it.
 fn package_fronts(alloc: Global, heads: &[Head]) -> Result<Vec<usize>, Memory>
     ensures { IfOk result (λ v.
         v.items ≡ map (λ h. capped (front_length (package_parts h.package))) heads.now) }
@@ -103,7 +103,7 @@ impl Lengths {
         Ok(())
     }
 
-    // The length of the full name of what stands in a file or in a message.
+    // The length of the full name of a declaration inside a file or a message.
     fn full(&self, home: Home, word: &Word) -> usize
         requires { IsKeptHome self.now home }
         ensures { result ≡ full_length self.now home word.now }
@@ -115,7 +115,7 @@ impl Lengths {
         front.saturating_add(word.name.len())
     }
 
-    // Meets each message, enum or service whose full name is too long.
+    // Records each message, enum or service whose full name is too long.
     pub(crate) fn note_long(&self, files: &Joined<'_>, first: &mut First)
         requires formed { IsFormed files.now }
         requires lengths { AreLengths files.now self.now }
@@ -174,7 +174,7 @@ impl Lengths {
         first.note_if(long, ResolveReason::Limit, word.span);
     }
 
-    // The length of the word for a type.
+    // The length of the word for a type in a table's text.
     fn of_type(&self, type_of: TypeOf) -> usize
         requires { IsKept self.now type_of }
         ensures { result ≡ type_length self.now type_of }
@@ -187,7 +187,7 @@ impl Lengths {
     }
 }
 
-// The length of a scalar's name; of a message or an enum, that of the word before its name.
+// The length of the word for a kind: a scalar's name, or the word before the name of a message or an enum.
 fn kind_length(kind: Kind) -> usize
     ensures { result ≡ length (kind_text no_table kind) }
 {
@@ -200,7 +200,7 @@ fn kind_length(kind: Kind) -> usize
     }
 }
 
-// The length of a oneof's name and the word before it.
+// The length of a oneof's name and of the word before it.
 fn oneof_length(oneofs: &Words, place: usize) -> usize
     ensures { result ≡ capped (length (label_text no_table (map (λ o. o.name) oneofs.now) (labels.Member place))) }
 {
@@ -226,7 +226,7 @@ fn label_length(oneofs: &Words, form: Form) -> usize
     }
 }
 
-// How many digits a number has.
+// The number of decimal digits of a number.
 fn digits(number: u128) -> usize
     ensures is { result ≡ length (decimal number) }
     ensures few { result ≤ 39 }
@@ -240,7 +240,7 @@ fn digits(number: u128) -> usize
     count
 }
 
-// `value NUMBER NAME`
+// The length of the line `value NUMBER NAME`.
 fn value_length(value: &ValueDecl) -> Option<usize>
     ensures { MatchOption result (FitsSigned w32 (value_of value.now.number) → ⊥)
         (λ n. FitsSigned w32 (value_of value.now.number)
@@ -252,7 +252,7 @@ fn value_length(value: &ValueDecl) -> Option<usize>
     Some(length.saturating_add(value.name.name.len()))
 }
 
-// `field NUMBER LABEL KIND NAME`
+// The length of the line `field NUMBER LABEL KIND NAME`.
 fn field_length<'a>(
     scopes: &Scopes<'a>,
     lengths: &Lengths,
@@ -278,7 +278,7 @@ fn field_length<'a>(
     )
 }
 
-// `method INDEX SERVICE NAME INPUT OUTPUT`
+// The length of the line `method INDEX SERVICE NAME INPUT OUTPUT`.
 fn method_length<'a>(
     scopes: &Scopes<'a>,
     lengths: &Lengths,
@@ -305,7 +305,7 @@ fn method_length<'a>(
     )
 }
 
-// A name and the length of its line.
+// The spans of names and the lengths of their lines.
 type Lines = Vec<(Span, usize)>;
 
 fn add(lines: &mut Lines, span: Span, length: Option<usize>) -> Result<(), Memory>
@@ -401,7 +401,7 @@ fn add_enums(files: &Joined<'_>, lengths: &Lengths, lines: &mut Lines) -> Result
     Ok(())
 }
 
-// Of the methods of a service, before which there are so many.
+// Adds the lines of a service's methods, given the number of methods before it.
 fn add_rpcs<'a>(
     files: &Joined<'a>,
     scopes: &Scopes<'a>,
@@ -453,7 +453,7 @@ fn add_methods<'a>(
     Ok(())
 }
 
-// Meets each name with whose line the lines up to there are too long together.
+// Records each name at which the lines so far exceed the limit of a table's text.
 fn note_lines(lines: &[(Span, usize)], first: &mut First)
     ensures { Meets (AtSome (OfElement lines.now (IsPast lines.now))) first.old first.new }
 {
@@ -465,7 +465,7 @@ fn note_lines(lines: &[(Span, usize)], first: &mut First)
     }
 }
 
-// Meets the first name with whose line the lines, in the order of the text, are too long together.
+// Records the first name at which the lines, in the order of the text, exceed the limit of a table's text.
 pub(crate) fn note_text<'a>(
     alloc: Global,
     files: &Joined<'a>,

@@ -1,4 +1,4 @@
-//! What stands against messages and their fields.
+//! Violations of messages and their fields.
 
 ghost use Rattle.std.specs.Prelude.{◌≡◌, ◌<◌, ◌⊎◌, ℕ, true, List, [], ◌∷◌, length, ◌==◌, ◌||◌, Some, IfOk, OnOk};
 ghost use Rattle.mrpc_table.specs.declared.limits.TheConstants.{MAX_FIELDS as FIELDS};
@@ -93,7 +93,7 @@ fn note_all_types<'a>(
     }
 }
 
-// Against a number, of which it is known whether an earlier field has it and whether it is reserved.
+// Records the violations of a number, given whether an earlier field has it and whether it is reserved.
 fn note_number(number: &Number, is_met: bool, is_reserved: bool, first: &mut First)
     ensures { Meets (λ q s. (((IsFieldNumberOf (value_of number.now) → ⊥) × Is reasons.NumberRange number.now.span q s)
         ⊎ IsWhere is_met reasons.DuplicateNumber number.now.span q s)
@@ -105,7 +105,7 @@ fn note_number(number: &Number, is_met: bool, is_reserved: bool, first: &mut Fir
     first.note_if(is_reserved, ResolveReason::Reserved, number.span);
 }
 
-// Whether the place of a number was met before; it is met now.
+// Adds the position of a number to a set. Returns true if it was there before.
 fn meet(met: &mut BTreeMap<u128, ()>, place: u128) -> Result<bool, Memory>
     ensures was_met { IfOk result (λ r. r ≡ has_met met.old place) }
     ensures meets { OnOk result ((p : ℕ) → has_met met.new p ≡ (p == place || has_met met.old p)) }
@@ -171,7 +171,7 @@ fn note_message<'a>(
     Ok(())
 }
 
-// Meets what stands against the messages, but for names that stand twice and names that are long in full.
+// Records the violations of the messages, except duplicate names and long full names.
 pub(crate) fn note_messages<'a>(
     alloc: Global,
     files: &Joined<'a>,

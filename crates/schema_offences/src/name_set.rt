@@ -1,4 +1,4 @@
-//! Names that are reserved, long, or one too many.
+//! Reserved names, long names, and names past a limit.
 
 ghost use Rattle.std.specs.Prelude.{◌≡◌, ◌↔◌, ℕ, List, IsTrue, IfOk};
 ghost use Rattle.proto_file.specs.declared.file.Word.{Word};
@@ -13,7 +13,7 @@ use proto_file::{Word, Words};
 use std::alloc::Global;
 use std::collections::BTreeMap;
 
-// Names as a set.
+// A set of names.
 #[derive(Drop)]
 pub(crate) struct NameSet<'a> {
     names: BTreeMap<&'a [u8], ()>,
@@ -38,7 +38,7 @@ impl<'a> NameSet<'a> {
         self.names.get(&name).is_some()
     }
 
-    // Meets what stands against a name of a list with a limit.
+    // Records the violations of a name in a list that has a limit.
     pub(crate) fn note_name(&self, i: usize, limit: usize, word: &'a Word, first: &mut First)
         ensures { (words : List Word) → KeepsNames words self.now
             → Meets (NameOffends words limit i word.now) first.old first.new }
@@ -50,7 +50,7 @@ impl<'a> NameSet<'a> {
     }
 }
 
-// Meets a name of more than 64 bytes.
+// Records a name of more than 64 bytes.
 pub(crate) fn note_long(word: &Word, first: &mut First)
     ensures { Meets (IsLong word.now) first.old first.new }
 {

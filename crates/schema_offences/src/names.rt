@@ -1,4 +1,4 @@
-//! Which names are declared twice in a scope.
+//! Duplicate names in scopes.
 
 ghost use Rattle.std.specs.Prelude.{◌≡◌, ◌<◌, ◌+◌, ◌⊎◌, ◌↔◌, ◌++◌, ◌∷◌, [], ℕ, List, Option, Some, None, slice_get, length, map, true, IfOk, OnOk};
 ghost use Rattle.proto_file.specs.Together.{IsFormed};
@@ -18,7 +18,7 @@ use schema_names::{Scopes, one_number, one_scope};
 use std::alloc::Global;
 use std::collections::BTreeMap;
 
-// A name that something declares in a scope.
+// A name that is declared in a scope.
 #[derive(Clone, Copy)]
 struct Declared<'a> {
     scope: usize,
@@ -36,7 +36,7 @@ fn name_in<'a>(scope: usize, word: &'a Word) -> Declared<'a>
     }
 }
 
-// The number of the scope of what stands in a file or in a message.
+// The number of the scope inside a file or a message.
 fn number_in<'a>(scopes: &Scopes<'a>, home: Home) -> usize
     requires behind { StandBehind scopes.now }
     requires place { IsPlace scopes.now home }
@@ -177,7 +177,7 @@ fn add_enums<'a>(
     Ok(())
 }
 
-// The scope of a service's methods has a number behind those of all scopes.
+// Adds a service. The scope of its methods has a number after those of all other scopes.
 fn add_service<'a>(
     scopes: &Scopes<'a>,
     scope: usize,
@@ -214,13 +214,13 @@ fn add_services<'a>(
     Ok(())
 }
 
-// Where each name of a scope starts first.
+// The offset of the first occurrence of each name in each scope.
 #[derive(Drop)]
 struct Starts<'a> {
     by: BTreeMap<(usize, &'a [u8]), usize>,
 }
 
-// The lesser of two starts, of which the first may be unknown.
+// The lesser of two offsets, of which the first may be unknown.
 fn lesser(known: Option<usize>, start: usize) -> usize
     ensures { (place : ℕ) → (result < place) ↔ (IsBefore known place ⊎ (start < place)) }
 {
@@ -255,7 +255,7 @@ impl<'a> Starts<'a> {
         Ok(())
     }
 
-    // Whether the same name starts earlier somewhere in its scope.
+    // True if the name also occurs earlier in its scope.
     fn is_later(&self, name: &Declared<'a>) -> bool
         ensures { (result ≡ true) ↔ IsBefore (start_in self.now name.now.scope name.now.name.now) name.now.span.start }
     {
@@ -276,7 +276,7 @@ fn note_later<'a>(names: &[Declared<'a>], starts: &Starts<'a>, first: &mut First
     }
 }
 
-// Meets a name that is a package's in its scope, or a front of one.
+// Records a name that is a package's name in its scope, or a prefix of one.
 fn note_package_name<'a>(scopes: &Scopes<'a>, home: Home, word: &'a Word, first: &mut First)
     requires behind { StandBehind scopes.now }
     requires place { IsPlace scopes.now home }
@@ -313,7 +313,7 @@ fn note_enum_packages<'a>(files: &Joined<'a>, scopes: &Scopes<'a>, first: &mut F
     }
 }
 
-// Meets each name that an earlier thing of its scope has, and each type that has the name of a package.
+// Records each name that is declared earlier in its scope, and each type with the name of a package.
 pub(crate) fn note_duplicates<'a>(
     alloc: Global,
     files: &Joined<'a>,

@@ -16,7 +16,7 @@ use mrpc_table::{Decimal, Memory, is_field_number};
 use proto_file::{Number, Range};
 use std::alloc::Global;
 
-// The place of 0. All numbers of more than 64 bits stand at the two ends.
+// The position of 0. Numbers of more than 64 bits are clamped to the two ends.
 pub(crate) const ZERO: u128 = 0x1_0000_0000_0000_0000;
 
 fn size_of(value: Decimal) -> u128
@@ -29,7 +29,7 @@ fn size_of(value: Decimal) -> u128
     }
 }
 
-// The place of a number among those from -2^64 on.
+// The position of a number, counted from -2^64.
 pub(crate) fn place_of(number: &Number) -> u128
     ensures is { IsPlaceOf result (value_of number.now) }
     ensures small { result ≤ 2 ^ 65 }
@@ -42,7 +42,7 @@ pub(crate) fn place_of(number: &Number) -> u128
     }
 }
 
-/// The number of a field: 1 to 536870911, and not 19000 to 19999.
+/// Returns the number of a field: 1 to 536870911, except 19000 to 19999.
 pub fn field_number(number: &Number) -> Option<u32>
     ensures { MatchOption result (IsFieldNumberOf (value_of number.now) → ⊥)
         (λ n. (value_of number.now ≡ pos n) × IsFieldNumber n) }
@@ -56,7 +56,7 @@ pub fn field_number(number: &Number) -> Option<u32>
     }
 }
 
-// A number of 32 bits with a sign.
+// A signed number of 32 bits.
 fn signed(negative: bool, size: u64) -> Option<i32>
     ensures { let n = if negative then neg_ℤ (pos size) else pos size in
         MatchOption result (FitsSigned w32 n → ⊥) (λ r. r ≡ n) }
@@ -74,7 +74,7 @@ fn signed(negative: bool, size: u64) -> Option<i32>
     }
 }
 
-/// The number of an enum's value: 32 bits with a sign.
+/// Returns the number of an enum's value, a signed number of 32 bits.
 pub fn enum_number(number: &Number) -> Option<i32>
     ensures { MatchOption result (FitsSigned w32 (value_of number.now) → ⊥) (λ n. n ≡ value_of number.now) }
 {
@@ -84,7 +84,7 @@ pub fn enum_number(number: &Number) -> Option<i32>
     }
 }
 
-// The places of the first and the last number of a range, of which `max` is past every number.
+// The positions of the first and the last number of a range; `max` is past every number.
 fn ends(range: &Range) -> (u128, u128)
     ensures { IsEndsOf range.now result }
 {
@@ -106,7 +106,7 @@ fn all_ends(alloc: Global, ranges: &[Range]) -> Result<Vec<(u128, u128)>, Memory
     Ok(all)
 }
 
-// The ends of ranges by ascending first places.
+// The ends of ranges, by ascending first position.
 fn sorted_ends(alloc: Global, ranges: &[Range]) -> Result<Vec<(u128, u128)>, Memory>
     ensures { IfOk result (λ v. AreSortedEnds ranges.now v.items) }
 {
@@ -115,7 +115,7 @@ fn sorted_ends(alloc: Global, ranges: &[Range]) -> Result<Vec<(u128, u128)>, Mem
     Ok(sorted)
 }
 
-// Each one with the largest last place up to there.
+// Replaces each last position by the largest one up to there.
 fn reach_out(alloc: Global, sorted: &[(u128, u128)]) -> Result<Vec<(u128, u128)>, Memory>
     ensures { IfOk result (λ v. v.items ≡ reach_from 0 sorted.now) }
 {
@@ -129,7 +129,7 @@ fn reach_out(alloc: Global, sorted: &[(u128, u128)]) -> Result<Vec<(u128, u128)>
     Ok(reached)
 }
 
-// How many of the first places aren't above a place.
+// The number of ranges whose first position is at most `place`.
 fn begin_by(ranges: &[(u128, u128)], place: u128) -> usize
     ensures within { result ≤ length ranges.now }
     ensures parts { IsNonDecreasingBy {X = ℕ × ℕ} (λ e. e.0) ranges.now
@@ -139,7 +139,7 @@ fn begin_by(ranges: &[(u128, u128)], place: u128) -> usize
     ranges.partition_point(|range| range.0 <= place)
 }
 
-// Reserved numbers: by ascending first place, each with the largest last one of the ranges up to there.
+// Reserved numbers: ranges by ascending first position, each extended to the largest last position up to there.
 #[derive(Drop)]
 pub(crate) struct Reserved {
     ranges: Vec<(u128, u128)>,
@@ -155,7 +155,7 @@ impl Reserved {
         Ok(Reserved { ranges: reached })
     }
 
-    // Whether a range has the number of a place: one of those that begin at it or below ends at it or above.
+    // True if a range contains the number at a position: it starts at or below the position, and ends at or above it.
     pub(crate) fn has(&self, place: u128) -> bool
         ensures { (ranges : List Range) (n : ℤ) → KeepsRanges ranges self.now → IsPlaceOf place n → place ≤ 2 ^ 65
             → IsTrue result ↔ IsReserved ranges n }

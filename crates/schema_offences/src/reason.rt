@@ -1,40 +1,42 @@
-//! What can stand against a file.
+//! The schema rules that a file can violate.
 
 ghost use Rattle.std.specs.Prelude.{◌≡◌};
 
 use std::error::Error;
 use std::fmt;
 
-/// What stands against a name or a number of a file. Of several reasons at one place the first of this list counts.
+/// Why a name or a number of a file is a violation. If one has several reasons, the first one in this list counts.
 #[derive(Clone, Copy, Debug, PartialEq, Eq)]
 pub enum ResolveReason {
-    /// No message or enum has this name, or, as the type of an rpc, no message.
+    /// No message or enum has this name; for the type of an rpc, no message has it.
     UnknownName,
-    /// A field number out of 1 to 536870911 or in 19000 to 19999, or an enum's number out of 32 signed bits.
+    /// A field number outside 1 to 536870911 or in 19000 to 19999, or an enum's number that isn't a signed number of
+    /// 32 bits.
     NumberRange,
     /// A field number that an earlier field of the message has.
     DuplicateNumber,
-    /// A name that an earlier thing of its scope has (values stand beside their enum), or a type that fronts a package.
+    /// A name that is declared earlier in its scope (the values of an enum are in the scope that encloses it), or a
+    /// type with the name of a package or of a prefix of one.
     DuplicateName,
-    /// A number or a name of a field or of an enum's value that is reserved there.
+    /// The number or name of a field, or of an enum's value, is reserved there.
     Reserved,
     /// The first value of an enum isn't 0.
     FirstEnum,
-    /// A map's key that is neither integral, nor a bool, nor a string.
+    /// The key of a map is neither integral, nor a bool, nor a string.
     MapKey,
-    /// A map under a label, in a oneof, or as the value of a map.
+    /// A map has a label, is in a oneof, or is the value of a map.
     MapPlace,
     /// More than 256 messages, enums or methods, 128 fields of a message, 1024 values of an enum, 64 bytes of a name,
     /// 255 bytes of a full name, or 65536 bytes of the table's text.
     Limit,
-    /// An import: a file alone has no other.
+    /// An import. A file alone can't import another.
     Import,
 }
 
 impl ResolveReason {
     ghost use Rattle.schema_offences.specs.Reason.{resolve_word};
 
-    /// The word that names the reason in a printed fault.
+    /// The word that names the reason in the text of the fault.
     pub fn word(self) -> &'static str
         ensures { result.now ≡ resolve_word self }
     {

@@ -1,4 +1,4 @@
-//! What stands against services and their methods, and packages.
+//! Violations of services and their methods, and of packages.
 
 ghost use Rattle.std.specs.Prelude.{◌≡◌, ◌<◌, ℕ, List, length, IfSome, IfNone};
 ghost use Rattle.proto_file.specs.Together.{IsFormed, IsOrdered};
@@ -17,7 +17,7 @@ use mrpc_table::{MAX_METHODS, is_short_full};
 use proto_file::{Head, Home, Joined, RpcDecl, Word};
 use schema_names::{Named, Scopes, one_name};
 
-/// The message that the type of a file's rpc names: no scalar and no enum.
+/// Returns the message that the type of a file's rpc names; none if it names a scalar, an enum or nothing.
 pub fn message_of<'a>(scopes: &Scopes<'a>, file: usize, word: &'a Word) -> Option<usize>
     requires { file < length scopes.now.heads }
     ensures some { IfSome result (λ i. (full : List (List ℕ))
@@ -54,7 +54,7 @@ fn note_method<'a>(scopes: &Scopes<'a>, file: usize, i: usize, rpc: &'a RpcDecl,
     note_message(scopes, file, &rpc.output, first);
 }
 
-// Meets what stands against the services, but for names that stand twice and names that are long in full.
+// Records the violations of the services, except duplicate names and long full names.
 pub(crate) fn note_services(files: &Joined<'_>, first: &mut First)
     ensures { Meets (AtSome (OfElement files.now.services IsLongService)) first.old first.new }
 {
@@ -64,7 +64,7 @@ pub(crate) fn note_services(files: &Joined<'_>, first: &mut First)
     }
 }
 
-// Meets what stands against the methods of all services.
+// Records the violations of the methods of all services.
 pub(crate) fn note_methods<'a>(files: &Joined<'a>, scopes: &Scopes<'a>, first: &mut First)
     requires formed { IsFormed files.now }
     requires ordered { IsOrdered files.now }
@@ -80,7 +80,7 @@ pub(crate) fn note_methods<'a>(files: &Joined<'a>, scopes: &Scopes<'a>, first: &
     }
 }
 
-// Meets each package whose name is too long.
+// Records each package whose name is too long.
 pub(crate) fn note_packages(files: &Joined<'_>, first: &mut First)
     ensures { Meets (AtSome (OfElement files.now.heads PackageIn)) first.old first.new }
 {

@@ -1,4 +1,4 @@
-//! What the types of fields are.
+//! The types of fields.
 
 ghost use Rattle.std.specs.Prelude.{◌≡◌, ◌<◌, ◌↔◌, ℕ, true, List, [], ◌∷◌, length, Some, MatchOption, IsTrue};
 ghost use Rattle.mrpc_table.specs.Words.{is_key};
@@ -22,7 +22,8 @@ pub enum TypeOf {
     Named(Named),
 }
 
-/// A field's type, its label where it is in no oneof, and the place of its oneof in the text's message.
+/// The shape of a field: its type, its label if it is in no oneof, and the index of its oneof among those of its
+/// message.
 #[derive(Clone, Copy)]
 pub struct Form {
     pub label: Label,
@@ -30,8 +31,8 @@ pub struct Form {
     pub type_of: TypeOf,
 }
 
-// What a type's name in a field of a message means, as a file sees it: a scalar's name is that scalar, whatever is
-// declared.
+// What the name of a type means in a field of a message, given the files that are visible. The name of a scalar
+// always means the scalar, whatever is declared.
 pub(crate) fn type_of<'a>(
     scopes: &Scopes<'a>,
     file: usize,
@@ -57,7 +58,7 @@ fn is_message(type_of: TypeOf) -> bool
     matches!(type_of, TypeOf::Named(Named::Message(_)))
 }
 
-// Whether many of it can stand in one record.
+// True if repeated values of the type can be packed in one record.
 fn is_packable(type_of: TypeOf) -> bool
     ensures { result ≡ is_packable type_of }
 {
@@ -68,7 +69,7 @@ fn is_packable(type_of: TypeOf) -> bool
     }
 }
 
-// Whether a map's key may have it.
+// True if the type can be the key of a map.
 pub(crate) fn may_be_key(type_of: TypeOf) -> bool
     ensures { result ≡ may_be_key type_of }
 {
@@ -93,7 +94,7 @@ fn single_label(field: &FieldDecl, type_of: TypeOf) -> Label
     }
 }
 
-// Whether a map stands under a label or in a oneof, or is the value of a map.
+// True if a map has a label, is in a oneof, or is the value of a map.
 pub(crate) fn is_misplaced_map(field: &FieldDecl) -> bool
     ensures { IsTrue result ↔ IsMisplaced field.now }
 {
@@ -104,7 +105,7 @@ pub(crate) fn is_misplaced_map(field: &FieldDecl) -> bool
     }
 }
 
-// The kind of a map's key, where keys may have it.
+// The kind of a map's key, if it is allowed as a key.
 fn key_of(word: &Word) -> Option<Kind>
     ensures { MatchOption result ((k : Kind) → IsScalar word.now.name k → is_key k ≡ true → ⊥)
         (λ k. IsScalar word.now.name k × (is_key k ≡ true)) }
@@ -113,7 +114,7 @@ fn key_of(word: &Word) -> Option<Kind>
     if kind.is_key() { Some(kind) } else { None }
 }
 
-/// The form of a field in a table; none where its types are at fault, or where no map may stand.
+/// Returns the shape of a field in a table; none if a type of the field is a violation, or a map isn't allowed there.
 pub fn form_of<'a>(
     scopes: &Scopes<'a>,
     file: usize,

@@ -1,4 +1,4 @@
--- What resolving answers.
+-- What resolving returns.
 use Rattle.std.proofs.Common.{◌≡◌, ◌∙◌, List, length, ap}
 use Rattle.std.proofs.lemmas.List.Elements.{All-contains}
 use Rattle.proto_file.specs.Order.{IsPlaceBelow}

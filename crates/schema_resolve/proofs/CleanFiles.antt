@@ -1,4 +1,4 @@
--- What holds of files against which nothing stands.
+-- Properties of files without a violation.
 use Rattle.std.proofs.Common.{◌≡◌, ℕ, zero, suc, ◌+◌, ◌<◌, ◌≤◌, inl, inr, List, [], ◌∷◌, ◌++◌, length, get_or, Option}
 use Rattle.std.proofs.Common.{Some, None, refl, sym, ap, ◌∙◌, subst, arith}
 use Rattle.std.specs.Prelude.{Contains, slice_get}
@@ -107,7 +107,7 @@ pub record ScopeParts (F : Joined) (i : ℕ) (s : List (List ℕ)) : Type 0 wher
 pub scope_parts : {F : Joined} {i : ℕ} {s : List (List ℕ)} → IsScope F (home.Message i) s → ScopeParts F i s
 scope_parts (of_message i m {outer} at up) = record { decl = m; outer = outer; at = at; up = up; is = refl }
 
--- what stands in a file or in a message has one scope
+-- the scope inside a file or a message is unique
 pub one_scope : {F : Joined} {p : Home} {s t : List (List ℕ)} → IsScope F p s → IsScope F p t → s ≡ t
 one_scope (of_file k) (of_file l) = refl
 one_scope {F} (of_message i m {outer} at up) (of_message j n {outer = outer'} at' up') =
@@ -152,14 +152,14 @@ enum_outer {F} formed e c =
     (λ q is. scope_at formed q (parent_below (length F.messages) q e.parent is
     (All-contains (λ (x : EnumDecl). IsPlaceBelow (length F.messages) x.parent) F.enums e formed.enum_parents c)))
 
--- ---- no name stands twice
+-- ---- no duplicate names
 
 not_twice : (F : Joined) (j k : ℕ) (a b : Sort) (full : List (List ℕ)) (s t : Span) → IsClean F → Declares F j a full s
     → Declares F k b full t → s.start < t.start → ⊥
 not_twice F j k a b full s t clean d e l =
     clean DuplicateName t (Offences.twice t (Offences.declared j k a b full s d e l) (refl, refl))
 
--- declarations whose full names have one text are one
+-- declarations whose full names have the same text are one
 pub one_declaration : (F : Joined) {j k : ℕ} (x y : Declaration) (a b : Sort) (f g : List (List ℕ)) (s t : Span)
     → IsOrdered F → IsClean F → Declares F j a f s → Declares F k b g t → StandsAt F s x its_name → StandsAt F t y its_name
     → AreNames f → AreNames g → text_of f ≡ text_of g → x ≡ y
@@ -198,7 +198,7 @@ full_text fronts names name place outer formed fronts_are h among up =
     ap (λ (t : List ℕ). behind t name) (front_at fronts names place outer fronts_are h among up)
     ∙ behind_text outer name (scope_names formed up)
 
--- where a message or an enum stands is there
+-- the file or message that encloses a message or an enum exists
 home_among : (files messages file : ℕ) (parent : Option ℕ) → file < files → IsPlaceBelow messages parent
     → IsPlaceAmong files messages (home_in file parent)
 home_among files messages file None l h = l
@@ -272,7 +272,7 @@ enums_more {F} fronts messages names more name i e formed fronts_are all known c
       ];
     })
 
--- a message, with its full name and where that stands
+-- a message, with its full name and the span of its name
 pub record HereMessage (F : Joined) (i : ℕ) : Type 0 where
   pub decl : MessageDecl
   pub outer : List (List ℕ)
@@ -377,7 +377,7 @@ few_enums F clean = elim (cases_lt MAX_ENUMS (length F.enums)) [
   | inr few ↦ few
 ]
 
--- what a loop reads
+-- the item that a loop reads
 pub item_at : {X : Type 0} (xs ys : List X) (i : ℕ) (x : X) → xs ≡ ys → i < length ys → x ≡ get_or xs i x
     → slice_get ys i ≡ Some x
 item_at xs ys i x e l is = slice_get_read ys (length ys) i x refl l (is ∙ ap (λ zs. get_or zs i x) e)

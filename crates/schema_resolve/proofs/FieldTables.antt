@@ -1,4 +1,4 @@
--- The fields of clean files have forms, and numbers that differ.
+-- The fields of clean files have shapes, and distinct numbers.
 use Rattle.std.proofs.Common.{◌≡◌, ◌≢◌, ℕ, suc, ◌+◌, ◌<◌, ◌≤◌, inl, inr, Bool, true, false, List, [], ◌∷◌, ◌++◌}
 use Rattle.std.proofs.Common.{length, get_or, map, take, Option, Some, None, refl, sym, ap, ◌∙◌, subst, arith}
 use Rattle.std.specs.Prelude.{Contains, slice_get, pos, IsTrue}
@@ -45,12 +45,12 @@ use Rattle.schema_resolve.proofs.Orders.{AreApart, apart_distinct, apart_moved, 
 use Rattle.schema_resolve.proofs.CleanFiles.{in_list, at_in, some_at, one_declaration, here_message}
 use Rattle.schema_resolve.proofs.EnumTables.{contains_map, map_contains, map_twice}
 
--- ---- forms
+-- ---- shapes
 
 found_type : {F : Joined} {file : ℕ} {full : List (List ℕ)} → Finds F file no_type full → ⊥
 found_type h = absurd (false≢true h.names_type)
 
--- the names of what stands in a message
+-- the names of a declaration inside a message
 pub field_names : (outer : List (List ℕ)) (name inner : List ℕ) → AreNames (outer ++ name ∷ [])
     → IsTrue (is_name_form inner) → AreNames (outer ++ name ∷ inner ∷ [])
 field_names outer name inner h n =

@@ -53,7 +53,7 @@ name_no_dot (c ∷ cs) e =
     let p = and_parts (is_name_start c) (list_all is_name_byte cs) e in
     (start_no_dot c p.0, bytes_no_dot cs p.1)
 
--- ---- cutting what was joined
+-- ---- splitting a joined text
 
 cut_at : (c : ℕ) (ps : List (List ℕ)) (b : Bool) → b ≡ false → cond b ([] ∷ ps) (onto_first c ps) ≡ onto_first c ps
 cut_at c ps true e = absurd (false≢true (sym e))
@@ -68,7 +68,7 @@ parts_more [] rest h = refl
 parts_more (c ∷ cs) rest h =
     cut_at c (parts_of (cs ++ dot ∷ rest)) (c == dot) h.0 ∙ ap (onto_first c) (parts_more cs rest h.1)
 
--- a full name's parts are those of its text
+-- the parts of a full name are those of its text
 pub parts_of_text : (name : List ℕ) (names : List (List ℕ)) → AreNames (name ∷ names)
     → parts_of (text_of (name ∷ names)) ≡ name ∷ names
 parts_of_text name [] h =
@@ -84,14 +84,14 @@ text_some [] names h = absurd (false≢true (and_parts false (list_all is_name_f
 text_some (c ∷ cs) [] h = (c, cs, refl)
 text_some (c ∷ cs) (other ∷ names) h = (c, cs ++ dot ∷ text_of (other ∷ names), refl)
 
--- full names of one text are equal
+-- full names with the same text are equal
 pub same_text : (f g : List (List ℕ)) → AreNames f → AreNames g → text_of f ≡ text_of g → f ≡ g
 same_text [] [] p q e = refl
 same_text [] (y ∷ ys) p q e = let s = text_some y ys q in let f : [] ≡ s.0 ∷ s.1 = e ∙ s.2 in cc
 same_text (x ∷ xs) [] p q e = let s = text_some x xs p in let f : [] ≡ s.0 ∷ s.1 = sym e ∙ s.2 in cc
 same_text (x ∷ xs) (y ∷ ys) p q e = sym (parts_of_text x xs p) ∙ ap parts_of e ∙ parts_of_text y ys q
 
--- ---- a name behind a full name
+-- ---- a name after a full name
 
 join_more : (x : List ℕ) (xs : List (List ℕ)) (name : List ℕ)
     → text_of (x ∷ xs ++ name ∷ []) ≡ text_of (x ∷ xs) ++ dot ∷ name

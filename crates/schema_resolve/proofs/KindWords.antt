@@ -1,4 +1,4 @@
--- Which labels go with which kinds, and the words of kinds.
+-- The labels that are valid for each kind, and the words for kinds.
 use Rattle.std.proofs.Common.{◌≡◌, ℕ, ◌<◌, Bool, true, false, cond, List, [], ◌∷◌, ◌++◌, length, get_or, Option, Some, None, refl, sym, ap, ◌∙◌, subst, arith}
 use Rattle.std.specs.Prelude.{codes, slice_get, ◌&&◌, unwrap_or}
 use Rattle.std.proofs.lemmas.Bool.{false≢true, true≢false, and_parts}
@@ -124,7 +124,7 @@ sorted Double = a_scalar refl
 sorted Text = a_scalar refl
 sorted Octets = a_scalar refl
 
--- no scalar is written like a message or an enum
+-- no scalar has the word of a message or an enum
 not_message_word : (k : Kind) (name : List ℕ) → is_scalar k ≡ true → kind_text no_table k ≡ codes "message:" ++ name → ⊥
 not_message_word k name s e =
     none-some k (subst (λ (w : List ℕ). scalar_of w ≡ Some k) e (scalar_known k s))
@@ -226,7 +226,7 @@ single_goes T n k F file scope w word Repeated packed im pk typ e =
     repeated_goes n k (pk && isnt_false packed)
     (λ h. numeric T k F file scope w word im pk typ (and_parts pk (isnt_false packed) h).0 e)
 
--- what the label of a form is: that of its oneof, or one that goes with its kind
+-- the label of a shape is that of its oneof, or one that is valid for its kind
 pub record LabelParts (T : Table) (n : ℕ) (k : Kind) (oneof : Option ℕ) (label : Label) : Type 0 where
   pub none : oneof ≡ None → IsNoMember label × GoesWith n label k
   pub some : (o : ℕ) → oneof ≡ Some o → label ≡ labels.Member o
@@ -347,7 +347,7 @@ enum_kind F p T i full span plan has (Numbers.enum j x {outer} there up) =
       subst (λ (k : ℕ). k < length T.enums) (sym place) r.1,
     )
 
--- the kind of a form in a table
+-- the kind of a shape in a table
 pub kind_word : (F : Joined) (file : ℕ) (p : Plan) (T : Table) (scope : List (List ℕ)) (f : FieldDecl) (label : Label)
     (type_of : TypeOf) (word : List ℕ) → IsFormed F → IsPlan F p → HasNames p T → IsWordOf F type_of word
     → HasForm F file scope f label word → (kind_text T (kind_in p type_of) ≡ word) × IsKnown T (kind_in p type_of)

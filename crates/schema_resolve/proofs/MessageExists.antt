@@ -1,4 +1,4 @@
--- Each message of files against which nothing stands is one of a table.
+-- Each message of files without a violation has a message of a table.
 use Rattle.std.proofs.Common.{◌≡◌, ◌⊎◌, inl, inr, ℕ, zero, suc, ◌<◌, ◌≤◌, ◌^◌, Bool, List, [], ◌∷◌, ◌++◌, length}
 use Rattle.std.proofs.Common.{get_or, take, Option, Some, None, refl, sym, ap, ◌∙◌, subst, arith, add-one}
 use Rattle.std.specs.Prelude.{Contains, slice_get}
@@ -47,7 +47,7 @@ use Rattle.schema_resolve.proofs.NotRefuted.{IsNotRefuted, all_chosen}
 use Rattle.schema_resolve.proofs.Sorting.{in_order, ascends_not_decreasing}
 use Rattle.schema_resolve.proofs.PlanExists.{vec_of, ref_of}
 
--- ---- types and forms
+-- ---- types and shapes
 
 pub message_stands : {F : Joined} {file : ℕ} {full : List (List ℕ)} {span : Span} → Declares F file a_message full span
     → (i : ℕ) × StandsAt F (named.Message i) full span × IsOfFile F (named.Message i) file
@@ -67,7 +67,7 @@ found_enum : {F : Joined} {file : ℕ} {full : List (List ℕ)} → Finds F file
     → (i : ℕ) × (span : Span) × StandsAt F (named.Enum i) full span
 found_enum h = let s = enum_stands h.declared in (s.0, h.span, s.1)
 
--- what a type's word is of: a scalar, or a message or an enum by its place
+-- the type with a word: a scalar, or a message or an enum by its index
 type_kept : (F : Joined) (file : ℕ) (scope : List (List ℕ)) (w : Word) (word : List ℕ) (is_message packable : Bool)
     → HasType F file scope w word is_message packable → (type_of : TypeOf) × IsWordOf F type_of word
 type_kept F file scope w word im pk (scalar k s) = (Scalar k, sym s.named)
@@ -94,7 +94,7 @@ form_kept F file scope f label word has =
 
 -- ---- fields
 
--- the field of a clean message, with its number and its form
+-- the field of a clean message, with its number and its shape
 judged_exists : (F : Joined) (place : ℕ) (m : MessageDecl) (f : FieldDecl) → IsFormed F → IsClean F
     → slice_get F.messages place ≡ Some m → Contains m.fields f
     → IsNotRefuted ((j : Judged) × IsJudged F m.file place f j)
@@ -147,7 +147,7 @@ in_rest : {X : Type 0} (x : X) (xs : List X) (y : X) (k : ℕ) → k < length (x
 in_rest x xs y zero l e = inl e
 in_rest x xs y (suc k) l e = inr (k, omega arith, e)
 
--- there are no more oneofs than fields
+-- a message has no more oneofs than fields
 no_more_oneofs : (n : ℕ) (fs : List FieldDecl)
     → ((o : ℕ) → o < n → (f : FieldDecl) × Contains fs f × (f.oneof ≡ Some o)) → n ≤ length fs
 no_more_oneofs zero fs h = omega arith
@@ -189,7 +189,7 @@ no_oneofs words few =
     let o : Oneofs = record { names = []; places = vec_of none.0 (omega (arith, none.1.count_is)) } in
     (o, keeps_none words o refl none.1, refl)
 
--- a oneof's place, and the oneofs with it
+-- the index of a oneof, and the oneofs including it
 record OneofPlaced (words : List Word) (i : ℕ) (old : Oneofs) : Type 0 where
   new : Oneofs
   place : ℕ
@@ -221,7 +221,7 @@ oneof_placed_at words i old None keeps l at =
       placed = k.1;
     }
 
--- the label of a field, and the oneofs with its own
+-- the label of a field, and the oneofs including its own
 record LabelMade (words : List Word) (oneof : Option ℕ) (form : Label) (old : Oneofs) : Type 0 where
   new : Oneofs
   label : Label
@@ -236,7 +236,7 @@ label_made words (Some i) form old keeps below =
     let h = oneof_placed_at words i old at.0 keeps below at.1 in
     record { new = h.new; label = Member h.place; keeps = h.keeps; is = (h.place, refl, h.has_place, h.placed) }
 
--- the field of the table, and the oneofs with its own
+-- the field of the table, and the oneofs including its own
 record FieldMade (p : Plan) (words : List Word) (j : Judged) (old : Oneofs) : Type 0 where
   new : Oneofs
   field : Field
@@ -258,7 +258,7 @@ field_made p words j old keeps below =
 
 -- ---- the message
 
--- the first fields of a message, and the oneofs that they met
+-- the first fields of a message, and the oneofs that they need
 record FieldsMade (p : Plan) (words : List Word) (js : List Judged) (i : ℕ) : Type 0 where
   oneofs : Oneofs
   fields : List Field

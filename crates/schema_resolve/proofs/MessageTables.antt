@@ -84,7 +84,7 @@ ascends_alike R f g h (next {x} {y} r (next {x = z} {y = w} s rest)) a = (
   ascends_alike R f g h (next s rest) a.1,
 )
 
--- ---- fields one behind another
+-- ---- fields, one after another
 
 joins_plain : (met : ℕ) (l : Label) (same other : Type 0) → IsNoMember l → same → Joins met l same other
 joins_plain met Plain same other h s = s
@@ -207,13 +207,13 @@ made_more plan words js i j old new g gs more at plain is e h few =
       (let n : length new.names ≤ length old.names + 1 = step.few in omega arith),
     )
 
--- ---- what was judged
+-- ---- fields with their numbers and shapes
 
 no_member_label : (o : Option ℕ) (label : Label) → IsNoMember (label_in o label) → IsNoMember label
 no_member_label None label h = h
 no_member_label (Some i) label h = absurd h
 
--- a oneof's name in the text of a label
+-- the name of a oneof in the text of a label
 member_text : (T : Table) (words : List Word) (names : List (List ℕ)) (i q : ℕ) → IsPlacedOneof words names i q
     → label_text T names (Member q) ≡ label_text T (map (λ o. o.name) words) (Member i)
 member_text T words names i q h =
@@ -341,7 +341,7 @@ oneof_named F place m k w formed clean at here =
 same_oneof : (i j k : ℕ) → oneof_decl i j ≡ oneof_decl i k → j ≡ k
 same_oneof i j k e = cc
 
--- oneofs of one name are one
+-- oneofs with the same name are one
 one_oneof : (F : Joined) (place : ℕ) (m : MessageDecl) (j k : ℕ) (x y : Word) → IsFormed F → IsOrdered F → IsClean F
     → slice_get F.messages place ≡ Some m → slice_get m.oneofs j ≡ Some x → slice_get m.oneofs k ≡ Some y
     → x.name ≡ y.name → j ≡ k

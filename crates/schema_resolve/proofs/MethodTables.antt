@@ -36,7 +36,7 @@ use Rattle.schema_resolve.proofs.FullNames.{package_names, names_more, behind_te
 use Rattle.schema_resolve.proofs.CleanFiles.{at_in}
 use Rattle.schema_resolve.proofs.EnumTables.{short_from, full_valid, scope_short, short_more, true_from}
 
--- ---- places of names
+-- ---- indices of names
 
 pub record IsAt (p : PlacedNames) (i place : ℕ) : Type 0 where
   pub order : slice_get p.order.items place ≡ Some i

@@ -1,4 +1,4 @@
--- What is not refuted, and choices along a list.
+-- Statements that are not refuted, and choices along a list.
 use Rattle.std.proofs.Common.{suc, List, [], ◌∷◌, refl, arith}
 use Rattle.std.specs.Prelude.{Contains}
 use Rattle.schema_offences.specs.Those.{AreThoseInOrder, none, next}
@@ -6,7 +6,7 @@ use Rattle.schema_offences.specs.Those.{AreThoseInOrder, none, next}
 abbrev pub IsNotRefuted : Type 0 → Type 0
 IsNotRefuted A = (A → ⊥) → ⊥
 
--- where none of a list lacks its own, there are all of them
+-- if each element of a list has its own not refuted, all of them together aren't refuted
 pub all_chosen : {X Y : Type 0} (R : X → Y → Type 0) (xs : List X)
     → ((x : X) → Contains xs x → IsNotRefuted ((y : Y) × R x y))
     → IsNotRefuted ((ys : List Y) × AreThoseInOrder R xs ys)

@@ -1,4 +1,4 @@
--- A file alone has one first offence at most.
+-- A file alone has at most one first violation.
 use Rattle.std.proofs.Common.{◌≡◌, ℕ, ◌≤◌, inl, inr, List, sym, ap, ◌∙◌, subst, arith}
 use Rattle.std.proofs.lemmas.Option.{same_Some}
 use Rattle.proto_file.specs.Joined.{Joined, alone}
@@ -17,7 +17,7 @@ use Rattle.schema_offences.specs.Offences.{Offends, IsOffence, offends, has_impo
 use Rattle.schema_offences.specs.declared.reason.ResolveReason.{ResolveReason}
 use Rattle.schema_offences.specs.declared.reason.ResolveReason.TheVariants.{UnknownName, NumberRange, DuplicateNumber, DuplicateName, Reserved, FirstEnum, MapKey, MapPlace, Limit}
 
--- ---- what stands against files is no import
+-- ---- no violation of files that are resolved together is an import
 
 ranked : (r q : ResolveReason) (span s : Span) → rank_of r ≤ 9 → Is r span q s → rank_of q ≤ 9
 ranked r q span s l is = subst (λ (x : ResolveReason). rank_of x ≤ 9) (sym is.0) l
@@ -85,9 +85,9 @@ offence_ranked {q = q} {s = s} (Offences.twice span t is) = ranked DuplicateName
 offence_ranked {q = q} {s = s} (Offences.long_in_full span l is) = ranked Limit q _ s (omega arith) is
 offence_ranked {q = q} {s = s} (Offences.long_text span p is) = ranked Limit q _ s (omega arith) is
 
--- ---- one first offence
+-- ---- the first violation is unique
 
--- an import never comes first together with another offence that does
+-- an import and another violation never both come first
 import_alone : (q r : ResolveReason) (s t : Span) → rank_of q ≤ 9 → rank_of r ≡ 10 → ComesFirst q s r t
     → ComesFirst r t q s → ⊥
 import_alone q r s t l e (inl a) (inl b) = omega arith

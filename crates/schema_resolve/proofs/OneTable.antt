@@ -1,4 +1,4 @@
--- Files have one table at most: two of them have one text.
+-- Files have at most one table: two of them have the same text.
 use Rattle.std.proofs.Common.{◌≡◌, ℕ, zero, suc, ◌+◌, ◌<◌, ◌⊎◌, inl, inr, Bool, List, [], ◌∷◌, ◌++◌, length, get_or}
 use Rattle.std.proofs.Common.{map, refl, sym, ap, ◌∙◌, subst, arith}
 use Rattle.std.specs.Prelude.{Contains, codes, ℤ, pos}
@@ -46,7 +46,7 @@ use Rattle.schema_resolve.proofs.EnumTables.{contains_map, map_contains}
 use Rattle.schema_resolve.proofs.KindWords.{same_scalar}
 use Rattle.schema_resolve.proofs.TextParts.{form_alike}
 
--- ---- sorted lists of the same elements
+-- ---- sorted lists with the same elements
 
 head_cases : {X : Type 0} (y : X) (ys : List X) (x : X) (k : ℕ) → k < length (y ∷ ys) → get_or (y ∷ ys) k x ≡ x
     → (y ≡ x) ⊎ Contains ys x
@@ -112,7 +112,7 @@ pairs_text key text (a ∷ ls) = ap (λ (t : List ℕ). text a ++ t) (pairs_text
 pair_same : {K L : Type 0} (a b : K) (c d : L) → a ≡ b → c ≡ d → ◌≡◌ {A = K × L} (a, c) (b, d)
 pair_same a b c d e f = cc
 
--- texts by ascending keys, where each has its own on the other side
+-- texts by ascending keys agree if each text occurs on the other side
 same_texts : {K : Type 0} (R : K → K → Type 0) {A B : Type 0} (keyA : A → K) (keyB : B → K) (lineA : A → List ℕ)
     (lineB : B → List ℕ) (ls : List A) (bs : List B) → ((x y z : K) → R x y → R y z → R x z) → ((x : K) → R x x → ⊥)
     → Ascends (λ a b. R (keyA a) (keyA b)) ls → Ascends (λ a b. R (keyB a) (keyB b)) bs
@@ -171,7 +171,7 @@ same_enum F e c d cv dv a b =
           ∙ ap (λ (vs : List (ℤ × List ℕ)). line (codes "enum" ∷ d.name ∷ []) ++ flat_map value_line vs) values,
     )
 
--- ---- forms
+-- ---- shapes
 
 abbrev pub NamesOne : Joined → Type 0
 NamesOne F = (file : ℕ) (scope : List (List ℕ)) (name : List ℕ) (a b : Sort) (f g : List (List ℕ))
@@ -334,7 +334,7 @@ same_methods F T U qs ms ns i one (next {x = q} {y = m} {xs} {ys} r rest) (next 
 
 -- ---- tables
 
--- two tables of files have one text
+-- two tables of files have the same text
 pub one_text_of : (F : Joined) (T U : Table) → NamesOne F → IsTableOf F T → IsTableOf F U → table_text T ≡ table_text U
 one_text_of F T U one a b =
     let en : Choices → List ℕ = λ c. c.name in
@@ -390,6 +390,6 @@ apart_types F ordered a b f g s t (Numbers.enum i m at up) (Numbers.message j n 
     absurd (let d = (ordered.apart (enum_decl i) (message_decl j) its_name its_name m.name.span n.name.span
     (Together.enum i m at refl) (Together.message j n at2 refl) e).0 in cc)
 
--- no two types start at one place
+-- no two types start at the same offset
 pub starts_apart : (F : Joined) → IsOrdered F → StartApart F
 starts_apart F ordered = record { apart = apart_types F ordered }

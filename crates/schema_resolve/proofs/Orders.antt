@@ -1,4 +1,4 @@
--- Lists that were sorted, and lists that have no element twice.
+-- Sorted lists, and lists without repeated elements.
 use Rattle.std.proofs.Common.{◌≡◌, ◌≢◌, ℕ, zero, suc, ◌+◌, ◌<◌, inl, inr, false, List, [], ◌∷◌, ◌++◌, length, get_or}
 use Rattle.std.proofs.Common.{set, take, map, refl, sym, ap, ◌∙◌, subst, arith, add-one, length-set}
 use Rattle.std.specs.Prelude.{Contains, All, Some, slice_get}
@@ -21,7 +21,7 @@ use Rattle.std.proofs.lemmas.List.Sorted.{IsPermutation-keeps, IsPermutation-map
 use Rattle.mrpc_table.specs.Valid.{Ascends, AreDistinct, IsBelow}
 use Rattle.schema_resolve.specs.Placing.{name_at, IsOrder, AreAll, ArePlaces}
 
--- ---- no element twice
+-- ---- no repeated elements
 
 abbrev pub AreApart : {X : Type 0} → List X → Type 0
 AreApart {X} xs =
@@ -108,7 +108,7 @@ pub ascends_rest : {X : Type 0} (R : X → X → Type 0) (x : X) (xs : List X) �
 ascends_rest R x [] h = tt
 ascends_rest R x (y ∷ xs) h = h.1
 
--- what ascends by a strict order has no element twice
+-- a list that ascends by a strict order has no repeated element
 pub ascends_apart : {X : Type 0} (R : X → X → Type 0) → ((x y z : X) → R x y → R y z → R x z)
     → ((x : X) → R x x → ⊥) → (xs : List X) → Ascends R xs → AreApart xs
 ascends_apart R trans strict [] h i j d a b e = absurd (omega arith)
@@ -128,7 +128,7 @@ less_at Less p rest e apart not_less = absurd (false≢true (sym not_less))
 less_at Equal p rest e apart not_less = absurd (apart refl)
 less_at Greater p rest e apart not_less = e
 
--- what isn't sorted the other way round and isn't the same ascends
+-- two elements that compare as not greater and not equal ascend
 pub less_from : {K : Type 0} (R : K → K → Ordering) → IsTotalOrder R → (a b : K) (rest : Ordering)
     → (R b a ≡ Equal → ⊥) → is_lt (ordering_then (R b a) rest) ≡ false → R a b ≡ Less
 less_from R total a b rest apart not_less =
@@ -149,7 +149,7 @@ below_trans a b c p q = nat_list_cmp_total.trans a b c p q
 pub below_strict : (a : List ℕ) → IsBelow a a → ⊥
 below_strict a p = let e : Less ≡ Equal = sym p ∙ tied_itself nat_list_cmp_total a in cc
 
--- ---- names with their numbers
+-- ---- names with their indices
 
 abbrev pub AreNamed : List (List ℕ) → List (Bor (List ℕ) × ℕ) → Type 0
 AreNamed names pairs = All (λ p. (p.1 < length names) × (p.0.now ≡ name_at names p.1)) pairs
@@ -260,7 +260,7 @@ order_of names pairs sorted distinct known moved ascends =
           (λ k d l. order_step names sorted named apart ascends k d (omega (arith, length-map sorted number_of)));
     }
 
--- ---- places
+-- ---- indices
 
 pub order_all : (names : List (List ℕ)) (order : List ℕ) → IsOrder names order → AreAll order
 order_all names order h = record {

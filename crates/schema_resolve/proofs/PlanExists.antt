@@ -1,4 +1,4 @@
--- Files against which nothing stands have a plan.
+-- Files without a violation have a plan.
 use Rattle.std.proofs.Common.{◌≡◌, ℕ, zero, suc, ◌<◌, ◌≤◌, ◌^◌, List, [], ◌∷◌, ◌++◌, length, map, set, refl, sym, ap, ◌∙◌, subst, arith, add-one}
 use Rattle.std.specs.Borrow.{Bor}
 use Rattle.std.specs.Global.{Vec}
@@ -21,7 +21,7 @@ use Rattle.schema_resolve.proofs.CleanFiles.{few_messages, few_enums}
 use Rattle.schema_resolve.proofs.Sorting.{in_order, IsNotAbove, ascends_sorted, either_way}
 use denote.RawPtr.{null_ptr}
 
--- a vector and a reference of these values
+-- a vector of these values, and a reference to it
 abbrev pub vec_of : {X : Type 0} (xs : List X) → length xs < 2 ^ 63 → Vec X
 vec_of xs few = record {
   ptr = null_ptr;
@@ -36,7 +36,7 @@ vec_of xs few = record {
 abbrev pub ref_of : {X : Type 0} → X → Bor X
 ref_of x = record { ref_ptr = (0, 0); now = x }
 
--- ---- an order, and the places in it
+-- ---- an order, and the indices in it
 
 names_with_numbers : (names : List (List ℕ)) (n : ℕ) → n ≤ length names
     → (pairs : List (Bor (List ℕ) × ℕ)) × AreKnown names n pairs
@@ -73,7 +73,7 @@ places_put order all (suc n) l =
       subst (λ (k : ℕ). ArePut order k more) (add-one n) (put_more order n at.0 rest.0 more all at.1 refl rest.1),
     )
 
--- names with their order and their places in it
+-- names with their order and their indices in it
 placed_made : (names : List (List ℕ)) → length names < 2 ^ 63 → AreDistinct names → (p : PlacedNames) × IsPlaced names p
 placed_made names few distinct =
     let order = order_made names distinct in
@@ -137,7 +137,7 @@ enum_names F fronts messages formed fronts_are count known (suc n) l =
       enums_more fronts messages rest.0 more name n e.0 formed fronts_are count known rest.1 e.1 refl refl rest.2,
     )
 
--- what is said of a plan's places says nothing of its names of packages
+-- a plan without names of packages, which the indices don't depend on
 abbrev plan_with : PlacedNames → PlacedNames → Plan
 plan_with messages enums = record { fronts = vec_of [] (omega arith); messages = messages; enums = enums }
 

@@ -116,7 +116,7 @@ method_r = record { service = codes "b.S"; name = codes "R"; input = 0; output =
 abbrev table : Table
 table = record { messages = message_a ∷ message_b ∷ []; enums = []; methods = method_r ∷ [] }
 
--- ---- what is declared
+-- ---- the declarations
 
 abbrev full_a : List (List ℕ)
 full_a = codes "a" ∷ codes "A" ∷ []
@@ -173,7 +173,7 @@ declared_one (Scopes.value e v c d up) typ = absurd cc
 declared_one (Scopes.field m f c d up) typ = absurd cc
 declared_one (Scopes.oneof m o c d up) typ = absurd cc
 
--- ---- what is named
+-- ---- the references
 
 package_small : (k : ℕ) → length (package_at both k) ≤ 1
 package_small zero = omega arith
@@ -252,7 +252,7 @@ own_message = record {
   };
 }
 
--- ---- the table is theirs
+-- ---- the table is that of the files
 
 no_scalar : IsNoScalar (codes "a.A")
 no_scalar k s =

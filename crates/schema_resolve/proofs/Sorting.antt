@@ -1,4 +1,4 @@
--- Each list has an order: its elements go one by one before the first that is not below them.
+-- Each list has an order: insertion sort puts each element before the first one that is not less.
 use Rattle.std.proofs.Common.{◌≡◌, ◌⊎◌, inl, inr, ℕ, zero, suc, ◌<◌, ◌≤◌, false, List, [], ◌∷◌, length, get_or, refl, sym, subst, arith, add-one}
 use Rattle.std.specs.List.Sorted.{IsPermutation, IsSorted, IsNonDecreasingBy}
 use Rattle.std.specs.Cmp.{IsTotalOrder}
@@ -9,7 +9,7 @@ use Rattle.std.proofs.lemmas.List.Sorted.{IsPermutation-refl, IsPermutation-cons
 use Rattle.mrpc_table.specs.Valid.{Ascends}
 use Rattle.schema_resolve.proofs.Orders.{ascends_past, ascends_rest}
 
--- an element among those that ascend; what stood before them may stand before all
+-- an element inserted into an ascending list; a common lower bound is kept
 record Inserted {X : Type 0} (R : X → X → Type 0) (x : X) (ys : List X) : Type 0 where
   list : List X
   moved : IsPermutation (x ∷ ys) list
@@ -58,7 +58,7 @@ in_order R total (x ∷ xs) =
       ascends = h.ascends;
     }
 
--- ---- as std says it
+-- ---- as the standard library defines it
 
 ascends_at : {X : Type 0} (R : X → X → Type 0) (xs : List X) → Ascends R xs → (k : ℕ) (d : X) → suc k < length xs
     → R (get_or xs k d) (get_or xs (suc k) d)
@@ -86,7 +86,7 @@ ascends_not_decreasing n (x ∷ xs) h (suc i) zero d le l = absurd (omega arith)
 ascends_not_decreasing n (x ∷ xs) h (suc i) (suc j) d le l =
     ascends_not_decreasing n xs (ascends_rest (λ x y. n x ≤ n y) x xs h) i j d (omega arith) (omega arith)
 
--- ---- by one order and then by another
+-- ---- by one order, then by another
 
 two_ways : (o p : Ordering)
     → (is_lt (ordering_then o p) ≡ false) ⊎ (is_lt (ordering_then (ordering_reverse o) (ordering_reverse p)) ≡ false)

@@ -1,4 +1,4 @@
--- Files against which nothing stands have a table, and all others have a first offence.
+-- Files without a violation have a table, and all others have a first violation.
 use Rattle.std.proofs.Common.{◌≡◌, ◌⊎◌, inl, inr, ℕ, zero, suc, ◌+◌, ◌*◌, ◌<◌, ◌≤◌, true, List, [], ◌∷◌, ◌++◌, length}
 use Rattle.std.proofs.Common.{map, refl, sym, ◌∙◌, subst, arith}
 use Rattle.std.specs.Prelude.{Contains, slice_get, ℤ, Some}
@@ -103,7 +103,7 @@ first_message F file full h =
       },
     )
 
--- the place of the message that the type of a file's rpc names
+-- the index of the message that the type of a file's rpc names
 record Located (F : Joined) (file : ℕ) (p : Plan) (name : List ℕ) : Type 0 where
   place : ℕ
   located : (T : Table) → HasNames p T → IsPlaceNamed F file T name place
@@ -191,9 +191,9 @@ table_exists F formed ordered clean never =
       },
     ))))
 
--- ---- the first offence
+-- ---- the first violation
 
--- where an offence comes among all of them
+-- the rank of a violation among all of them
 abbrev turn : ResolveReason → Span → ℕ
 turn q s = s.start * 11 + rank_of q
 
@@ -215,7 +215,7 @@ in_turn a b m n few also h = elim (cases_lt a b) [
   | inr g ↦ inr (omega arith, omega arith)
 ]
 
--- where none is the first, there is none up to any turn
+-- if no violation is the first, there is none up to any rank
 none_before : (O : ResolveReason → Span → Type 0)
     → ((q : ResolveReason) (s : Span) → O q s → ((r : ResolveReason) (t : Span) → O r t → ComesFirst q s r t) → ⊥)
     → (n : ℕ) (q : ResolveReason) (s : Span) → turn q s < n → O q s → ⊥

@@ -1,4 +1,4 @@
--- A table that was made of files says what the files say.
+-- A table that was made of files has the declarations of the files.
 use Rattle.std.proofs.Common.{◌≡◌, ℕ, zero, suc, ◌+◌, ◌<◌, ◌≤◌, ◌⊎◌, inl, inr, List, [], ◌∷◌, ◌++◌, length, get_or}
 use Rattle.std.proofs.Common.{map, take, Some, refl, sym, ap, ◌∙◌, subst, arith, zero-add}
 use Rattle.std.specs.Prelude.{Contains, slice_get}
@@ -41,7 +41,7 @@ use Rattle.schema_resolve.proofs.CleanFiles.{in_list, at_in, some_at, one_declar
 use Rattle.schema_resolve.proofs.EnumTables.{map_contains}
 use Rattle.schema_resolve.proofs.MessageTables.{in_order_weaker, in_order_get, in_order_back, in_order_map}
 
--- ---- along an order
+-- ---- in an order
 
 ascends_by : {X Y : Type 0} (Q : X → Y → Type 0) (A : X → X → Type 0) (B : Y → Y → Type 0) {xs : List X} {ys : List Y}
     → ((x z : X) (y w : Y) → Q x y → Q z w → A x z → B y w) → AreThoseInOrder Q xs ys → Ascends A xs → Ascends B ys
@@ -180,7 +180,7 @@ types_distinct F T formed ordered clean made =
 
 -- ---- methods
 
--- where an rpc stands among those of all services
+-- the index of an rpc among those of all services
 pub record RpcHere (ss : List ServiceDecl) (i : ℕ) (s : ServiceDecl) (r : RpcDecl) : Type 0 where
   pub service : ℕ
   pub rpc : ℕ
@@ -234,7 +234,7 @@ same_rpc a b i j e = (cc, cc)
 same_service : (i j : ℕ) → service_decl i ≡ service_decl j → i ≡ j
 same_service i j e = cc
 
--- of two rpcs of one service that have one name the later one is an offence
+-- if two rpcs of one service have the same name, the later one is a violation
 not_two_rpcs : (F : Joined) (s : ServiceDecl) (k i j : ℕ) (r u : RpcDecl) → IsOrdered F → IsClean F
     → slice_get F.services k ≡ Some s → slice_get s.rpcs i ≡ Some r → slice_get s.rpcs j ≡ Some u
     → r.name.name ≡ u.name.name → i < j → ⊥
@@ -246,7 +246,7 @@ not_two_rpcs F s k i j r u ordered clean at rat uat name l =
     (Together.rpc k i s r at rat (Order.rpc_name refl)) (Together.rpc k j s u at uat (Order.rpc_name refl))) refl)
     (refl, refl))
 
--- rpcs of one service that have one name are one
+-- rpcs of one service with the same name are one
 one_rpc : (F : Joined) (s : ServiceDecl) (k i j : ℕ) (r u : RpcDecl) → IsOrdered F → IsClean F
     → slice_get F.services k ≡ Some s → slice_get s.rpcs i ≡ Some r → slice_get s.rpcs j ≡ Some u
     → r.name.name ≡ u.name.name → i ≡ j

@@ -1,5 +1,5 @@
--- The lines of a table's text by the places of their names: none passes the text's limit where nothing stands against the
--- files.
+-- The lines of a table's text, by the spans of their names: none exceeds the text's limit if the files have no
+-- violation.
 use Rattle.std.proofs.Common.{◌≡◌, ◌≢◌, ℕ, suc, ◌+◌, ◌<◌, ◌≤◌, inl, inr, Bool, true, false, cond, List, [], ◌∷◌, ◌++◌}
 use Rattle.std.proofs.Common.{length, map, ltb, refl, sym, ap, ◌∙◌, subst, arith}
 use Rattle.std.specs.Prelude.{Contains}
@@ -114,7 +114,7 @@ total_length [] = refl
 total_length (e ∷ es) =
     length-append e.1 (flat_map (λ (l : Line). l.1) es) ∙ ap (λ (n : ℕ). length e.1 + n) (total_length es)
 
--- the last of lines
+-- the last of several lines
 record Last (xs : List Line) : Type 0 where
   line : Line
   inside : Contains xs line
@@ -194,7 +194,7 @@ entries_total : (es : List Entry) → total (map line_in es) ≡ length (text_in
 entries_total [] = refl
 entries_total (e ∷ es) = ap (λ (n : ℕ). length e.line + n) (entries_total es) ∙ sym (length-append e.line (text_in es))
 
--- the text of different declarations of clean files isn't too long
+-- the text of distinct declarations of clean files isn't too long
 pub entries_short : (F : Joined) (es : List Entry) → IsOrdered F → IsClean F → AllByRecursion (IsEntry F) es
     → AllDiffer es → length (text_in es) ≤ MAX_TEXT
 entries_short F es ordered clean h d = elim (cases_lt MAX_TEXT (length (text_in es))) [
@@ -207,7 +207,7 @@ entries_short F es ordered clean h d = elim (cases_lt MAX_TEXT (length (text_in 
   | inr few ↦ few
 ]
 
--- ---- entries one behind another
+-- ---- entries, one after another
 
 pub all_append : (P : Entry → Type 0) (xs ys : List Entry) → AllByRecursion P xs → AllByRecursion P ys
     → AllByRecursion P (xs ++ ys)

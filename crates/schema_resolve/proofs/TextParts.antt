@@ -1,4 +1,4 @@
--- The text of a table is made of lines of different declarations of the files.
+-- The text of a table is made of lines of distinct declarations of the files.
 use Rattle.std.proofs.Common.{◌≡◌, ℕ, suc, ◌+◌, ◌<◌, ◌≤◌, Bool, true, false, cond, List, [], ◌∷◌, ◌++◌, length}
 use Rattle.std.proofs.Common.{get_or, map, take, Option, Some, None, refl, sym, ap, ◌∙◌, subst, arith, zero-add}
 use Rattle.std.specs.Prelude.{Contains, All, slice_get, codes, ℤ, FitsSigned, ◌&&◌}
@@ -144,7 +144,7 @@ items_part F D {X} {W} xs name wname wline (w ∷ ws) one distinct found =
       among = (suc o.among.0, omega (arith, o.among.1), o.among.2);
     })
 
--- what a declaration stands in: an enum, a message or a service, and its place
+-- the class of the enum, message or service that encloses a declaration, and its index
 abbrev class : Declaration → ℕ
 class (enum_decl i) = 1
 class (value_decl i j) = 1
@@ -247,7 +247,7 @@ oneof_alike : (T : Table) (ns : List (List ℕ)) (o : Option ℕ) (l : Label) �
 oneof_alike T ns None l h = h
 oneof_alike T ns (Some i) l h = refl
 
--- a label's text says nothing of the table
+-- the text of a label doesn't depend on the table
 pub form_alike : (T : Table) (ns : List (List ℕ)) (F : Joined) (file : ℕ) (scope : List (List ℕ)) (f : FieldDecl) (label : Label)
     (word : List ℕ) → HasForm F file scope f label word → label_text T ns label ≡ label_text no_table ns label
 form_alike T ns F file scope f label word (single w text im pk is typ) =

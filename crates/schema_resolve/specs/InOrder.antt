@@ -32,13 +32,13 @@ pub record AreValues (decls : List ValueDecl) (values : List (ℤ × List ℕ)) 
   pub ascend : Ascends IsValueBelow values
   pub distinct : AreDistinct (map (λ v. v.1) values)
 
--- the enum at a place
+-- the enum with an index
 pub record IsEnumAt (F : Joined) (p : Plan) (i : ℕ) (c : Choices) : Type 0 where
   pub is : (e : EnumDecl) → slice_get F.enums i ≡ Some e → IsEnumOf F e c
   pub valid : IsEnum c
   pub name : c.name ≡ name_at p.enums.names.items i
 
--- the type of a file's rpc names the message at this place of a table
+-- the type of a file's rpc names the message with this index in a table
 pub record IsPlaceNamed (F : Joined) (file : ℕ) (T : Table) (name : List ℕ) (place : ℕ) : Type 0 where
   pub full : List (List ℕ)
   pub names : Names F file (package_at F file) name a_message full
@@ -50,6 +50,6 @@ pub record IsMethodIn (F : Joined) (T : Table) (p : ServiceDecl × RpcDecl) (t :
   pub is : IsMethodOf T F p t
   pub valid : IsMethod T t
 
--- methods in the order of the files, where messages have these names
+-- methods in the order of the files, given the names of the messages
 pub record AreMethods (F : Joined) (p : Plan) (done : List (ServiceDecl × RpcDecl)) (ms : List Method) : Type 0 where
   pub each : (T : Table) → HasNames p T → AreThoseInOrder (IsMethodIn F T) done ms

@@ -1,4 +1,4 @@
--- The code's own: the oneofs of a message by the order in which they are met, and fields with them.
+-- The code's own: the oneofs of a message in the order in which its fields need them, and fields with them.
 use Rattle.std.specs.Prelude.{◌≡◌, ℕ, ◌<◌, List, [], ◌∷◌, ◌++◌, length, slice_get, slice_index_or, Option, Some, None}
 use Rattle.mrpc_table.specs.Valid.{IsMessage, OneofsFollow}
 use Rattle.mrpc_table.specs.declared.table.Kind.{Kind}
@@ -21,7 +21,7 @@ use Rattle.schema_resolve.specs.declared.plan.Plan.{Plan}
 use Rattle.schema_resolve.specs.declared.field_table.Judged.{Judged}
 use Rattle.schema_resolve.specs.declared.oneof_table.Oneofs.{Oneofs}
 
--- none has a place
+-- no oneof has an index yet
 pub record AreUnplaced (count : ℕ) (places : List (Option ℕ)) : Type 0 where
   pub count_is : length places ≡ count
   pub none : (i : ℕ) (place : Option ℕ) → slice_get places i ≡ Some place → place ≡ None
@@ -31,18 +31,18 @@ pub record IsPlacedOneof (words : List Word) (names : List (List ℕ)) (i p : �
   pub at : slice_get words i ≡ Some word
   pub named : slice_get names p ≡ Some word.name
 
--- the names are those of the oneofs that have places, by their places
+-- the names are those of the oneofs that have indices, in the order of these
 pub record KeepsOneofs (words : List Word) (o : Oneofs) : Type 0 where
   pub count : length o.places.items ≡ length words
   pub placed : (i p : ℕ) → slice_get o.places.items i ≡ Some (Some p) → IsPlacedOneof words o.names i p
   pub met : (p : ℕ) → p < length o.names → (i : ℕ) × (slice_get o.places.items i ≡ Some (Some p))
 
--- a oneof has this place; it was met before, or is the next one
+-- a oneof has this index: it was added before, or is the next one
 pub data HasPlace (names more : List (List ℕ)) (p : ℕ) : Type 0 where
   met_before : p < length names → more ≡ names → HasPlace names more p
   next_one : (name : List ℕ) → p ≡ length names → more ≡ names ++ name ∷ [] → HasPlace names more p
 
--- the label of a field, before and after which these are the oneofs
+-- the label of a field, given the oneofs before and after it
 abbrev pub IsLabelled : List Word → Option ℕ → Label → Oneofs → Oneofs → Label → Type 0
 IsLabelled words None form old new label = (label ≡ form) × (new.names ≡ old.names)
 IsLabelled words (Some i) form old new label =
@@ -58,7 +58,7 @@ IsInPlan p (Scalar k) = Unit {0}
 IsInPlan p (Named (named.Message i)) = i < length p.messages.places.items
 IsInPlan p (Named (named.Enum i)) = i < length p.enums.places.items
 
--- a field of a table, where its message has these oneofs
+-- the label of a field of a table, given the oneofs of its message
 abbrev pub IsLabelOf : List Word → List (List ℕ) → Option ℕ → Label → Label → Type 0
 IsLabelOf words names None form label = label ≡ form
 IsLabelOf words names (Some i) form label = (p : ℕ) × (label ≡ Member p) × IsPlacedOneof words names i p
@@ -75,7 +75,7 @@ pub record AreMade (plan : Plan) (words : List Word) (js : List Judged) (o : One
   pub made : AreThoseInOrder (IsMade plan words o.names) js gs
   pub follow : OneofsFollow 0 (length o.names) gs
 
--- a field with its label, before and after which these are the oneofs
+-- a field with its label, given the oneofs before and after it
 pub record IsNextField (plan : Plan) (words : List Word) (j : Judged) (old new : Oneofs) (g : Field) : Type 0 where
   pub keeps : KeepsOneofs words new
   pub number_is : g.number ≡ j.number
@@ -83,7 +83,7 @@ pub record IsNextField (plan : Plan) (words : List Word) (j : Judged) (old new :
   pub kind_is : g.kind ≡ kind_in plan j.form.type_of
   pub label_is : IsLabelled words j.decl.now.oneof j.form.label old new g.label
 
--- the message at a place
+-- the message with an index
 pub record IsMessageAt (F : Joined) (p : Plan) (i : ℕ) (t : Message) : Type 0 where
   pub is : (T : Table) → HasNames p T → (m : MessageDecl) → slice_get F.messages i ≡ Some m
       → IsMessageOf T F m t

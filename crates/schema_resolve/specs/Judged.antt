@@ -1,4 +1,4 @@
--- The code's own: the fields of a message with their numbers and forms.
+-- The code's own: the fields of a message with their numbers and shapes.
 use Rattle.std.specs.Prelude.{◌≡◌, ℕ, pos, ◌<◌, List, length, map, slice_get, Some, Contains}
 use Rattle.mrpc_table.specs.Valid.{Ascends, AreDistinct, IsFieldNumber}
 use Rattle.proto_file.specs.declared.file.FieldDecl.{FieldDecl}
@@ -10,7 +10,7 @@ use Rattle.schema_offences.specs.Types.{value_of}
 use Rattle.schema_offences.specs.Forms.{IsForm}
 use Rattle.schema_resolve.specs.declared.field_table.Judged.{Judged}
 
--- a field of the message at a place, which is of this file
+-- a field of the message with an index, which is in this file
 pub record StandsIn (F : Joined) (file place : ℕ) (f : FieldDecl) : Type 0 where
   pub message : MessageDecl
   pub at : slice_get F.messages place ≡ Some message
@@ -23,12 +23,12 @@ pub record IsJudged (F : Joined) (file place : ℕ) (f : FieldDecl) (j : Judged)
   pub in_range : IsFieldNumber j.number
   pub form_is : (scope : List (List ℕ)) → IsScope F (home.Message place) scope → IsForm F file scope f j.form
 
--- in the order of the text
+-- the fields with their numbers and shapes, in the order of the text
 pub record AreJudgedInOrder (F : Joined) (file place : ℕ) (fs : List FieldDecl) (js : List Judged) : Type 0 where
   pub decls : map (λ j. j.decl.now) js ≡ fs
   pub each : (j : Judged) → Contains js j → IsJudged F file place j.decl.now j
 
--- by ascending number
+-- the fields with their numbers and shapes, by ascending number
 pub record AreJudged (F : Joined) (place : ℕ) (m : MessageDecl) (js : List Judged) : Type 0 where
   pub count : length js ≡ length m.fields
   pub each : (j : Judged) → Contains js j → IsJudged F m.file place j.decl.now j × Contains m.fields j.decl.now

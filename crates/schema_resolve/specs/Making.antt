@@ -1,4 +1,4 @@
--- The code's own: a table as it is made of files: by the places of names.
+-- The code's own: a table as it is made of files, by the indices of names.
 use Rattle.mrpc_table.specs.declared.table.Table.{Table}
 use Rattle.proto_file.specs.Joined.{Joined}
 use Rattle.schema_offences.specs.Methods.{rpcs_of}

@@ -1,4 +1,4 @@
--- The code's own: at which places of a table the names of messages and enums stand.
+-- The code's own: the indices of the names of messages and enums in a table.
 use Rattle.std.specs.Prelude.{◌≡◌, ℕ, ◌<◌, List, [], ◌∷◌, ◌++◌, length, map, slice_get, slice_index_or, Some, All, Contains}
 use Rattle.mrpc_table.specs.Valid.{Ascends, IsBelow}
 use Rattle.mrpc_table.specs.declared.table.Table.{Table}
@@ -11,7 +11,7 @@ use Rattle.schema_names.specs.Scopes.{IsScope, text_of}
 use Rattle.schema_resolve.specs.declared.placed.PlacedNames.{PlacedNames}
 use Rattle.schema_resolve.specs.declared.plan.Plan.{Plan}
 
--- a name behind the full name of what it stands in, which is empty where there is none
+-- a name after the full name that encloses it, which is empty if there is none
 abbrev pub behind : List ℕ → List ℕ → List ℕ
 behind [] name = name
 behind (c ∷ cs) name = (c ∷ cs) ++ dot ∷ name
@@ -29,29 +29,29 @@ pub record AreFronts (F : Joined) (fronts : List (List ℕ)) : Type 0 where
   pub count : length fronts ≡ length F.heads
   pub each : (k : ℕ) → k < length F.heads → name_at fronts k ≡ text_of (package_at F k)
 
--- a file or a message, of these
+-- an enclosing file or message, among this many
 abbrev pub IsPlaceAmong : ℕ → ℕ → Home → Type 0
 IsPlaceAmong files messages (home.File k) = k < files
 IsPlaceAmong files messages (home.Message i) = i < messages
 
--- all names by ascending name
+-- the indices of all names, by ascending name
 pub record IsOrder (names : List (List ℕ)) (order : List ℕ) : Type 0 where
   pub count : length order ≡ length names
   pub within : All (λ i. i < length names) order
   pub each : (i : ℕ) → i < length names → Contains order i
   pub ascend : Ascends (λ i j. IsBelow (name_at names i) (name_at names j)) order
 
--- each number below the length stands in it once
+-- each number below the length occurs once
 pub record AreAll (order : List ℕ) : Type 0 where
   pub within : All (λ i. i < length order) order
   pub once : (j k i : ℕ) → slice_get order j ≡ Some i → slice_get order k ≡ Some i → j ≡ k
 
--- where each one stands in an order
+-- the index of each name in an order
 pub record ArePlaces (order places : List ℕ) : Type 0 where
   pub count : length places ≡ length order
   pub back : (place i : ℕ) → slice_get order place ≡ Some i → slice_get places i ≡ Some place
 
--- names are kept with their order and places
+-- names are stored with their order and indices
 pub record IsPlaced (names : List (List ℕ)) (p : PlacedNames) : Type 0 where
   pub kept : p.names.items ≡ names
   pub order : IsOrder names p.order.items

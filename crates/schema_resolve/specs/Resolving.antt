@@ -1,4 +1,4 @@
--- What files resolve to: their table where nothing stands against them, and else their first offence.
+-- What files resolve to: their table if they have no violation, and else their first violation.
 use Rattle.mrpc_table.specs.declared.table.Table.{Table}
 use Rattle.proto_file.specs.Joined.{Joined, alone}
 use Rattle.proto_file.specs.declared.file.Span.{Span}
@@ -11,7 +11,7 @@ use Rattle.schema_resolve.specs.declared.fault.ResolveFault.TheVariants as fault
 
 -- ---- files that are resolved together
 
--- nothing stands against them
+-- the files have no violation
 abbrev pub IsClean : Joined → Type 0
 IsClean F = (q : ResolveReason) (span : Span) → Offends F q span → ⊥
 
@@ -19,19 +19,19 @@ pub record ResolvesTogether (F : Joined) (T : Table) : Type 0 where
   pub table : IsTableOf F T
   pub clean : IsClean F
 
--- what a fault says of them; running out of memory says nothing
+-- what a fault means for the files; `Memory` means nothing
 abbrev pub IsFaultOfAll : Joined → ResolveFault → Type 0
 IsFaultOfAll F (fault.At q start end line) = HasFirst F q (record { start = start; end = end; line = line })
 IsFaultOfAll F fault.Memory = Unit {0}
 
 -- ---- a file alone
 
--- a file resolves to a table; a file with an import doesn't, alone
+-- a file resolves to a table; alone, a file with an import doesn't
 pub record Resolves (F : File) (T : Table) : Type 0 where
   pub table : IsTableOf (alone F) T
   pub clean : (q : ResolveReason) (span : Span) → IsOffence F q span → ⊥
 
--- what a fault says of a file; running out of memory says nothing
+-- what a fault means for a file; `Memory` means nothing
 abbrev pub IsFaultOf : File → ResolveFault → Type 0
 IsFaultOf F (fault.At q start end line) = HasOffence F q (record { start = start; end = end; line = line })
 IsFaultOf F fault.Memory = Unit {0}

@@ -1,4 +1,4 @@
--- What a table is of files (Protocol Buffers, proto3 language guide; labels and the order of methods are this project's
+-- The table of files (Protocol Buffers, proto3 language guide; labels and the order of methods are this project's
 -- own).
 use Rattle.std.specs.Prelude.{◌≡◌, ℕ, ℤ, pos, List, [], ◌∷◌, ◌++◌, map}
 use Rattle.mrpc_table.specs.Valid.{IsValid, IsKnown}
@@ -22,7 +22,7 @@ use Rattle.schema_offences.specs.Methods.{rpcs_of}
 use Rattle.schema_offences.specs.Types.{HasForm, value_of}
 use Rattle.schema_offences.specs.Those.{AreThose, AreThoseInOrder}
 
--- a field of a message of a file is this one of a message of the table
+-- a field of a message of a file corresponds to a field of a message of the table
 pub record IsFieldOf (T : Table) (F : Joined) (scope : List (List ℕ)) (m : MessageDecl) (t : Message)
     (f : FieldDecl) (g : Field) : Type 0 where
   pub name : g.name ≡ f.name.name
@@ -32,7 +32,7 @@ pub record IsFieldOf (T : Table) (F : Joined) (scope : List (List ℕ)) (m : Mes
   pub form : HasForm F m.file scope f label word
   pub kind : kind_text T g.kind ≡ word
   pub known : IsKnown T g.kind
-  -- one label: a oneof may have another place in the table, but not another name
+  -- the label is the same; a oneof may have another index in the table, but not another name
   pub same : label_text T t.oneofs g.label ≡ label_text T (map (λ o. o.name) m.oneofs) label
 
 abbrev pub IsOneofOf : Word → List ℕ → Type 0
@@ -64,8 +64,8 @@ pub record IsMethodOf (T : Table) (F : Joined) (p : ServiceDecl × RpcDecl) (t :
   pub input_place : message_name T t.input ≡ text_of input
   pub output_place : message_name T t.output ≡ text_of output
 
--- The table says what the files say that are resolved together. Its lists are ordered as each valid table's are;
--- methods are numbered along the files.
+-- The table has the declarations of files that are resolved together. Its lists are ordered as in every valid table;
+-- methods are numbered in the order of the files.
 pub record IsTableOf (F : Joined) (T : Table) : Type 0 where
   pub valid : IsValid T
   pub messages : AreThose (IsMessageOf T F) F.messages T.messages

@@ -15,7 +15,7 @@ use proto_file::{Joined, ValueDecl};
 use schema_offences::enum_number;
 use std::alloc::Global;
 
-// A number that 32 bits hold.
+// The number of a value, which fits 32 bits.
 fn number_of(value: &ValueDecl) -> i32
     requires { FitsSigned w32 (value_of value.now.number) }
     ensures { result ≡ value_of value.now.number }
@@ -26,7 +26,7 @@ fn number_of(value: &ValueDecl) -> i32
     }
 }
 
-// Numbers and names in the order of the text.
+// The numbers and names of values, in the order of the text.
 fn values_in<'a>(alloc: Global, decls: &'a [ValueDecl]) -> Result<Vec<(i32, &'a [u8])>, Memory>
     requires { All (λ v. FitsSigned w32 (value_of v.number)) decls.now }
     ensures { IfOk result (λ v. map value_pair v.items ≡ map value_in decls.now) }
@@ -39,7 +39,7 @@ fn values_in<'a>(alloc: Global, decls: &'a [ValueDecl]) -> Result<Vec<(i32, &'a 
     Ok(values)
 }
 
-// The same by ascending number, then name.
+// The numbers and names of values, by ascending number, then name.
 fn sorted<'a>(alloc: Global, decls: &'a [ValueDecl]) -> Result<Vec<(i32, &'a [u8])>, Memory>
     requires fits { All (λ v. FitsSigned w32 (value_of v.number)) decls.now }
     requires distinct { AreDistinct (map (λ v. v.name.name) decls.now) }
@@ -62,7 +62,7 @@ fn copied(alloc: Global, values: &[(i32, &[u8])]) -> Result<ChoiceValues, Memory
     Ok(copies)
 }
 
-// The enum at a place of files against which nothing stands.
+// The enum with an index, of files without a violation.
 pub(crate) fn enum_in(
     alloc: Global,
     files: &Joined<'_>,

@@ -11,7 +11,7 @@ use thiserror::Error;
 /// Why a file has no table.
 #[derive(Clone, Copy, Debug, Error)]
 pub enum ResolveFault {
-    /// The offence that starts first, with the place of its name or number and its line.
+    /// The first violation: its reason, the offsets of its name or number, and its line.
     #[error("line {line}: {reason}")]
     At {
         reason: ResolveReason,
@@ -19,7 +19,7 @@ pub enum ResolveFault {
         end: usize,
         line: u64,
     },
-    /// No memory was found.
+    /// Out of memory.
     #[error("out of memory")]
     Memory,
 }
@@ -48,7 +48,7 @@ impl<T: Drop> From<AllocFailed<T>> for ResolveFault {
     }
 }
 
-// An offence as a fault.
+// The fault of a violation.
 pub(crate) fn fault_of(offence: Offence) -> ResolveFault
     ensures { result ≡ At offence.reason offence.span.start offence.span.end offence.span.line }
 {

@@ -1,4 +1,4 @@
-//! The fields of messages with their numbers and forms, by ascending number.
+//! The fields of messages with their numbers and shapes, by ascending number.
 
 ghost use Rattle.std.specs.Prelude.{◌≡◌, IfOk, slice_get, Some};
 ghost use Rattle.proto_file.specs.Together.{IsFormed, IsOrdered};
@@ -11,7 +11,7 @@ use schema_names::Scopes;
 use schema_offences::{Form, field_number, form_of};
 use std::alloc::Global;
 
-// A field with its number and its form.
+// A field with its number and its shape.
 #[derive(Clone, Copy)]
 pub(crate) struct Judged<'a> {
     pub number: u32,
@@ -19,7 +19,7 @@ pub(crate) struct Judged<'a> {
     pub decl: &'a FieldDecl,
 }
 
-// What a field of the message at a place, which is of this file, is in the table.
+// The number and the shape of a field, given the file and the index of its message.
 fn judge_field<'a>(
     scopes: &Scopes<'a>,
     file: usize,
@@ -60,7 +60,7 @@ fn fields_of<'a>(
     Ok(fields)
 }
 
-// The fields of the message at a place by ascending number.
+// The fields of the message with an index, by ascending number.
 pub(crate) fn by_number<'a>(
     alloc: Global,
     scopes: &Scopes<'a>,

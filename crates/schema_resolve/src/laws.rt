@@ -1,4 +1,4 @@
-//! Laws of tables and of first offences.
+//! Laws of tables and of first violations.
 
 ghost use Rattle.std.specs.Prelude.{◌≡◌};
 ghost use Rattle.mrpc_table.specs.declared.table.Table.{Table};
@@ -14,7 +14,7 @@ ghost use Rattle.schema_offences.specs.declared.reason.ResolveReason.{ResolveRea
 use crate::same_text::one_table_text;
 use table_text::one_text;
 
-/// Files in order have one table at most: two tables that say what they say are equal.
+/// Files in order have at most one table: two of them are equal.
 pub fn one_table()
     ensures { (F : Joined) (T U : Table) → IsOrdered F → IsTableOf F T → IsTableOf F U → T ≡ U }
 {
@@ -22,7 +22,7 @@ pub fn one_table()
     one_text();
 }
 
-/// A file in order has one first offence at most: two of them have one reason and stand at one place.
+/// A file in order has at most one first violation: two of them have the same reason and span.
 pub fn one_offence()
     ensures { (F : File) (q r : ResolveReason) (s t : Span) → IsOrdered (alone F) → HasOffence F q s
         → HasOffence F r t → (q ≡ r) × (s ≡ t) }
@@ -30,8 +30,8 @@ pub fn one_offence()
     schema_offences::one_offence();
 }
 
-/// A well-formed file in order has a table or a first offence, and so have such files that are resolved together; none
-/// have both.
+/// A valid file in order has a table or a first violation, and so have such files that are resolved together. None
+/// has both.
 pub fn table_or_offence()
     ensures not_neither { (F : File) → IsFormed (alone F) → IsOrdered (alone F)
         → ((T : Table) → Resolves F T → ⊥) → ((q : ResolveReason) (s : Span) → HasOffence F q s → ⊥) → ⊥ }

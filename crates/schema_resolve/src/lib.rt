@@ -1,11 +1,12 @@
-//! From what a proto file says to the table of its messages, enums and methods (Protocol Buffers, proto3 language
-//! guide), in this project's profile.
+//! The table of messages, enums and methods of proto files (Protocol Buffers, proto3 language guide), in this
+//! project's profile.
 //!
-//! [`resolve`] takes what a file says, as `proto_schema` reads it; `schema_offences` says what stands against it.
-//! `specs/Tables.antt` says what a table is of files. It stands on `schema_offences`, `schema_names`, `proto_file`,
-//! `table_text` and `mrpc_table`, and on `thiserror`. The layer above uses the contracts of [`resolve`], for a file alone,
-//! and of [`resolve_together`]: a table that they answer is that of the file or the files, and an offence is their first
-//! one. Well-formed files in order, as those that were read, have one of both, and not both ([`table_or_offence`]).
+//! [`resolve`] takes a file as `proto_schema` reads it; `schema_offences` defines its violations. `specs/Tables.antt`
+//! defines the table of files. The crate uses `schema_offences`, `schema_names`, `proto_file`, `table_text`,
+//! `mrpc_table` and `thiserror`. The layer above relies on the contracts of [`resolve`], for a file alone, and of
+//! [`resolve_together`]. A table that they return is that of the file or files, and a violation that they return is
+//! the first one. Valid files in order, such as all files that were read, have exactly one of the two
+//! ([`table_or_offence`]).
 #![tactic(auto)]
 
 mod enum_table;

@@ -27,7 +27,7 @@ fn kind_in(plan: &Plan, type_of: TypeOf) -> Kind
     }
 }
 
-// The label of a field: a oneof's place is that in the table.
+// The label of a field; a oneof is given by its index in the table.
 fn label_in<'a>(
     alloc: Global,
     oneofs: &mut Oneofs,
@@ -70,7 +70,7 @@ fn field_in<'a>(
     })
 }
 
-// The message at a place of files against which nothing stands.
+// The message with an index, of files without a violation.
 pub(crate) fn message_in<'a>(
     alloc: Global,
     files: &Joined<'a>,

@@ -19,7 +19,7 @@ use schema_names::Scopes;
 use schema_offences::message_of;
 use std::alloc::Global;
 
-// The place of the message that the type of a file's rpc names.
+// The index of the message that the type of a file's rpc names.
 fn message_place<'a>(scopes: &Scopes<'a>, file: usize, plan: &Plan, word: &'a Word) -> u32
     requires file { file < length scopes.now.heads }
     requires ordered { IsOrdered scopes.now }
@@ -86,7 +86,7 @@ fn add_methods<'a>(
     Ok(())
 }
 
-// The methods of files against which nothing stands.
+// The methods of files without a violation.
 pub(crate) fn methods_in<'a>(
     alloc: Global,
     files: &Joined<'a>,

@@ -1,4 +1,4 @@
-//! The oneofs of a message of a table.
+//! The oneofs of a message in a table.
 
 ghost use Rattle.std.specs.Prelude.{◌≡◌, ◌<◌, ◌^◌, [], length, IfOk};
 ghost use Rattle.schema_resolve.specs.Joining.{AreUnplaced, KeepsOneofs, HasPlace, IsPlacedOneof};
@@ -7,14 +7,15 @@ use mrpc_table::{Memory, Names};
 use proto_file::Word;
 use std::alloc::Global;
 
-// The oneofs of a message in the order in which they are met, and their places by those in the text's message.
+// The oneofs of a message in the order in which its fields need them, and their indices by those in the file's
+// message.
 #[derive(Drop)]
 pub(crate) struct Oneofs {
     pub names: Names,
     pub places: Vec<Option<u32>>,
 }
 
-// No places, for so many oneofs.
+// No indices, for this many oneofs.
 fn unplaced(alloc: Global, count: usize) -> Result<Vec<Option<u32>>, Memory>
     ensures { IfOk result (λ v. AreUnplaced count v.items) }
 {
@@ -26,7 +27,7 @@ fn unplaced(alloc: Global, count: usize) -> Result<Vec<Option<u32>>, Memory>
 }
 
 impl Oneofs {
-    // None was met yet.
+    // No oneof is added yet.
     pub(crate) fn new(alloc: Global, words: &[Word]) -> Result<Oneofs, Memory>
         ensures keeps { IfOk result (KeepsOneofs words.now) }
         ensures none { IfOk result (λ o. o.names ≡ []) }
@@ -37,7 +38,7 @@ impl Oneofs {
         })
     }
 
-    // The place of a oneof, which is the next one where it wasn't met yet.
+    // The index of a oneof. If the oneof is new, it is added with the next index.
     pub(crate) fn place_of(
         &mut self,
         alloc: Global,

@@ -1,4 +1,4 @@
-//! Names and their places by ascending name.
+//! Names and their indices by ascending name.
 
 ghost use Rattle.std.specs.Prelude.{◌≡◌, ◌<◌, ◌^◌, length, IfOk, map};
 ghost use Rattle.mrpc_table.specs.Valid.{AreDistinct};
@@ -7,17 +7,17 @@ ghost use Rattle.schema_resolve.specs.Placing.{IsOrder, AreAll, ArePlaces, IsPla
 use mrpc_table::{Memory, Name};
 use std::alloc::Global;
 
-// Names, and the places that they have by ascending name.
+// Names, and their indices by ascending name.
 #[derive(Drop)]
 pub(crate) struct PlacedNames {
     pub names: Vec<Name>,
-    // What stands at each place.
+    // For each index in the ascending order, the index of its name.
     pub order: Vec<usize>,
-    // At which place each one stands.
+    // For each name, its index in the ascending order.
     pub places: Vec<u32>,
 }
 
-// Names with their numbers, by ascending name.
+// Names with their indices, by ascending name.
 fn sorted<'a>(alloc: Global, names: &'a [Name]) -> Result<Vec<(&'a [u8], usize)>, Memory>
     requires { AreDistinct names.now }
     ensures { IfOk result (λ v. IsOrder names.now (map (λ p. p.1) v.items)) }
@@ -38,7 +38,7 @@ fn order(alloc: Global, names: &[Name]) -> Result<Vec<usize>, Memory>
     Ok(sorted.iter().map(|pair| pair.1).collect(alloc)?)
 }
 
-// Zeros for so many places.
+// A vector of this many zeros.
 fn unplaced(alloc: Global, count: usize) -> Result<Vec<u32>, Memory>
     ensures { IfOk result (λ v. length v.items ≡ count) }
 {
@@ -49,7 +49,7 @@ fn unplaced(alloc: Global, count: usize) -> Result<Vec<u32>, Memory>
     Ok(places)
 }
 
-// Where each one stands in an order.
+// The index of each name in an order.
 fn places(alloc: Global, order: &[usize]) -> Result<Vec<u32>, Memory>
     requires few { length order.now < 2 ^ 32 }
     requires all { AreAll order.now }
@@ -63,7 +63,7 @@ fn places(alloc: Global, order: &[usize]) -> Result<Vec<u32>, Memory>
 }
 
 impl PlacedNames {
-    // Names with their order and their places in it.
+    // Names with their ascending order and their indices in it.
     pub(crate) fn new(alloc: Global, names: Vec<Name>) -> Result<PlacedNames, Memory>
         requires few { length names.items < 2 ^ 32 }
         requires distinct { AreDistinct names.items }

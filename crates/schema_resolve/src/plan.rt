@@ -1,4 +1,4 @@
-//! The full names of messages and enums, and their places in the table.
+//! The full names of messages and enums, and their indices in the table.
 
 ghost use Rattle.std.specs.Prelude.{◌≡◌, length, IfOk};
 ghost use Rattle.proto_file.specs.Joined.{package_parts};
@@ -12,7 +12,7 @@ use mrpc_table::{Memory, Name};
 use proto_file::{Head, Home, Joined, Word};
 use std::alloc::Global;
 
-// The full names of messages and enums, and their places in the table.
+// The full names of messages and enums, and their indices in the table.
 #[derive(Drop)]
 pub(crate) struct Plan {
     // The names of the files' packages.
@@ -21,7 +21,7 @@ pub(crate) struct Plan {
     pub enums: PlacedNames,
 }
 
-// A name behind what stands in front of it.
+// A name after the full name that encloses it.
 pub(crate) fn behind(alloc: Global, front: &Name, word: &Word) -> Result<Name, Memory>
     ensures { IfOk result (λ name. name ≡ behind front.now word.now.name) }
 {
@@ -33,7 +33,7 @@ pub(crate) fn behind(alloc: Global, front: &Name, word: &Word) -> Result<Name, M
     Ok(name)
 }
 
-// The full name of what stands in a file or in a message.
+// The full name of a declaration inside a file or a message.
 fn full_name(
     alloc: Global,
     fronts: &[Name],
@@ -110,7 +110,7 @@ fn enum_names(
     Ok(enums)
 }
 
-// The plan of files against which nothing stands.
+// The plan of files without a violation.
 pub(crate) fn plan_of(alloc: Global, files: &Joined<'_>) -> Result<Plan, Memory>
     requires formed { IsFormed files.now }
     requires ordered { IsOrdered files.now }

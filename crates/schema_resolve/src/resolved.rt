@@ -1,4 +1,4 @@
-//! The table of files that are resolved together, or their first offence.
+//! The table of files that are resolved together, or their first violation.
 
 ghost use Rattle.std.specs.Prelude.{◌≡◌, IfOk, IfErr, MatchResult};
 ghost use Rattle.mrpc_table.specs.declared.table.Table.{Table};
@@ -16,24 +16,25 @@ use schema_names::Scopes;
 use schema_offences::first_offence;
 use std::alloc::Global;
 
-/// The table of files that are resolved together, or the offence that starts first: of several at one place, the first
-/// one in the list of [`ResolveReason`]. Without memory it answers `Memory`.
+/// Returns the table of files that are resolved together, or the first violation: the one that starts first, and
+/// among several at the same offset the first one in the list of [`ResolveReason`]. Returns `Memory` if it runs out
+/// of memory.
 ///
-/// The methods have indices from 0, along the files. An `optional` message is plain, and a repeated field of numbers,
-/// bools or enums is packed unless `packed = false` stands with it.
+/// The methods have indices from 0, in the order of the files. An `optional` message is plain. A repeated field of
+/// numbers, bools or enums is packed unless it has the option `packed = false`.
 ///
 /// [`ResolveReason`]: schema_offences::ResolveReason
 pub fn resolve_together(alloc: Global, files: &Joined<'_>) -> Result<Table, ResolveFault>
     requires formed { IsFormed files.now }
     requires ordered { IsOrdered files.now }
-    // A table is what the files resolve to.
+    // A returned table is what the files resolve to.
     ensures resolves { IfOk result (ResolvesTogether files.now) }
     // It is valid.
     ensures valid { IfOk result (λ t. IsValid t) }
-    // Files that resolve to a table give this table, unless memory runs out.
+    // If the files resolve to a table, this table is returned, unless memory runs out.
     ensures only { (t : Table) → ResolvesTogether files.now t
         → MatchResult result (λ u. u ≡ t) (λ e. e ≡ faults.Memory) }
-    // An offence is the first one of all files.
+    // A returned violation is the first one of all files.
     ensures offence { IfErr result (IsFaultOfAll files.now) }
 {
     one_table();

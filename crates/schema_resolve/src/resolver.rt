@@ -1,4 +1,4 @@
-//! The table of a file alone, or its first offence.
+//! The table of a file alone, or its first violation.
 
 ghost use Rattle.std.specs.Prelude.{◌≡◌, IfOk, IfErr, MatchResult};
 ghost use Rattle.mrpc_table.specs.declared.table.Table.{Table};
@@ -18,23 +18,24 @@ use schema_names::Scopes;
 use schema_offences::{first_offence, with_import};
 use std::alloc::Global;
 
-/// The table of a well-formed file in order, as each one is that was read, or the offence that starts first: of
-/// several at one place, the first one in the list of [`ResolveReason`]. Without memory it answers `Memory`.
+/// Returns the table of a valid file in order, such as any file that was read, or its first violation: the one that
+/// starts first, and among several at the same offset the first one in the list of [`ResolveReason`]. Returns
+/// `Memory` if it runs out of memory.
 ///
-/// The methods have the indices of the file's order, from 0. An `optional` message is plain, and a repeated field of
-/// numbers, bools or enums is packed unless `packed = false` stands with it.
+/// The methods have indices from 0, in the order of the file. An `optional` message is plain. A repeated field of
+/// numbers, bools or enums is packed unless it has the option `packed = false`.
 ///
 /// [`ResolveReason`]: schema_offences::ResolveReason
 pub fn resolve(alloc: Global, file: &File) -> Result<Table, ResolveFault>
     requires formed { IsFormed (alone file.now) }
     requires ordered { IsOrdered (alone file.now) }
-    // A table is what the file resolves to.
+    // A returned table is what the file resolves to.
     ensures resolves { IfOk result (λ t. Resolves file.now t) }
     // It is valid.
     ensures valid { IfOk result (λ t. IsValid t) }
-    // A file that resolves to a table gives this table, unless memory runs out.
+    // If the file resolves to a table, this table is returned, unless memory runs out.
     ensures only { (t : Table) → Resolves file.now t → MatchResult result (λ u. u ≡ t) (λ e. e ≡ faults.Memory) }
-    // An offence is the file's first one.
+    // A returned violation is the file's first one.
     ensures offence { IfErr result (λ e. IsFaultOf file.now e) }
 {
     one_table();

@@ -9,7 +9,7 @@ ghost use Rattle.schema_resolve.specs.Tables.{IsTableOf};
 
 use schema_names::one_name;
 
-// Two tables of the same files have one text.
+// Two tables of the same files have the same text.
 pub(crate) fn one_table_text()
     ensures { (F : Joined) (T U : Table) → IsOrdered F → IsTableOf F T → IsTableOf F U → table_text T ≡ table_text U }
 {

@@ -1,4 +1,4 @@
-//! The table of files against which nothing stands.
+//! The table of files without a violation.
 
 ghost use Rattle.std.specs.Prelude.{◌≡◌, IfOk};
 ghost use Rattle.proto_file.specs.Together.{IsFormed, IsOrdered};
@@ -77,7 +77,7 @@ fn made_table<'a>(alloc: Global, files: &Joined<'a>, scopes: &Scopes<'a>) -> Res
     })
 }
 
-// The table of files against which nothing stands.
+// The table of files without a violation.
 pub(crate) fn table_of<'a>(
     alloc: Global,
     files: &Joined<'a>,

@@ -1,4 +1,4 @@
--- The lines in front of a table's text.
+-- The lines before a table's text.
 use Rattle.std.proofs.Common.{◌≡◌, ◌≢◌, ℕ, zero, suc, ◌<◌, ◌==◌, ◌||◌, not, true, List, [], ◌∷◌, ◌++◌, codes, length}
 use Rattle.std.proofs.Common.{get_or, drop, Option, Some, None, Result, Ok, Err, refl, sym, ap, subst, ◌∙◌}
 use Rattle.std.proofs.Common.{append_assoc, arith, inl, inr, eq-eqb}
@@ -64,7 +64,7 @@ same_head x y xs ys e = cc
 same_tail : (x y : List ℕ) (xs ys : List (List ℕ)) → x ∷ xs ≡ y ∷ ys → xs ≡ ys
 same_tail x y xs ys e = ap (drop 1) e
 
--- a text begins with one such line at most
+-- at most one such line is a prefix of a text
 pub one_limit : (word more other rest : List ℕ) (n m : ℕ) → IsNumber word n → IsNumber other m
     → loads_line word ++ more ≡ loads_line other ++ rest → (word ≡ other) × (n ≡ m) × (more ≡ rest)
 one_limit word more other rest n m number that e =
@@ -73,7 +73,7 @@ one_limit word more other rest n m number that e =
     let words : word ≡ other = append_cancel_left (codes "loads ") word other (same_head _ _ (pieces_of more) (pieces_of rest) pieces) in
     (words, same_Some n m (sym number ∙ ap number_of words ∙ that), same_pieces more rest (same_tail _ _ (pieces_of more) (pieces_of rest) pieces))
 
--- ---- what is read of it
+-- ---- reading it
 
 some_piece : (text : List ℕ) → pieces_of text ≡ [] → ⊥
 some_piece text e = (let p = has_piece text in let clash : [] ≡ p.0 ∷ p.1 = sym e ∙ p.2 in absurd cc)
@@ -103,7 +103,7 @@ pub no_number_of : (text line behind word : List ℕ) → pieces_of text ≡ lin
     → line ≡ codes "loads " ++ word → number_of word ≡ None → IsLimitFault text Word
 no_number_of text line behind word cut is none = no_number text line behind word cut is (sym (ap (option_map in_64_bits) none))
 
--- what number its word is
+-- the number that its word is
 some_number : (o : Option ℕ) (d : Decimal) → Some d ≡ option_map in_64_bits o → (n : ℕ) × (o ≡ Some n) × (d ≡ in_64_bits n)
 some_number None d e = absurd cc
 some_number (Some n) d e = (n, refl, same_Some d (in_64_bits n) e)
@@ -142,7 +142,7 @@ limit_fault text line behind word d reason cut is number failed =
           subst (IsLimitFault text) same (word, behind, found.0, found.1, out.0, cut_line text line behind word cut is)
     ]
 
--- ---- the head, behind the first line
+-- ---- the head, after the first line
 
 module _ (first_line : List ℕ) where
   pub at_second_line : (text second : List ℕ) (reason : ScriptReason) → text ≡ first_line ++ second

@@ -1,4 +1,4 @@
--- A text has one front, or its front has one fault.
+-- A text has exactly one preamble, or its preamble has exactly one first fault.
 use Rattle.std.proofs.Common.{◌≡◌, ◌⊎◌, ℕ, ◌+◌, List, ◌++◌, codes, Result, Ok, Err, refl, sym, ap, subst, ◌∙◌, inl, inr}
 use Rattle.std.specs.Prelude.{IfOk, IfErr, MatchResult}
 use Rattle.std.proofs.lemmas.List.{append_cancel_left}
@@ -47,14 +47,14 @@ module _ (first_line : List ℕ) where
   abbrev IsFrontFault : List ℕ → ℕ → ScriptReason → Type 0
   IsFrontFault text line reason = fronts.IsFrontFault first_line text line reason
 
-  -- the fault of a table's text is one of the front
+  -- the fault of a table's text is one of the preamble
   pub table_fault_of : (text head table : List ℕ) (loads : ℕ) (f : ScriptFault) → IsHead head loads
       → IsTableBehind head text table → IsTableFault head table f → fronts.IsFaultOf first_line text f
   table_fault_of text head table loads (fault.At line reason) is_head is (at, why, first, line_is, e) =
       in_table head table loads at why is_head is first line_is e
   table_fault_of text head table loads fault.Memory is_head is h = tt
 
-  -- ---- the answer by its stages
+  -- ---- the result by its stages
 
   pub data Answer : Type 0 where
     found : (loads : ℕ) → TheTable → (behind : List ℕ) → Answer
@@ -70,7 +70,7 @@ module _ (first_line : List ℕ) where
     by_front : (head : List ℕ) (loads : ℕ) (behind rest : List ℕ) (T : TheTable) → HasHead text head loads behind → IsValid T → HasTableBehind head text (table_text T) rest
         → a ≡ found loads T rest → Told text a
 
-  -- a table's text stands up to a line `end`, or none follows
+  -- a table's text ends at a line `end`, or no `end` follows, never both
   ended_or_endless : (head text table rest other : List ℕ) → HasTableBehind head text table rest → IsEndless head text other → ⊥
   ended_or_endless head text table rest other h k = k.endless table rest h
 
@@ -80,11 +80,11 @@ module _ (first_line : List ℕ) where
   one_table laws head text table other (inr h) (inl k) = absurd (ended_or_endless head text other k.0 table k.1 h)
   one_table laws head text table other (inr h) (inr k) = append_cancel_left head table other (sym h.text_is ∙ k.text_is)
 
-  -- the canonical text of a table, where it is all the rest
+  -- the canonical text of a table that is the whole remainder
   whole_table : (laws : TableLaws) (head text : List ℕ) (T : TheTable) → IsValid T → text ≡ head ++ table_text T → IsTableBehind head text (table_text T)
   whole_table laws head text T valid is = inr (subst (λ (t : List ℕ). IsEndless head t (table_text T)) (sym is) (laws.endless head T valid))
 
-  -- two heads of a text are one
+  -- a text has at most one head
   moved : (text head : List ℕ) (loads : ℕ) (behind other : List ℕ) (limit : ℕ) (more : List ℕ) (P : List ℕ → Type 0)
       → HasHead text head loads behind → HasHead text other limit more → P head → P other
   moved text head loads behind other limit more P h k p = subst P (one.one_head first_line text head loads behind other limit more h k).head_is p
@@ -146,7 +146,7 @@ module _ (first_line : List ℕ) where
       let table : U ≡ T = laws.one_text U T sound valid parts.0 in
       told ∙ ap (λ (n : ℕ). found n T rest) same.loads_are ∙ ap (λ (X : TheTable). found limit X rest) (sym table) ∙ ap (found limit U) (sym parts.1) ∙ sym said
 
-  -- ---- what stands at the front, and what is a fault, is told
+  -- ---- each preamble and each fault is the result
 
   canonical_in : (laws : TableLaws) (text head rest : List ℕ) (T : TheTable) → IsValid T
       → text ≡ head ++ (table_text T ++ (codes "end\n" ++ rest)) → HasTableBehind head text (table_text T) rest
@@ -180,7 +180,7 @@ module _ (first_line : List ℕ) where
   fault_told laws text line reason (no_end head loads T is_head valid is e f) =
       by_end head loads (table_text T) T (record { is_head = is_head; text_is = is }) valid is (ap (faulty line) f ∙ ap (λ (n : ℕ). faulty n Word) e)
 
-  -- ---- some answer
+  -- ---- a result exists
 
   abbrev pub HasAnswer : List ℕ → Type 0
   HasAnswer text = ((loads : ℕ) × (T : TheTable) × (behind : List ℕ) × IsFront text loads T behind) ⊎ ((line : ℕ) × (reason : ScriptReason) × IsFrontFault text line reason)
@@ -253,7 +253,7 @@ module _ (first_line : List ℕ) where
       not_both loads T x line reason (one_told laws text (found loads T x) (faulty line reason)
       (front_told laws text loads T x h) (fault_told laws text line reason k))
 
--- what the answer says
+-- the result determines the preamble or the fault
 pub only_one : (first text : List ℕ) (r : Result Front ScriptFault)
     → ((f t : List ℕ) (m n : ℕ) (T U : TheTable) (x y : List ℕ) → fronts.IsFront f t m T x → fronts.IsFront f t n U y → (m ≡ n) × (T ≡ U) × (x ≡ y))
     → ((f t : List ℕ) (n : ℕ) (T : TheTable) (x : List ℕ) (line : ℕ) (reason : ScriptReason) → fronts.IsFront f t n T x → fronts.IsFrontFault f t line reason → ⊥)

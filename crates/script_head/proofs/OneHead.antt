@@ -1,4 +1,4 @@
--- A text has one head, or it is at fault in its first three lines, once.
+-- A text has exactly one head, or exactly one fault in its first three lines.
 use Rattle.std.proofs.Common.{◌≡◌, ◌≢◌, ◌⊎◌, ℕ, List, [], ◌∷◌, ◌++◌, codes, drop, Option, Some, None, refl, sym, ap}
 use Rattle.std.proofs.Common.{subst, ◌∙◌, append_assoc, arith, inl, inr}
 use Rattle.std.proofs.lemmas.Bool.{cases_lt, cases_eq}
@@ -37,7 +37,7 @@ module _ (first_line : List ℕ) where
         (word rest : List ℕ) (n : ℕ) → text ≡ first_line ++ (loads_line word ++ rest) → IsNumber word n → IsLimit n → ((more : List ℕ) → rest ≢ table_line ++ more)
         → line ≡ 3 → reason ≡ Word → HeadFault text line reason
 
-  -- ---- one head
+  -- ---- the head is unique
 
   usual_text : (text head behind : List ℕ) → head ≡ first_line ++ table_line → text ≡ head ++ behind → text ≡ first_line ++ (table_line ++ behind)
   usual_text text head behind e is = is ∙ ap (λ (t : List ℕ). t ++ behind) e ∙ append_assoc first_line table_line behind
@@ -88,7 +88,7 @@ module _ (first_line : List ℕ) where
       → HasHead text head loads behind → HasHead text other limit more → IsSameHead head loads behind other limit more
   one_head text head loads behind other limit more h k = one_head_by text head loads behind other limit more h.is_head k.is_head h.text_is k.text_is
 
-  -- ---- a head, or a fault
+  -- ---- a head or a fault, never both
 
   begins_first : (text head : List ℕ) (loads : ℕ) (behind : List ℕ) → IsHead head loads → text ≡ head ++ behind → (rest : List ℕ) × (text ≡ first_line ++ rest)
   begins_first text head loads behind (usual e n) is = (table_line ++ behind, usual_text text head behind e is)
@@ -101,7 +101,7 @@ module _ (first_line : List ℕ) where
   head_or_second text head loads behind rest (limited word e number range) is at other none =
       none word (table_line ++ behind) loads number (same_second text rest (loads_line word ++ (table_line ++ behind)) at (limited_text text head behind word e is))
 
-  -- the second line of a text with a head, where it says a limit
+  -- the second line of a text with a head, if it is a limit
   head_and_limit : (text head : List ℕ) (loads : ℕ) (behind word more : List ℕ) (n : ℕ) → IsHead head loads
       → text ≡ head ++ behind → text ≡ first_line ++ (loads_line word ++ more) → IsNumber word n
       → (loads ≡ n) × IsLimit loads × (table_line ++ behind ≡ more)
@@ -121,7 +121,7 @@ module _ (first_line : List ℕ) where
       let both = head_and_limit text head loads behind word rest n h.is_head h.text_is is number in
       other behind (sym both.2)
 
-  -- ---- one fault
+  -- ---- the fault is unique
 
   same_limits : (text word more other rest : List ℕ) (n m : ℕ) → text ≡ first_line ++ (loads_line word ++ more)
       → text ≡ first_line ++ (loads_line other ++ rest) → IsNumber word n → IsNumber other m → n ≡ m
@@ -153,12 +153,12 @@ module _ (first_line : List ℕ) where
       absurd (out (subst IsLimit (same_limits text word rest other more k j is i number that) range))
   one_head_fault text m n r q (no_third word rest k is number range o at e) (no_third other more j i that bound p to f) = (at ∙ sym to, e ∙ sym f)
 
-  -- ---- some head, or a fault
+  -- ---- a head or a fault exists
 
   no_bytes : (c : ℕ) (cs : List ℕ) → [] ≡ c ∷ cs → ⊥
   no_bytes c cs e = cc
 
-  -- a text begins with these bytes, or with no text behind them
+  -- these bytes are a prefix of the text, or aren't
   pub prefix_or_not : (p text : List ℕ) → ((rest : List ℕ) × (text ≡ p ++ rest)) ⊎ ((rest : List ℕ) → text ≢ p ++ rest)
   prefix_or_not [] text = inl (text, refl)
   prefix_or_not (c ∷ p) [] = inr (λ rest e. no_bytes c (p ++ rest) e)

@@ -8,7 +8,7 @@ use Rattle.script_head.specs.Limits.{within}
 use Rattle.script_words.specs.declared.fault.ScriptReason.{ScriptReason}
 use Rattle.script_words.specs.declared.fault.ScriptReason.TheVariants.{Number}
 
--- a test passes where the fact holds, and else gives the reason
+-- a test passes if the fact holds, and returns the reason otherwise
 abbrev pub Tests : {X : Type 0} → Type 0 → Result X ScriptReason → X → ScriptReason → Type 0
 Tests P r x reason = (P × (r ≡ Ok x)) ⊎ ((P → ⊥) × (r ≡ Err reason))
 

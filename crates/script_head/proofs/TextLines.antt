@@ -8,11 +8,11 @@ use Rattle.std.proofs.lemmas.List.Elements.{All-nil, All-cons}
 use Rattle.std.proofs.lemmas.List.Splits.{slice_split_at, slice_split_none, join_with_byte-slice_split}
 use Rattle.mrpc_table.specs.Lines.{pieces_of}
 
--- no line feed stands in it
+-- it has no line feed
 abbrev pub IsOneLine : List ℕ → Type 0
 IsOneLine text = Contains text 10 → ⊥
 
--- ---- a text that is cut at its first line feed
+-- ---- splitting a text at its first line feed
 
 pub has_piece : (text : List ℕ) → (p : List ℕ) × (ps : List (List ℕ)) × (pieces_of text ≡ p ∷ ps)
 has_piece [] = ([], [], refl)
@@ -71,7 +71,7 @@ last_is text e = let all : AllByRecursion IsUnfed (text ∷ []) = subst (AllByRe
 pub same_pieces : (x y : List ℕ) → pieces_of x ≡ pieces_of y → x ≡ y
 same_pieces x y e = sym (join_with_byte-slice_split 10 x) ∙ ap (join_with_byte 10) e ∙ join_with_byte-slice_split 10 y
 
--- a text is its first line and what is behind it, or one line without a line feed
+-- a text is its first line and the remainder, or a line without a line feed
 pub data IsSplit (text : List ℕ) : Type 0 where
   fed : (line behind : List ℕ) → IsCut text line behind → length behind < length text → IsSplit text
   last : IsOneLine text → IsSplit text

@@ -1,4 +1,4 @@
-//! The front of a text: its head, its table, and the line `end`.
+//! The preamble of a text: its head, its table, and the line `end`.
 
 ghost use Rattle.std.specs.Prelude.{◌≡◌, ℕ, List, IfOk, IfErr, MatchResult};
 ghost use Rattle.mrpc_table.specs.Text.{table_text};
@@ -16,31 +16,31 @@ use script_words::{ScriptFault, ScriptReason};
 use std::alloc::Global;
 use table_text::{TableFault, one_fault, read_table, split_table};
 
-/// What stands at the front of a text.
+/// The preamble of a text.
 #[derive(Drop)]
 pub struct Front<'a> {
-    /// How many words are loaded for a call at most, 1 to 16384; 1024 where no line says it.
+    /// The limit of words that are loaded for one call, 1 to 16384; 1024 if the text has no `loads` line.
     pub loads: u64,
     pub table: Table,
-    /// What stands behind the line `end`.
+    /// The remainder of the text after the line `end`.
     pub behind: &'a [u8],
 }
 
-/// The front of a text whose first line is this one, with its line feed: perhaps `loads N`, `table`, the canonical
-/// text of a table, and `end`. It takes time in proportion to the front.
+/// Reads the preamble of a text: the line `first`, which includes its line feed, optionally `loads N`, then `table`,
+/// the canonical text of a table, and `end`. The time is linear in the length of the preamble.
 ///
 /// # Errors
 ///
-/// [`ScriptFault::At`] has the first line at fault, counted from 1, and its first reason; [`ScriptFault::Memory`] comes
-/// where no memory was found for the table.
+/// [`ScriptFault::At`] has the first line with a fault, counted from 1, and its first reason. [`ScriptFault::Memory`]
+/// means out of memory.
 pub fn read_front<'a>(alloc: Global, text: &'a [u8], first: &[u8]) -> Result<Front<'a>, ScriptFault>
-    // What is read stands there.
+    // The result is the preamble of the text.
     ensures read { IfOk result (λ f. IsFront first.now text.now f.loads f.table f.behind.now) }
-    // A front that stands there is read, unless memory runs out.
+    // If the text has a preamble, the call returns it, unless it runs out of memory.
     ensures only { (loads : ℕ) (T : TheTable) (behind : List ℕ) → IsFront first.now text.now loads T behind
         → MatchResult result (λ f. (f.loads ≡ loads) × (f.table ≡ T) × (f.behind.now ≡ behind))
         (λ e. e ≡ OutOfMemory) }
-    // A fault is that of the front: the first line at fault, with its first reason.
+    // A fault is the preamble's: the first line with a fault, and its first reason.
     ensures fault { IfErr result (IsFaultOf first.now text.now) }
 {
     one_front();
@@ -63,7 +63,7 @@ fn front_of<'a>(alloc: Global, text: &'a [u8], first: &[u8]) -> Result<Front<'a>
     })
 }
 
-// The fault of the line behind these.
+// The fault of the line after these.
 fn fault_behind(front: &[u8], reason: ScriptReason) -> ScriptFault
     ensures { result ≡ ScriptFault.At (line_behind front.now) reason }
 {
@@ -73,7 +73,7 @@ fn fault_behind(front: &[u8], reason: ScriptReason) -> ScriptFault
     }
 }
 
-// The table whose text stands behind the head.
+// Reads the table whose text follows the head.
 fn table_of(alloc: Global, head: &[u8], text: &[u8]) -> Result<Table, ScriptFault>
     ensures table { IfOk result (λ t. IsValid t × (text.now ≡ table_text t)) }
     ensures fault { IfErr result (IsTableFault head.now text.now) }
@@ -89,7 +89,7 @@ fn table_of(alloc: Global, head: &[u8], text: &[u8]) -> Result<Table, ScriptFaul
     }
 }
 
-// The fault of a text that has no line `end` behind its head.
+// The fault of a text that has no line `end` after its head.
 fn endless_fault(alloc: Global, text: &[u8], first: &[u8], head: ScriptHead<'_>) -> ScriptFault
     requires head { IsHead first.now head.front.now head.loads }
     requires endless { IsEndless head.front.now text.now head.behind.now }

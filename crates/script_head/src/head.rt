@@ -1,4 +1,4 @@
-//! The lines in front of the text of a table.
+//! The lines before the text of the table.
 
 ghost use Rattle.std.specs.Prelude.{◌≡◌, ◌≤◌, ◌++◌, ℕ, List, length, IfOk, IfErr};
 ghost use Rattle.script_head.specs.Fronts.{IsHead, IsFaultOf};
@@ -8,24 +8,24 @@ use crate::limits::USUAL_LOADS;
 use mrpc_table::{Decimal, MAX_LOADS, cut, number_of};
 use script_words::{ScriptFault, ScriptReason};
 
-// The line in front of the table's text.
+// The line before the table's text.
 const TABLE_LINE: &[u8] = b"table\n";
 
-// The line that says how many words are loaded for a call at most, up to that number.
+// The prefix of the line that limits how many words are loaded for one call.
 const LOADS: &[u8] = b"loads ";
 
-// What stands in front of the table's text.
+// The lines before the table's text.
 #[derive(Clone, Copy)]
 pub(crate) struct ScriptHead<'a> {
-    // How many words are loaded for a call at most.
+    // The limit of words that are loaded for one call.
     pub loads: u64,
     // These lines.
     pub front: &'a [u8],
-    // What stands behind them.
+    // The remainder of the text.
     pub behind: &'a [u8],
 }
 
-// The lines in front of the text of the table, the first of which is this one, with its line feed.
+// Reads the lines before the text of the table, up to `table`. `first` is the first line, with its line feed.
 pub(crate) fn read_head<'a>(text: &'a [u8], first: &[u8]) -> Result<ScriptHead<'a>, ScriptFault>
     ensures head { IfOk result (λ h. IsHead first.now h.front.now h.loads
         × (text.now ≡ h.front.now ++ h.behind.now)) }
@@ -47,7 +47,7 @@ pub(crate) fn read_head<'a>(text: &'a [u8], first: &[u8]) -> Result<ScriptHead<'
     }
 }
 
-// The head of a text that has this behind it.
+// Makes the head of a text from the remainder after it.
 fn head_before<'a>(text: &'a [u8], loads: u64, behind: &'a [u8]) -> ScriptHead<'a>
     requires { length behind.now ≤ length text.now }
     ensures front { (front : List ℕ) → text.now ≡ front ++ behind.now → result.front.now ≡ front }
@@ -67,7 +67,7 @@ fn fault(line: u64, reason: ScriptReason) -> ScriptFault
     ScriptFault::At { line, reason }
 }
 
-// The limit that a line of its own says, and what stands behind that line.
+// Reads a `loads` line. Returns its limit, and the remainder after it.
 fn read_limit(text: &[u8]) -> Result<(u64, &[u8]), ScriptReason>
     ensures limit { IfOk result (λ p. HasLimit text.now p.0 p.1.now) }
     ensures fault { IfErr result (IsLimitFault text.now) }
@@ -87,7 +87,7 @@ fn read_limit(text: &[u8]) -> Result<(u64, &[u8]), ScriptReason>
     }
 }
 
-// The number, where it is in its range.
+// Returns the number if it is in range.
 fn within(least: u64, most: u64, number: Decimal) -> Result<u64, ScriptReason>
     ensures { result ≡ within least most number }
 {

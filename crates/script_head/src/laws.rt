@@ -1,4 +1,4 @@
-//! Laws of fronts. These functions do nothing; their clauses hold.
+//! Laws of preambles. These functions do nothing; each contract is a law.
 
 ghost use Rattle.std.specs.Prelude.{◌≡◌, ◌⊎◌, ℕ, List};
 ghost use Rattle.mrpc_table.specs.declared.table.Table.{Table};
@@ -7,7 +7,7 @@ ghost use Rattle.script_head.specs.Fronts.{IsFront, IsFrontFault};
 
 use table_text::{one_fault, one_table_behind, one_text, table_or_fault};
 
-/// A text has one front, or its front has one fault.
+/// A text has exactly one preamble, or its preamble has exactly one first fault.
 pub fn one_front()
     ensures front { (first text : List ℕ) (m n : ℕ) (T U : Table) (x y : List ℕ) → IsFront first text m T x
         → IsFront first text n U y → (m ≡ n) × (T ≡ U) × (x ≡ y) }

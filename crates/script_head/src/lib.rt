@@ -1,8 +1,8 @@
-//! The front of scripts and of the inputs of `audit`: a first line that names the format, the limit of loads, and the
-//! table.
+//! The preamble of scripts and of the inputs of `audit`: a first line that names the format, the limit of loads, and
+//! the table.
 //!
-//! It stands on `mrpc_table`, `table_text` and `script_words`. The layers above use one contract: a text has one front,
-//! or its front has one first fault, and that is what is read (`specs/Fronts.antt`).
+//! The crate depends on `mrpc_table`, `table_text` and `script_words`. Its one contract for the layers above: a text
+//! has exactly one preamble, or exactly one first fault in it, and [`read_front`] returns it (`specs/Fronts.antt`).
 #![tactic(auto)]
 
 mod front;

@@ -1,4 +1,4 @@
-//! The limit of loads that holds where no line says it.
+//! The default limit of loads.
 
-/// How many words are loaded for a call at most, where no line says it.
+/// The limit of words that are loaded for one call, if the text has no `loads` line.
 pub const USUAL_LOADS: u64 = 1024;

@@ -1,4 +1,4 @@
--- What is kept stays so behind one line, or one item, more.
+-- The kept state stays exact after one more line or declaration.
 use Rattle.std.proofs.Common.{◌≡◌, ◌≢◌, ℕ, zero, suc, ◌+◌, ◌-◌, ◌*◌, ◌<◌, ◌≤◌, ◌==◌, Bool, true, false, not, List, []}
 use Rattle.std.proofs.Common.{◌∷◌, ◌++◌, length, map, All, Option, Some, None, refl, sym, ap, subst, ◌∙◌, arith, inl}
 use Rattle.std.proofs.Common.{inr, filter, set, take, drop, insert}
@@ -170,7 +170,7 @@ heap_elsewhere (line.Turn k at ∷ lines) n words c other = heap_elsewhere lines
 heap_elsewhere (line.Send k ∷ lines) n words c other = heap_elsewhere lines n words c other
 heap_elsewhere (line.Drain k ∷ lines) n words c other = heap_elsewhere lines n words c other
 
--- ---- what is asked of a line that may stand
+-- ---- preconditions of a legal line
 
 module _ (loads : ℕ) (ps : List NamedPolicy) (before : List Line) where
   free_by : (l : Line) (x : Option ScriptReason) → Allows loads ps before l → Verdict loads ps before l x → x ≡ None
@@ -204,7 +204,7 @@ module _ (loads : ℕ) (ps : List NamedPolicy) (before : List Line) where
   submit_room conn method number addr allowed =
       submit_by conn method number addr (heap_of before conn) (entries conn) (submissions before) (free (line.Submit conn method number addr) allowed)
 
-  -- a step of an operator
+  -- an operation
   op_by : (l : Line) (o : Op) (heap : Option ℕ) (count : ℕ) (es : List Entry)
       → against_known loads ps heap es count l ≡ None
       → ((w : ℕ) → against_known loads ps (Some w) es count l ≡ against_op o es)
@@ -257,7 +257,7 @@ le_times : (n m : ℕ) → 1 ≤ m → n ≤ n * m
 le_times n (suc m) some = (let e = mul-suc n m in omega (arith, e))
 le_times n zero some = absurd (omega (arith, some))
 
--- ---- nothing yet
+-- ---- no lines
 
 fresh_at : (xs : List Connection) (i : ℕ) → ((k : ℕ) (x : Connection) → slice_get xs k ≡ Some x → x ≡ fresh) → unwrap_or (slice_get xs i) fresh ≡ fresh
 fresh_at [] i each = refl
@@ -282,7 +282,7 @@ kept_fresh loads b f =
       lines = subst (AreLines 0) (sym f.lines) tt;
     }
 
--- ---- one item more
+-- ---- one more declaration
 
 pub kept_item : (loads : ℕ) (d : Declared) (b : Body) (i : Item) → IsKept loads d b → IsKept loads (with_item d i) b
 kept_item loads d b (item.Tenant t) k = record { whole = k.whole; connections = k.connections; submissions = k.submissions; work = k.work; lines = k.lines }
@@ -296,7 +296,7 @@ kept_item loads d b (item.Policy p) k = record {
   lines = all_more d.policies (p ∷ []) b.lines k.lines;
 }
 
--- ---- one line more
+-- ---- one more line
 
 module _ (loads : ℕ) (d : Declared) (b : Body) (k : IsKept loads d b) where
   abbrev policies : List NamedPolicy
@@ -305,7 +305,7 @@ module _ (loads : ℕ) (d : Declared) (b : Body) (k : IsKept loads d b) where
   abbrev chain_at : ℕ → Chain
   chain_at conn = chain_of policies b.lines conn
 
-  -- the chain behind one line more
+  -- the chain after one more line
   abbrev chain_then : Line → ℕ → Chain
   chain_then l conn = chain_of policies (b.lines ++ l ∷ []) conn
 
@@ -316,13 +316,13 @@ module _ (loads : ℕ) (d : Declared) (b : Body) (k : IsKept loads d b) where
   done_then l conn same = chain_push policies new_chain b.lines l conn ∙ cond-true (conn_of l == conn)
       (done (op_in policies l) (chain_at conn)) (chain_at conn) (eq-eqb (conn_of l) conn same)
 
-  -- what is kept of a connection behind a line
+  -- what is kept of a connection after a line
   pub record IsThen (l : Line) (connections : List Connection) (conn : ℕ) : Type 0 where
     pub few : length (links_at connections conn) ≤ 8
     pub words : (connection_at connections conn).words ≡ heap_of (b.lines ++ l ∷ []) conn
     pub links : links_at connections conn ≡ outline (chain_then l conn).entries
 
-  -- a line that leaves the connection
+  -- a line that leaves the connection unchanged
   untouched : (l : Line) (connections : List Connection) (conn : ℕ) → 1 ≤ conn → conn ≤ 16 → connection_at connections conn ≡ connection_at b.connections conn
       → heap_of (b.lines ++ l ∷ []) conn ≡ heap_of b.lines conn → outline (chain_then l conn).entries ≡ outline (chain_at conn).entries → IsThen l connections conn
   untouched l connections conn from to same heap chain =
@@ -333,7 +333,7 @@ module _ (loads : ℕ) (d : Declared) (b : Body) (k : IsKept loads d b) where
         links = ap (λ (x : Connection). x.links) same ∙ c.links ∙ sym chain;
       }
 
-  -- a line without a step of an operator leaves each chain
+  -- a line without an operation leaves each chain unchanged
   no_step : (l : Line) (conn : ℕ) → op_in policies l ≡ None → chain_then l conn ≡ chain_at conn
   no_step l conn none = elim (cases_Bool (conn_of l == conn)) [
     | inl same ↦ done_then l conn (eqb-true (conn_of l) conn same) ∙ ap (λ (o : Option Op). done o (chain_at conn)) none
@@ -362,7 +362,7 @@ module _ (loads : ℕ) (d : Declared) (b : Body) (k : IsKept loads d b) where
           links = ap (λ (x : Connection). x.links) is ∙ c.links ∙ sym (ap (λ (c : Chain). outline c.entries) (no_step (line.Conn n words) n refl));
         }
 
-  -- a line of an operator that links the chain of its connection anew
+  -- an operator's line that changes the chain of its connection
   relinked_then : (l : Line) (n : ℕ) (links : List Link) → is_conn l ≡ false → conn_of l ≡ n → 1 ≤ n → n ≤ 16
       → length links ≤ 8 → links ≡ outline (done (op_in policies l) (chain_at n)).entries
       → (conn : ℕ) → 1 ≤ conn → conn ≤ 16 → IsThen l (relinked b.connections n links) conn

@@ -1,4 +1,4 @@
--- What an answer says of a text.
+-- What a result means of a text.
 use Rattle.std.proofs.Common.{◌≡◌, ℕ, ◌+◌, ◌-◌, ◌≤◌, List, [], ◌++◌, codes, length, take, Result, Ok, Err, refl, sym, ap, ◌∙◌, append_assoc, arith}
 use Rattle.std.specs.Prelude.{MatchResult}
 use Rattle.std.proofs.lemmas.List.{length-append, take_at}
@@ -41,7 +41,7 @@ front_behind text loads T behind f =
     )
 
 module _ (laws : Laws) (text : List ℕ) (loads : ℕ) (T : Table) (behind : List ℕ) (front : IsFront first_line text loads T behind) where
-  -- the text up to what is left
+  -- the text up to the remainder
   pub record IsCutAt (left : ℕ) (rest : List ℕ) : Type 0 where
     pub passed : List ℕ
     pub text_is : text ≡ passed ++ rest

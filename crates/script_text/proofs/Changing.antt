@@ -1,4 +1,4 @@
--- What a line says is a change, or its fault a stop.
+-- What a line means is a change, and its fault is a stop.
 use Rattle.std.proofs.Common.{◌≡◌, ◌≢◌, ℕ, ◌+◌, ◌<◌, ◌≤◌, Bool, true, false, List, [], ◌∷◌, ◌++◌, length, Some, None}
 use Rattle.std.proofs.Common.{Result, Ok, Err, refl, sym, ap, subst, arith, inl, inr}
 use Rattle.std.proofs.lemmas.Bool.{cases_Bool}
@@ -37,7 +37,7 @@ use Rattle.script_text.proofs.Soundness.{allows_said}
 use Rattle.script_text.proofs.TextLines.{shorter}
 
 module _ (laws : Laws) (loads : ℕ) where
-  -- ---- a line that begins no item
+  -- ---- a line that starts no declaration
 
   verdict_at : (d : Declared) (b : Body) (f : Form) (m : List Meaning) (r : Result Line ScriptReason)
       → item_form f ≡ None → f ≢ form.Close → decide loads d b.lines f m ≡ r

@@ -1,4 +1,4 @@
--- A text that is cut at the first line feed, which a search for that byte found.
+-- A text that is split at the first line feed, which a search for that byte found.
 use Rattle.std.proofs.Common.{◌≡◌, ℕ, zero, suc, ◌+◌, ◌<◌, ◌==◌, Bool, true, false, List, [], ◌∷◌, length, get_or, take, drop, Some, None, refl, arith}
 use Rattle.memchr.specs.Find.{IsFirstByte, is_byte}
 use Rattle.mrpc_table.specs.Lines.{pieces_of}

@@ -1,4 +1,4 @@
--- One line more: a text goes on in one way, or stops for one reason, and never both.
+-- One more line: a text continues in one way, or stops for one reason, never both.
 use Rattle.std.proofs.Common.{◌≡◌, ◌≢◌, ◌⊎◌, ℕ, zero, suc, ◌+◌, ◌<◌, ◌≤◌, true, false, List, [], ◌∷◌, ◌++◌, length}
 use Rattle.std.proofs.Common.{Option, Some, None, Result, Ok, Err, refl, sym, ap, subst, ◌∙◌, arith, inl, inr}
 use Rattle.std.proofs.lemmas.Bool.{false≢true, cases_Bool}
@@ -34,7 +34,7 @@ module _ (laws : Laws) (loads : ℕ) (T : Table) where
   abbrev Free : Before → List ℕ → Type 0
   Free b line = (q : ScriptReason) → Offends loads b line q → ⊥
 
-  -- ---- nothing stands against a line that goes on
+  -- ---- a line by which a text continues has no fault
 
   pub record GoesFree (b : Before) (text rest : List ℕ) : Type 0 where
     pub line : List ℕ
@@ -70,7 +70,7 @@ module _ (laws : Laws) (loads : ℕ) (T : Table) where
       let less = shorter text h.line h.behind h.before in
       omega (arith, left, less)
 
-  -- ---- one way to go on
+  -- ---- the continuation is unique
 
   abbrev pub IsSame : Before → List ℕ → Before → List ℕ → Type 0
   IsSame next rest other left = (next ≡ other) × (rest ≡ left)
@@ -146,7 +146,7 @@ module _ (laws : Laws) (loads : ℕ) (T : Table) where
   pub one_goes : (b : Before) (text : List ℕ) (next other : Before) (x y : List ℕ) → Goes loads T b text next x → Goes loads T b text other y → IsSame next x other y
   one_goes b text next other x y goes also = let h = goes_free b text next x goes in one_goes_at b text h.line h.behind next other x y h.before goes also
 
-  -- ---- a text that goes on doesn't stop
+  -- ---- a text that continues doesn't stop
 
   pub goes_or_stops : (b : Before) (text : List ℕ) (next : Before) (rest : List ℕ) (at : ℕ) (reason : ScriptReason)
       → Goes loads T b text next rest → Stops loads T b text at reason → ⊥
@@ -171,7 +171,7 @@ module _ (laws : Laws) (loads : ℕ) (T : Table) where
   goes_or_stops b text next rest at reason goes (no_feed one some f e) = let h = goes_free b text next rest goes in has_feed text h.line h.behind h.before one
   goes_or_stops b text next rest at reason goes (no_close none still f e) = let h = goes_free b text next rest goes in some_line text h.line h.behind none h.before
 
-  -- ---- one stop
+  -- ---- the stop is unique
 
   pub one_stop : (b : Before) (text : List ℕ) (m n : ℕ) (r q : ScriptReason) → Stops loads T b text m r → Stops loads T b text n q → (m ≡ n) × (r ≡ q)
   one_stop b text m n r q (in_line l x h first e) (in_line k y j second f) =
@@ -205,7 +205,7 @@ module _ (laws : Laws) (loads : ℕ) (T : Table) where
   one_stop b text m n r q (no_close none still f e) (no_feed one some g h) = absurd (some none)
   one_stop b text m n r q (no_close none still f e) (no_close gone also g h) = (f ∙ sym g, e ∙ sym h)
 
-  -- ---- a text goes on, or stops, or ends
+  -- ---- a text continues, stops or ends
 
   pub data Next (b : Before) (text : List ℕ) : Type 0 where
     next_goes : (next : Before) (rest : List ℕ) → Goes loads T b text next rest → Next b text

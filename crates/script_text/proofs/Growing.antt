@@ -1,4 +1,4 @@
--- What lines make of connections stays, whatever is declared behind them.
+-- The state of connections after lines doesn't depend on later declarations.
 use Rattle.std.proofs.Common.{◌≡◌, ℕ, zero, suc, ◌<◌, ◌≤◌, ◌==◌, List, [], ◌∷◌, ◌++◌, length, Option, refl, sym, ap, subst, ◌∙◌, append_assoc, arith}
 use Rattle.std.specs.Prelude.{slice_get, option_map, if◌then◌else◌}
 use Rattle.std.proofs.lemmas.List.{append-nil, length-append}
@@ -99,7 +99,7 @@ module _ (loads : ℕ) where
   allowed_more ps before (k ∷ ls) l h allowed =
       (h.0, allowed_more ps (before ++ k ∷ []) ls l h.1 (subst (λ (ks : List Line). Allows loads ps ks l) (sym (append_assoc before (k ∷ []) ls)) allowed))
 
--- ---- one line more
+-- ---- one more line
 
 pub chain_push : (ps : List NamedPolicy) (chain : Chain) (lines : List Line) (l : Line) (conn : ℕ)
     → chain_behind ps chain (lines ++ l ∷ []) conn ≡ (if conn_of l == conn then done (op_in ps l) (chain_behind ps chain lines conn) else chain_behind ps chain lines conn)

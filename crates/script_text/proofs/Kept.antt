@@ -1,4 +1,4 @@
--- What is said behind the lines is what is said by what is kept of them.
+-- What a line means after lines is what it means in the state kept of them.
 use Rattle.std.proofs.Common.{◌≡◌, ◌≢◌, ℕ, zero, suc, ◌+◌, ◌*◌, ◌^◌, ◌<◌, ◌≤◌, ◌==◌, Bool, true, false, not, ◌&&◌}
 use Rattle.std.proofs.Common.{◌||◌, List, [], ◌∷◌, length, Option, Some, None, Result, Ok, Err, refl, sym, ap, ◌∙◌}
 use Rattle.std.proofs.Common.{arith, inl, inr}
@@ -210,7 +210,7 @@ module _ (loads : ℕ) (d : Declared) (b : Body) (k : IsKept loads d b) where
   abbrev Decided : Line → Result Line ScriptReason
   Decided l = decided_by l (against loads d.policies b.lines l)
 
-  -- a line of a connection, by whether it is open
+  -- a line of a connection, open or not
   abbrev Known : Line → Option ℕ → Result Line ScriptReason
   Known l heap = decided_by l (against_known loads d.policies heap (chain_of d.policies b.lines (conn_of l)).entries (submissions b.lines) l)
 
@@ -221,7 +221,7 @@ module _ (loads : ℕ) (d : Declared) (b : Body) (k : IsKept loads d b) where
     heap_is : (w : ℕ) → heap_of b.lines conn ≡ Some w → w ≤ 65536
     heap_is w e = heap_small (length d.policies) b.lines conn k.lines w e
 
-    -- what is said by the heap that is kept
+    -- what a line means, by the kept heap
     by_heap : (said : Option ℕ → Result Line ScriptReason) (l : Line) → conn_of l ≡ conn
         → ((found : Option ℕ) → heap_of b.lines conn ≡ found → said found ≡ Known l found)
         → said (words_kept b conn) ≡ Decided l

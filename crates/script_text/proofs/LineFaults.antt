@@ -1,4 +1,4 @@
--- What stands against a line, and what comes first of it.
+-- The reasons of a line, and the first of them.
 use Rattle.std.proofs.Common.{◌≡◌, ◌≢◌, ◌⊎◌, ℕ, ◌≤◌, true, false, List, Option, Some, None, Result, Ok, Err, refl, sym, ap, subst, ◌∙◌, arith, inl, inr}
 use Rattle.std.proofs.lemmas.Bool.{false≢true}
 use Rattle.std.proofs.lemmas.Option.{same_Some}
@@ -59,7 +59,7 @@ module _ (laws : Laws) (loads : ℕ) (b : Before) where
   abbrev pub IsAfter : ScriptReason → Type 0
   IsAfter q = (b.closed ≡ true) × (q ≡ reason.After)
 
-  -- ---- a line whose words say something
+  -- ---- a line whose words have values
 
   pub data Core (f : Form) (m : List Meaning) (q : ScriptReason) : Type 0 where
     unknown : (name : List ℕ) → policy_in f m ≡ Some name → policy_place b.declared name ≡ None → q ≡ reason.Unknown → Core f m q
@@ -132,7 +132,7 @@ module _ (laws : Laws) (loads : ℕ) (b : Before) where
   pub said_verdict : (f : Form) (m : List Meaning) → item_form f ≡ None → f ≢ form.Close → SaidVerdict f m (decide loads b.declared b.lines f m)
   said_verdict f m item still = by_found f m (line_in b.declared f m) item still refl
 
-  -- nothing stands against it, but perhaps `close` before it
+  -- it has no reason, except perhaps `close` before it
   pub open_free : (line : List ℕ) (f : Form) (m : List Meaning) → IsSaid f line m → item_form f ≡ None
       → ((q : ScriptReason) → Core f m q → ⊥) → b.closed ≡ false → (q : ScriptReason) → Offends loads b line q → ⊥
   open_free line f m said item none still q offends = elim (core_of line f m q said item offends) [
@@ -164,7 +164,7 @@ module _ (laws : Laws) (loads : ℕ) (b : Before) where
   close_core m q (unknown name named none e) = (let bad : ◌≡◌ {A = Option (List ℕ)} None (Some name) = named in cc)
   close_core m q (behind l is against) = (let bad : ◌≡◌ {A = Option Line} None (Some l) = is in cc)
 
-  -- ---- a line whose words don't say anything
+  -- ---- a line whose words have no values
 
   pub words_first : (line : List ℕ) (f : Form) (r : ScriptReason) → form_in (words_of line) ≡ Some f
       → item_form f ≡ None → IsFirst (words.IsAgainst (sorts_of f) (words_of line)) r
@@ -198,7 +198,7 @@ module _ (laws : Laws) (loads : ℕ) (b : Before) where
     ];
   }
 
-  -- ---- a line that begins an item
+  -- ---- a line that starts a declaration
 
   pub head_of : (line : List ℕ) (g : ItemForm) (q : ScriptReason) → item_form_in (words_of line) ≡ Some g
       → Offends loads b line q → IsAgainstHead b.declared g (words_of line) q ⊎ IsAfter q

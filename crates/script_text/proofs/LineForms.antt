@@ -1,4 +1,4 @@
--- What the forms of lines tell of them.
+-- What the form of a line implies.
 use Rattle.std.proofs.Common.{◌≡◌, ◌≢◌, ℕ, Bool, true, false, List, [], ◌∷◌, Option, Some, None, refl, sym, ap, ◌∙◌}
 use Rattle.std.specs.Prelude.{option_and_then, option_map}
 use Rattle.std.specs.List.{onto_first}
@@ -49,7 +49,7 @@ unskipped line f some = unskipped_by line f (is_skipped line) refl some
 pub same_form : (words : List (List ℕ)) (f g : Form) → form_in words ≡ Some f → form_in words ≡ Some g → f ≡ g
 same_form words f g e h = same_Some f g (sym e ∙ h)
 
--- ---- items
+-- ---- declarations
 
 pub item_of : (words : List (List ℕ)) (f : Form) → form_in words ≡ Some f → item_form_in words ≡ item_form f
 item_of words f e = ap (option_and_then item_form) e
@@ -112,7 +112,7 @@ no_map : {A B : Type 0} (f : A → B) (o : Option A) → option_map f o ≡ None
 no_map f None e = refl
 no_map f (Some x) e = absurd cc
 
--- a line that names a policy is none where that isn't declared
+-- a line that names an undeclared policy is none
 pub undeclared : (d : Declared) (f : Form) (m : List Meaning) (name : List ℕ) → policy_in f m ≡ Some name → policy_place d name ≡ None → line_in d f m ≡ None
 undeclared d form.Attach m name e none = ap (option_map _) (ap (policy_place d) (same_Some (name_at m 4) name e) ∙ none)
 undeclared d form.Upgrade m name e none = ap (option_map _) (ap (policy_place d) (same_Some (name_at m 3) name e) ∙ none)

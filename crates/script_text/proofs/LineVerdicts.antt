@@ -1,4 +1,4 @@
--- The first reason against a line, by the lines before it.
+-- The first reason of a line, by the lines before it.
 use Rattle.std.proofs.Common.{◌≡◌, ℕ, ◌+◌, ◌*◌, ◌<◌, ◌≤◌, Bool, true, false, ◌&&◌, ◌⊎◌, inl, inr, List, length}
 use Rattle.std.proofs.Common.{Option, Some, None, refl, ap, sym, subst, ◌∙◌, arith}
 use Rattle.std.specs.Prelude.{nat_lt, nat_le}
@@ -19,7 +19,7 @@ use Rattle.script_text.specs.declared.script.Line.{Line}
 use Rattle.script_text.specs.declared.script.Line.TheVariants as line
 use Rattle.script_text.proofs.Refusals.{OpVerdict, op_verdict}
 
--- ---- what may stand against a line of each form
+-- ---- the possible reasons of a line of each form
 
 abbrev pub IsMisplaced : (words : ℕ) → Line → Type 0
 IsMisplaced words (line.Store conn place value) = IsPlace words place → ⊥
@@ -50,7 +50,7 @@ module _ (loads : ℕ) (policies : List NamedPolicy) (before : List Line) where
   abbrev chain : Line → Chain
   chain l = chain_of policies before (conn_of l)
 
-  -- what stands against a line that uses an open connection
+  -- the reason of a line that uses an open connection
   pub data Stands (words : ℕ) (l : Line) (q : ScriptReason) : Type 0 where
     misplaced : IsMisplaced words l → q ≡ reason.Place → Stands words l q
     past : IsPastEngines (length (chain l).entries) l → q ≡ reason.At → Stands words l q
@@ -75,7 +75,7 @@ module _ (loads : ℕ) (policies : List NamedPolicy) (before : List Line) where
   Verdict l None = (q : ScriptReason) → IsAgainst loads policies before l q → ⊥
   Verdict l (Some r) = IsFirst (IsAgainst loads policies before l) r
 
-  -- what would have to stand against a line
+  -- the conditions for each reason of a line
   pub record Parts (words : ℕ) (l : Line) (Places Pasts Works : Type 0) (Ops : Refusal → Type 0) : Type 0 where
     pub place : IsMisplaced words l → Places
     pub past : IsPastEngines (length (chain l).entries) l → Pasts
@@ -189,7 +189,7 @@ module _ (loads : ℕ) (policies : List NamedPolicy) (before : List Line) where
       (λ isnt. first_of words l reason.At refl there (no_engine conn at refl (ltb-false at count isnt) refl)
       (record { place = λ none. absurd none; past = λ m. refl; op = λ o refusal none r. no_op o _ none; work = λ none much. absurd (false≢true none) }))
 
-  -- ---- steps of an operator
+  -- ---- operations
 
   reason_order : (x y : Refusal) → chains.order_of x ≤ chains.order_of y → order_of (reason_of x) ≤ order_of (reason_of y)
   reason_order x y h = (let one = by_order x in let other = by_order y in omega (arith, one, other, h)) where
@@ -206,7 +206,7 @@ module _ (loads : ℕ) (policies : List NamedPolicy) (before : List Line) where
     | inr from ↦ from
   ]
 
-  -- a line of which only a step of an operator is asked
+  -- a line of which only the operation is checked
   pub record IsPlain (l : Line) : Type 0 where
     pub used : is_conn l ≡ false
     pub place : (words : ℕ) → IsMisplaced words l → ⊥

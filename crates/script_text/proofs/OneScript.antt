@@ -1,4 +1,4 @@
--- A text spells one script, or it has one fault.
+-- A text is exactly one script, or has exactly one first fault.
 use Rattle.std.proofs.Common.{◌≡◌, ◌⊎◌, ℕ, zero, suc, ◌+◌, ◌<◌, Bool, true, List, [], ◌∷◌, ◌++◌, codes, length, refl}
 use Rattle.std.proofs.Common.{sym, ap, subst, ◌∙◌, append_assoc, arith, inl, inr, Result, Ok, Err}
 use Rattle.std.specs.Prelude.{MatchResult}
@@ -32,7 +32,7 @@ pub record FrontLaws : Type 0 where
       → ((loads : ℕ) × (T : Table) × (behind : List ℕ) × IsFront first text loads T behind)
       ⊎ ((line : ℕ) × (r : ScriptReason) × IsFrontFault first text line r)
 
--- the script is spelled to its end
+-- the script ends here
 abbrev pub end_of : Declared → List Line → Before
 end_of d lines = record { declared = d; lines = lines; closed = true }
 
@@ -91,7 +91,7 @@ module _ (laws : Laws) (loads : ℕ) (T : Table) where
       let same = one_end text (end_of d lines) [] b x whole reaches (ended (end_of d lines)) (stopped b x at r stop) in
       no_stop b x at r (sym same.1) (ap (λ (p : Before). p.closed) (sym same.0)) stop
 
-  -- ---- what is left is the end of the text
+  -- ---- the remainder is a suffix of the text
 
   abbrev pub IsBehind : List ℕ → List ℕ → Type 0
   IsBehind text rest = (passed : List ℕ) × (text ≡ passed ++ rest)
@@ -113,7 +113,7 @@ module _ (laws : Laws) (loads : ℕ) (T : Table) where
   reaches_behind text b rest (starts e f) = ([], sym f)
   reaches_behind text b rest (goes_on c left r goes) = behind_more text left rest (reaches_behind text c left r) (goes_behind c left b rest goes)
 
-  -- ---- some answer
+  -- ---- a result exists
 
   pub data Run (text : List ℕ) : Type 0 where
     ran : (d : Declared) (lines : List Line) → Reaches loads T text (end_of d lines) [] → Run text
@@ -182,7 +182,7 @@ module _ (laws : Laws) (fronts : FrontLaws) where
   abbrev pub HasAnswer : List ℕ → Type 0
   HasAnswer text = ((s : Script) × Spells text s) ⊎ ((line : ℕ) × (r : ScriptReason) × IsFault text line r)
 
-  -- the front of a text, up to what is behind it
+  -- the preamble of a text, and its remainder
   front_behind : (text : List ℕ) (loads : ℕ) (T : Table) (behind : List ℕ) → IsFront first_line text loads T behind → (passed : List ℕ) × (text ≡ passed ++ behind)
   front_behind text loads T behind f =
       let end : List ℕ = codes "end\n" in (

@@ -52,7 +52,7 @@ value_small w (plain n) is fits = fits
 value_small w (negative n) is fits = omega arith
 value_small w (hexadecimal digits) is fits = sixteen_digits digits is.1
 
--- ---- what words say
+-- ---- the values of words
 
 pub number_said : (sorts : List Sort) (ws : List (List ℕ)) (ms : List Meaning) (k least most : ℕ)
     → slice_get sorts k ≡ Some (sort.Number least most) → AreSaid sorts ws ms → IsIn least most (number_at ms k)
@@ -91,7 +91,7 @@ value_said (s ∷ ss) (w ∷ ws) (m ∷ ms) zero at said = of m (subst (λ (x : 
   of (name x) h = absurd h
 value_said (s ∷ ss) (w ∷ ws) (m ∷ ms) (suc k) at said = value_said ss ws ms k at said.1
 
--- ---- where a policy stands
+-- ---- the index of a policy
 
 some_by : (b : Bool) (n i : ℕ) → cond b (Some n) None ≡ Some i → (b ≡ true) × (n ≡ i)
 some_by true n i e = (refl, same_Some n i e)

@@ -1,4 +1,4 @@
--- What stands against a step of an operator, and what comes first.
+-- The reasons for which a chain rejects an operation, and the first of them.
 use Rattle.std.proofs.Common.{◌≡◌, ℕ, ◌<◌, ◌≤◌, zero, suc, true, false, not, ◌⊎◌, inl, inr, List, [], ◌∷◌, length}
 use Rattle.std.proofs.Common.{Contains, Option, Some, None, refl, ap, sym, ◌∙◌, arith}
 use Rattle.std.specs.Prelude.{nat_lt, nat_le, if◌then◌else◌}
@@ -18,7 +18,7 @@ use Rattle.script_text.specs.Lines.{reason_of}
 
 -- ---- an attachment
 
--- what stands against one, by its order
+-- the reasons of one, in their order
 pub attach-order : (es : List Entry) (at : ℕ) (name label : List ℕ) (policy : Policy) (r : Refusal) → IsAgainst es (Attach at name label policy) r
     → ((order_of r ≡ 2) × Contains (names_of es) name) ⊎ (((order_of r ≡ 3) × (length es < at)) ⊎ ((order_of r ≡ 4) × (8 ≤ length es)))
 attach-order es at name label policy r (detaches_none name' is none s) = absurd cc
@@ -69,7 +69,7 @@ free-attach es at name label policy r none within few against = elim (attach-ord
   | inr rest ↦ elim rest [ inl is ↦ omega (arith, is.1) | inr is ↦ omega (arith, is.1) ]
 ]
 
--- ---- a step on the entry of a name
+-- ---- an operation on the entry of a name
 
 order-least : (r : Refusal) → 1 ≤ order_of r
 order-least (no_such name) = omega arith
@@ -99,7 +99,7 @@ refuses-upgrade c name label policy none = record {
   first = λ other less against. omega (arith, order-least other);
 }
 
--- what stands against an upgrade of a name that is there: an entry of it is of another kind
+-- the reason of an upgrade whose name exists: an entry with the name is of another kind
 upgrade-other : (es : List Entry) (name label : List ℕ) (policy : Policy) (r : Refusal) → Contains (names_of es) name
     → IsAgainst es (Upgrade name label policy) r
     → (order_of r ≡ 5) × ((e : Entry) × Contains es e × (e.name ≡ name) × (is_same_kind e.policy policy ≡ false))

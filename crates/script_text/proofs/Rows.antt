@@ -1,4 +1,4 @@
--- The definitions on small scripts that were worked out by hand.
+-- The definitions, evaluated on small scripts that were worked out by hand.
 use Rattle.std.proofs.Common.{◌≡◌, ℕ, ◌^◌, List, [], ◌∷◌, ◌++◌, codes, Option, Some, None, refl}
 use Rattle.mrpc_table.specs.Lines.{words_of}
 use Rattle.mrpc_table.specs.declared.words.Decimal.TheVariants.{Small, Large}
@@ -37,7 +37,7 @@ policies =
 abbrev declared : Declared
 declared = record { tenants = []; policies = policies }
 
--- the same call is submitted twice behind two attachments, and the first is upgraded
+-- the same call is submitted twice after two attachments, and the first is upgraded
 abbrev upgrading : List Line
 upgrading =
     line.Conn 1 16 ∷ line.Attach 1 0 (codes "acl") 0 ∷ line.Attach 1 1 (codes "rl") 2 ∷ line.Store 1 2 150 ∷ line.Submit 1 0 0 2
@@ -65,7 +65,7 @@ no_heap = refl
 detached : (chain_of policies (upgrading ++ line.Detach 1 (codes "acl") ∷ []) 1).entries ≡ entry (codes "rl") 2 1 rl ∷ []
 detached = refl
 
--- ---- what words say
+-- ---- the meaning of words
 
 attaches : line_in declared form.Attach (word key.Attach ∷ number 1 ∷ unbounded (Small 0) ∷ name (codes "acl") ∷ name (codes "p2") ∷ []) ≡ Some (line.Attach 1 0 (codes "acl") 1)
 attaches = refl
@@ -82,7 +82,7 @@ stores_far = refl
 attach_form : form_in (words_of (codes "attach 1 0 acl p1")) ≡ Some form.Attach
 attach_form = refl
 
--- ---- one broken line for each reason, behind the lines above; loads 1024
+-- ---- one faulty line for each reason, after the lines above; loads 1024
 
 abbrev first : Line → Option ScriptReason
 first l = against 1024 policies upgrading l
@@ -152,7 +152,7 @@ full_and_past = refl
 other_tenant : against 1024 policies eight (line.Upgrade 1 (codes "e") 4) ≡ Some OtherKind
 other_tenant = refl
 
--- two calls of 16384 words are less than 16777216, three of 8388608 aren't
+-- two calls of 16384 words are fewer than 16777216, three of 8388608 aren't
 work : against 8388608 policies upgrading (line.Submit 1 0 0 2) ≡ Some Work
 work = refl
 

@@ -1,4 +1,4 @@
--- What holds of each script that a text spells.
+-- Properties of each script that a text is.
 use Rattle.std.proofs.Common.{◌≡◌, ℕ, Bool, true, List, [], ◌∷◌, Some, sym, subst, arith}
 use Rattle.std.proofs.lemmas.List.Elements.{All-nil}
 use Rattle.mrpc_table.specs.declared.table.Table.{Table}
@@ -20,7 +20,7 @@ use Rattle.script_text.specs.declared.script.Script.{Script}
 use Rattle.script_text.proofs.Growing.{allowed_grown, allowed_more}
 use Rattle.script_text.proofs.Ranges.{line_ranges}
 
--- a line that is said and against which nothing stands may stand there
+-- a line that words mean, and that has no reason, is legal there
 pub allows_said : (loads : ℕ) (b : Before) (text : List ℕ) (f : Form) (m : List Meaning) (l : Line) → IsSaid f text m
     → line_in b.declared f m ≡ Some l → ((q : ScriptReason) → Offends loads b text q → ⊥)
     → Allows loads b.declared.policies b.lines l

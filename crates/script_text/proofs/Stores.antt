@@ -63,7 +63,7 @@ value_more word i n d within here so_far digit =
     let value : digit_value (get_or word i 0) ≡ get_or word i 0 - 48 = (digit_is (get_or word i 0) here).2 in
     sym (digits_value_more 10 word i within ∙ rw (value, sym so_far, sym digit) refl)
 
--- no digit stands behind a zero in front
+-- no digit follows a leading zero
 pub decimal_front : (text : List ℕ) (i : ℕ) → 1 ≤ i → i ≤ length text → list_all is_ascii_digit (take i text) ≡ true
     → (get_or text 0 0 ≡ 48 → i ≡ 1) → is_decimal (take i text) ≡ true
 decimal_front [] i low within all alone = absurd (omega (arith, low, within))
@@ -169,7 +169,7 @@ is_drain line first conn begins c low high =
           ((refl, refl), ((c.spells, (low, high)), tt));
     }
 
--- ---- lines with which a text begins
+-- ---- lines at the start of a text
 
 no_feed : (c : ℕ) → is_ascii_digit c ≡ true → (c == 10) ≡ false
 no_feed c e =
@@ -189,7 +189,7 @@ both_unfed : (xs ys : List ℕ) → AreUnfed xs → AreUnfed ys → AreUnfed (xs
 both_unfed [] ys a b = b
 both_unfed (x ∷ xs) ys a b = (a.0, both_unfed xs ys a.1 b)
 
--- the bytes of a text up to a line feed, and what stands behind it
+-- the bytes of a text up to a line feed, and the remainder
 record Fed (text rest : List ℕ) : Type 0 where
   line : List ℕ
   parts : text ≡ line ++ 10 ∷ rest

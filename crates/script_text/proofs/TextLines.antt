@@ -1,4 +1,4 @@
--- A text is cut at its first line feed, and a line at its first space.
+-- A text splits at its first line feed, and a line at its first space.
 use Rattle.std.proofs.Common.{◌≡◌, ℕ, ◌<◌, ◌==◌, Bool, true, false, cond, List, [], ◌∷◌, ◌++◌, length, drop, get_or}
 use Rattle.std.proofs.Common.{All, refl, sym, ap, subst, ◌∙◌, arith, eq-eqb}
 use Rattle.std.specs.Prelude.{Contains}
@@ -72,7 +72,7 @@ last_is text e = let all : AllByRecursion IsUnfed (text ∷ []) = subst (AllByRe
 pub same_pieces : (x y : List ℕ) → pieces_of x ≡ pieces_of y → x ≡ y
 same_pieces x y e = sym (join_with_byte-slice_split 10 x) ∙ ap (join_with_byte 10) e ∙ join_with_byte-slice_split 10 y
 
--- a text is its first line and what is behind it, or one line without a line feed
+-- a text is its first line and the remainder, or a line without a line feed
 pub data IsSplit (text : List ℕ) : Type 0 where
   fed : (line behind : List ℕ) → IsLineBefore text line behind → IsSplit text
   last : IsOneLine text → IsSplit text

@@ -1,4 +1,4 @@
--- Lines of the usual forms: words that are right for one of them are of that form.
+-- Lines of the frequent forms: words that fit one of them are of that form.
 use Rattle.std.proofs.Common.{◌≡◌, ℕ, List, [], ◌∷◌, Some, refl, sym, ap, subst, ◌∙◌, inl, inr}
 use Rattle.script_words.specs.Forms.{form_in, sorts_of, conn}
 use Rattle.script_words.specs.Keywords.{spelling}
@@ -18,7 +18,7 @@ key_word k w (number n) h = absurd h
 key_word k w (unbounded d) h = absurd h
 key_word k w (name x) h = absurd h
 
--- the first word of words of some sorts, and the others
+-- the first word of words with some sorts, and the others
 record Split (s : Sort) (sorts : List Sort) (ws : List (List ℕ)) : Type 0 where
   first : List ℕ
   others : List (List ℕ)
@@ -84,7 +84,7 @@ moved : (f g : Form) → f ≡ g → (ws : List (List ℕ)) (ms : List Meaning) 
 moved f g e ws ms h is =
     subst (λ (k : Form). form_in ws ≡ Some k) (sym e) (is ws ms (subst (λ (k : Form). AreSaid (sorts_of k) ws ms) e h))
 
--- words that are right for a usual form are of that form
+-- words that fit a frequent form are of that form
 pub form_is : (f : Form) → IsUsual f → (ws : List (List ℕ)) (ms : List Meaning) → AreSaid (sorts_of f) ws ms → form_in ws ≡ Some f
 form_is f (inl e) ws ms h = moved f form.Upgrade e ws ms h is_upgrade
 form_is f (inr e) ws ms h = moved f form.Drain e ws ms h is_drain

@@ -1,4 +1,4 @@
--- The code's own: how what is kept stands for the lines so far, and what a change makes of what stands before a line.
+-- The code's own: how the kept state corresponds to the lines so far, and the state after a change.
 use Rattle.std.specs.Prelude.{◌≡◌, ◌≢◌, Bool, Ok, Err, ℕ, ◌*◌, ◌<◌, ◌≤◌, false, true, List, Some, [], ◌∷◌, ◌++◌, length, map}
 use Rattle.mrpc_table.specs.declared.table.Table.{Table}
 use Rattle.engine_core.specs.Chains.{Entry}
@@ -30,7 +30,7 @@ use Rattle.script_text.specs.declared.change.Change.{Change}
 use Rattle.script_text.specs.declared.change.Change.TheVariants as change
 use Rattle.script_text.specs.declared.script.Line.{Line}
 
--- ---- what is kept
+-- ---- the kept state
 
 abbrev pub link_of : Entry → Link
 link_of e = record { name = e.name; kind = kind_of e.policy }
@@ -38,7 +38,7 @@ link_of e = record { name = e.name; kind = kind_of e.policy }
 abbrev pub outline : List Entry → List Link
 outline entries = map link_of entries
 
--- of a connection, the words of its heap and the outline of its chain are kept
+-- for a connection, the size of its heap and the outline of its chain are kept
 pub record IsConnection (policies : List NamedPolicy) (b : Body) (conn : ℕ) : Type 0 where
   pub few : length (links_kept b conn) ≤ 8
   pub words : words_kept b conn ≡ heap_of b.lines conn
@@ -61,7 +61,7 @@ seen d b = record { declared = d; lines = b.lines; closed = b.closed }
 
 -- ---- changes
 
--- words of a form say this, but for `close` before them
+-- words of a form mean this; `close` before them isn't checked
 abbrev pub IsSaidBy : (loads : ℕ) → Declared → Body → Form → List Meaning → Change → Type 0
 IsSaidBy loads d b f m (change.Line l) = (f ≢ CloseForm) × (decide loads d b.lines f m ≡ Ok l)
 IsSaidBy loads d b f m change.Close = f ≡ CloseForm
@@ -71,7 +71,7 @@ abbrev pub IsFlawOf : (loads : ℕ) → Declared → Body → Form → List Mean
 IsFlawOf loads d b f m (flaw.Reason reason) = (f ≢ CloseForm) × (decide loads d b.lines f m ≡ Err reason)
 IsFlawOf loads d b f m flaw.Memory = Unit {0}
 
--- a fault of the lines of an item; behind `close` its first line is at fault
+-- a fault in the lines of a declaration; after `close` its first line has the fault
 pub data IsItemFaultAt (T : Table) (d : Declared) (closed : Bool) (f : ItemForm) (line behind : List ℕ) (at : ℕ)
     (reason : ScriptReason) : Type 0 where
   is_fault : (closed ≡ true → at ≤ 1) → FailsAt T true d f line behind at reason
@@ -86,7 +86,7 @@ abbrev pub IsItemFault : Table → Declared → Bool → ItemForm → List ℕ �
 IsItemFault T d closed f line behind (fault.At at reason) = IsItemFaultAt T d closed f line behind at reason
 IsItemFault T d closed f line behind fault.Memory = Unit {0}
 
--- a line that begins no item says this
+-- a line that starts no declaration means this
 abbrev pub IsSaidChange : (loads : ℕ) → Before → List ℕ → Change → Type 0
 IsSaidChange loads b line (change.Line l) =
     (f : Form) × (meanings : List Meaning) × IsSaid f line meanings × (line_in b.declared f meanings ≡ Some l)
@@ -94,7 +94,7 @@ IsSaidChange loads b line (change.Line l) =
 IsSaidChange loads b line change.Close = (meanings : List Meaning) × IsSaid CloseForm line meanings × (b.closed ≡ false)
 IsSaidChange loads b line _ = ⊥
 
--- this is the first reason against it; running out of memory says nothing
+-- its first reason is this one; running out of memory claims nothing
 abbrev pub IsLineFault : (loads : ℕ) → Before → List ℕ → ScriptFault → Type 0
 IsLineFault loads b line (fault.At at reason) = (at ≡ 1) × IsFirst (Offends loads b line) reason
 IsLineFault loads b line fault.Memory = Unit {0}
@@ -121,7 +121,7 @@ abbrev pub IsStopOf : (loads : ℕ) → Table → Before → List ℕ → Script
 IsStopOf loads T b text (fault.At at reason) = Stops loads T b text at reason
 IsStopOf loads T b text fault.Memory = Unit {0}
 
--- ---- what is made of a change
+-- ---- the state after a change
 
 pub record IsAdded (d : Declared) (l : Line) (b next : Body) : Type 0 where
   pub lines : next.lines ≡ b.lines ++ l ∷ []

@@ -1,4 +1,4 @@
--- The code's own: the first reason against a line, by what is kept of its connection.
+-- The code's own: the first reason of a line, by the kept state of its connection.
 use Rattle.std.specs.Prelude.{ℕ, ◌+◌, ◌*◌, nat_lt, nat_le, Bool, ◌&&◌, not, if◌then◌else◌, List, length, Option, Some, None, Result, Ok, Err}
 use Rattle.std.specs.List.{list_any}
 use Rattle.engine_core.specs.Chains.{Entry, is_named}
@@ -33,7 +33,7 @@ is_other name policy e = is_named name e && not (is_same_kind e.policy policy)
 abbrev pub has_other : List ℕ → Policy → List Entry → Bool
 has_other name policy entries = list_any (is_other name policy) entries
 
--- against a step of an operator
+-- the reason of an operation
 abbrev pub against_op : Op → List Entry → Option ScriptReason
 against_op (op.Attach at name label policy) entries =
     if has_name name entries then Some Taken else if nat_lt (length entries) at then Some At
@@ -46,7 +46,7 @@ abbrev pub against_some_op : Option Op → List Entry → Option ScriptReason
 against_some_op None entries = None
 against_some_op (Some o) entries = against_op o entries
 
--- against a line of an open connection with a heap of so many words
+-- the reason of a line of an open connection with a heap of this many words
 abbrev pub against_open : (loads : ℕ) → List NamedPolicy → (words : ℕ) → List Entry → (submitted : ℕ) → Line
     → Option ScriptReason
 against_open loads policies words entries submitted (Store conn place value) = unless (is_place words place) Place
@@ -64,7 +64,7 @@ against_known loads policies (Some other) entries submitted (Conn conn words) = 
 against_known loads policies None entries submitted l = Some Unknown
 against_known loads policies (Some words) entries submitted l = against_open loads policies words entries submitted l
 
--- against a line behind these
+-- the reason of a line after these
 abbrev pub against : (loads : ℕ) → List NamedPolicy → List Line → Line → Option ScriptReason
 against loads policies before l =
     against_known loads policies (heap_of before (conn_of l)) (chain_of policies before (conn_of l)).entries
@@ -78,6 +78,6 @@ abbrev pub decided : (loads : ℕ) → List NamedPolicy → List Line → Option
 decided loads policies before None = Err Unknown
 decided loads policies before (Some l) = decided_by l (against loads policies before l)
 
--- the line that words say behind these lines, or what stands against it first
+-- the line that words mean after these lines, or its first reason
 abbrev pub decide : (loads : ℕ) → Declared → List Line → Form → List Meaning → Result Line ScriptReason
 decide loads d before f m = decided loads d.policies before (line_in d f m)

@@ -1,4 +1,4 @@
--- The code's own: what is kept of connections, and what a line says behind that.
+-- The code's own: the kept state of connections, and what a line means in it.
 use Rattle.std.specs.Prelude.{◌≡◌, ◌<◌, ◌≤◌, All, ℕ, ◌+◌, ◌-◌, ◌*◌, nat_lt, nat_le, false, ◌&&◌, if◌then◌else◌, List, [], length, Option, Some, None, Result, Ok, Err, slice_get, unwrap_or, set, insert}
 use Rattle.mrpc_table.specs.declared.words.Decimal.{Decimal}
 use Rattle.mrpc_table.specs.declared.words.Decimal.TheVariants.{Small, Large}
@@ -35,7 +35,7 @@ fresh = record { words = None; links = [] }
 abbrev pub IsFresh : Connection → Type 0
 IsFresh c = c ≡ fresh
 
--- that of a number from 1 to 16
+-- the connection with a number from 1 to 16
 abbrev pub connection_at : List Connection → ℕ → Connection
 connection_at connections conn = unwrap_or (slice_get connections (conn - 1)) fresh
 
@@ -146,7 +146,7 @@ turn_said b m = do
   at ← engine_in (links_kept b (number_at m 1)) (unbounded_at m 2)
   Ok (line.Turn (number_at m 1) at)
 
--- a line that uses an open connection, and isn't refused otherwise
+-- a line that uses an open connection, and has no other reason
 unfoldable pub used_said : Body → List Meaning → Line → Result Line ScriptReason
 used_said b m l = do
   words ← heap_kept (words_kept b (number_at m 1))
@@ -161,7 +161,7 @@ send_said b m = used_said b m (line.Send (number_at m 1))
 abbrev pub drain_said : Body → List Meaning → Result Line ScriptReason
 drain_said b m = used_said b m (line.Drain (number_at m 1))
 
--- what words of a form say
+-- what words of a form mean
 abbrev pub line_said : (loads : ℕ) → Declared → Body → Form → List Meaning → Result Line ScriptReason
 line_said loads d b form.Conn m = conn_said b m
 line_said loads d b form.Store m = store_said b m
@@ -177,13 +177,13 @@ line_said loads d b form.Send m = send_said b m
 line_said loads d b form.Drain m = drain_said b m
 line_said loads d b _ m = Err Unknown
 
--- a line was made, or why none was; running out of memory says nothing
+-- a line was made, or has a reason; running out of memory claims nothing
 abbrev pub IsMade : Result Line ScriptReason → Result Line Flaw → Type 0
 IsMade said (Ok l) = said ≡ Ok l
 IsMade said (Err (flaw.Reason reason)) = said ≡ Err reason
 IsMade said (Err flaw.Memory) = Unit {0}
 
--- ---- one line more
+-- ---- one more line
 
 pub record IsFreshBody (b : Body) : Type 0 where
   pub whole : length b.connections ≡ 16
@@ -192,7 +192,7 @@ pub record IsFreshBody (b : Body) : Type 0 where
   pub submissions : b.submissions ≡ 0
   pub closed : b.closed ≡ false
 
--- a line can be added: its connection and its position are there
+-- a line can be added: its connection and its position exist
 pub record CanAdd (b : Body) (l : Line) : Type 0 where
   pub conn_from : 1 ≤ conn_of l
   pub conn_to : conn_of l ≤ 16

@@ -1,4 +1,4 @@
--- The code's own: what is kept of chains.
+-- The code's own: the kept outline of chains.
 use Rattle.std.specs.Prelude.{ℕ, ◌==◌, nat_lt, nat_le, Bool, true, false, ◌&&◌, not, if◌then◌else◌, List, length, Result, Ok, Err}
 use Rattle.std.specs.List.{list_any, filter}
 use Rattle.std.specs.Str.{bytes_eq}

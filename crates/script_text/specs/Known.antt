@@ -1,4 +1,4 @@
--- The code's own: the laws of words and of items.
+-- The code's own: the laws of words and of declarations.
 use Rattle.std.specs.Prelude.{◌≡◌, ◌⊎◌, ℕ, ◌≤◌, Bool, List, ◌++◌}
 use Rattle.mrpc_table.specs.declared.table.Table.{Table}
 use Rattle.policy_blocks.specs.Declarations.{Declared, IsNew, IsSound, with_item}
@@ -12,7 +12,7 @@ use Rattle.script_words.specs.Sorts.{Meaning}
 use Rattle.script_words.specs.declared.sort.Sort.{Sort}
 use Rattle.script_words.specs.declared.fault.ScriptReason.{ScriptReason}
 
--- what is known of words and of items
+-- what is known of words and of declarations
 pub record Laws : Type 0 where
   pub one_said : (sorts : List Sort) (ws : List (List ℕ)) (ms ns : List Meaning) → AreSaid sorts ws ms
       → AreSaid sorts ws ns → ms ≡ ns

@@ -1,4 +1,4 @@
--- What the lines of a script make of its connections, and which line may stand behind them (this project's own).
+-- The state of connections after the lines of a script, and which line is legal after them (this project's own).
 use Rattle.std.specs.Prelude.{◌≡◌, ℕ, ◌+◌, ◌*◌, ◌<◌, ◌≤◌, ◌^◌, ◌==◌, Bool, true, false, List, [], ◌∷◌, ◌++◌, length, count_by, if◌then◌else◌, slice_get, Option, Some, None, option_map}
 use Rattle.mrpc_table.specs.Names.{IsName}
 use Rattle.mrpc_table.specs.Valid.{IsValid}
@@ -46,7 +46,7 @@ place_in (Store conn place value) = Some place
 place_in (Race conn load place value) = Some place
 place_in _ = None
 
--- the step of an operator: a policy is named by its place among the declared ones
+-- its operation; the line has the index of a declared policy
 abbrev pub op_in : List NamedPolicy → Line → Option Op
 op_in policies (Attach conn at name policy) =
     option_map (λ p. op.Attach at name p.name p.policy) (slice_get policies policy)
@@ -55,9 +55,9 @@ op_in policies (Upgrade conn name policy) =
     option_map (λ p. op.Upgrade name p.name p.policy) (slice_get policies policy)
 op_in policies _ = None
 
--- ---- what lines make of a connection
+-- ---- the state of a connection after lines
 
--- the words of its heap, by the line that opens it; none where no line does
+-- the size of its heap, by the line that opens it; none if no line does
 abbrev pub heap_of : List Line → ℕ → Option ℕ
 heap_of [] conn = None
 heap_of (Conn number words ∷ lines) conn = if number == conn then Some words else heap_of lines conn
@@ -70,7 +70,7 @@ abbrev pub done : Option Op → Chain → Chain
 done None chain = chain
 done (Some o) chain = changed o chain
 
--- its chain behind lines, in front of which this chain stands: each line of an operator of the connection does its step
+-- its chain after lines, starting from this chain: each operator's line of the connection applies its operation
 abbrev pub chain_behind : List NamedPolicy → Chain → List Line → ℕ → Chain
 chain_behind policies chain [] conn = chain
 chain_behind policies chain (l ∷ lines) conn =
@@ -79,16 +79,16 @@ chain_behind policies chain (l ∷ lines) conn =
 abbrev pub chain_of : List NamedPolicy → List Line → ℕ → Chain
 chain_of policies lines conn = chain_behind policies new_chain lines conn
 
--- how many calls lines submit, on all connections
+-- the number of calls that lines submit, on all connections
 abbrev pub submissions : List Line → ℕ
 submissions lines = count_by is_submit lines
 
--- ---- what stands against a line
+-- ---- the reasons of a line
 
 abbrev pub IsPlace : (words place : ℕ) → Type 0
 IsPlace words place = (1 ≤ place) × (place < words)
 
--- the reason for which a chain refuses a step
+-- the reason for which a chain rejects an operation
 abbrev pub reason_of : Refusal → ScriptReason
 reason_of (no_such name) = NoSuch
 reason_of (taken name) = Taken
@@ -96,33 +96,33 @@ reason_of (no_place at) = At
 reason_of (full entries) = ChainFull
 reason_of (other_kind name) = OtherKind
 
--- a reason stands against a line behind these lines, whose calls load so many words each at most
+-- a line after these has this reason; each call loads at most so many words
 pub data IsAgainst (loads : ℕ) (policies : List NamedPolicy) (before : List Line) (l : Line) (reason : ScriptReason)
     : Type 0 where
-  -- one of them opens the connection that it opens
+  -- the connection that it opens is already open
   is_open : (words : ℕ) → is_conn l ≡ true → heap_of before (conn_of l) ≡ Some words → reason ≡ Known
       → IsAgainst loads policies before l reason
-  -- none of them opens the connection that it uses
+  -- the connection that it uses isn't open
   not_open : is_conn l ≡ false → heap_of before (conn_of l) ≡ None → reason ≡ Unknown
       → IsAgainst loads policies before l reason
-  -- it stores outside the heap, or at its place 0
+  -- it stores outside the heap, or at place 0
   no_place_there : (place words : ℕ) → place_in l ≡ Some place → heap_of before (conn_of l) ≡ Some words
       → (IsPlace words place → ⊥) → reason ≡ Place → IsAgainst loads policies before l reason
   -- loads are counted from 1
   no_load : (conn place value : ℕ) → l ≡ Race conn 0 place value → reason ≡ Place
       → IsAgainst loads policies before l reason
-  -- the chain has no engine there
+  -- the chain has no engine at the position
   no_engine : (conn at : ℕ) → l ≡ Turn conn at → length (chain_of policies before conn).entries ≤ at → reason ≡ At
       → IsAgainst loads policies before l reason
-  -- the chain refuses the step
+  -- the chain rejects the operation
   is_refused : (o : Op) (refusal : Refusal) → op_in policies l ≡ Some o
       → Refuses (chain_of policies before (conn_of l)) o refusal → reason ≡ reason_of refusal
       → IsAgainst loads policies before l reason
-  -- with it the calls may load too many words
+  -- the calls could then load too many words
   too_much : is_submit l ≡ true → MAX_WORK < (submissions before + 1) * loads → reason ≡ Work
       → IsAgainst loads policies before l reason
 
--- ---- what holds of each script
+-- ---- properties of each script
 
 -- the numbers and names of a line are in their ranges, and a policy that it names is declared
 abbrev pub IsLine : (policies : ℕ) → Line → Type 0
@@ -138,14 +138,14 @@ IsLine policies (Turn conn at) = Unit {0}
 IsLine policies (Send conn) = Unit {0}
 IsLine policies (Drain conn) = Unit {0}
 
--- a line may stand behind these
+-- a line is legal after these
 pub record Allows (loads : ℕ) (policies : List NamedPolicy) (before : List Line) (l : Line) : Type 0 where
   pub conn_from : 1 ≤ conn_of l
   pub conn_to : conn_of l ≤ MAX_CONNECTIONS
   pub ranges : IsLine (length policies) l
   pub free : (reason : ScriptReason) → IsAgainst loads policies before l reason → ⊥
 
--- each of the lines may stand behind these and those in front of it
+-- each of the lines is legal after these and those before it
 abbrev pub AreAllowed : (loads : ℕ) → List NamedPolicy → List Line → List Line → Type 0
 AreAllowed loads policies before [] = Unit {0}
 AreAllowed loads policies before (l ∷ lines) =

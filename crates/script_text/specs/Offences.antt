@@ -1,4 +1,4 @@
--- What stands against a line of a script, given what stands before it (this project's own).
+-- The reasons of a line, given the text before it (this project's own).
 use Rattle.std.specs.Prelude.{◌≡◌, ℕ, Bool, true, false, List, Some, None}
 use Rattle.mrpc_table.specs.Lines.{words_of}
 use Rattle.policy_blocks.specs.Blocks.{is_skipped}
@@ -15,16 +15,16 @@ use Rattle.script_text.specs.Lines.{IsAgainst}
 use Rattle.script_text.specs.Words.{IsSaid, policy_in, line_in}
 use Rattle.script_text.specs.declared.script.Line.{Line}
 
--- what stands before a line: what is declared, the lines that do something, in order, and whether `close` stands there
+-- the state before a line: the declarations, the actions in order, and whether `close` came
 pub record Before : Type 0 where
   pub declared : Declared
   pub lines : List Line
   pub closed : Bool
 
--- a reason stands against the line, without its line feed
+-- the line, without its line feed, has this reason
 pub data Offends (loads : ℕ) (b : Before) (text : List ℕ) (reason : ScriptReason) : Type 0 where
   no_form : is_skipped text ≡ false → form_in (words_of text) ≡ None → reason ≡ Word → Offends loads b text reason
-  -- it begins an item
+  -- it starts a declaration
   in_head : (f : ItemForm) → item_form_in (words_of text) ≡ Some f → IsAgainstHead b.declared f (words_of text) reason
       → Offends loads b text reason
   in_words : (f : Form) → form_in (words_of text) ≡ Some f → item_form f ≡ None

@@ -1,4 +1,4 @@
--- The code's own: what stops the reading of a text.
+-- The code's own: where reading a text ends early.
 use Rattle.std.specs.Prelude.{◌≡◌, ℕ, List, length}
 use Rattle.mrpc_table.specs.declared.table.Table.{Table}
 use Rattle.script_words.specs.declared.fault.ScriptFault.{ScriptFault}

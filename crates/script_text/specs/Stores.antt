@@ -1,4 +1,4 @@
--- The code's own: what lines with short numbers say.
+-- The code's own: the values of lines with short numbers.
 use Rattle.std.specs.Prelude.{◌≡◌, ℕ, ◌^◌, ◌<◌, true, List, [], ◌∷◌, ◌++◌}
 use Rattle.std.specs.Char.{is_ascii_digit}
 use Rattle.std.specs.List.{list_all}
@@ -15,7 +15,7 @@ use Rattle.script_text.specs.declared.store.Store.{Store}
 abbrev pub store_words : Store → List Meaning
 store_words s = word keyword.Store ∷ number s.conn ∷ unbounded s.place ∷ number s.value ∷ []
 
--- those of a request
+-- the values of a request's line
 abbrev pub submit_words : Submit → List Meaning
 submit_words s = word keyword.Submit ∷ number s.conn ∷ number s.method ∷ number s.addr ∷ []
 
@@ -25,7 +25,7 @@ turn_words t = word keyword.Turn ∷ number t.conn ∷ unbounded t.at ∷ []
 abbrev pub drain_words : (conn : ℕ) → List Meaning
 drain_words conn = word keyword.Drain ∷ number conn ∷ []
 
--- digits that spell a number of 64 bits, and what stands behind them
+-- the text is the digits of a 64-bit number, and then this remainder
 pub record IsNumberBefore (text : List ℕ) (n : ℕ) (rest : List ℕ) : Type 0 where
   pub digits : List ℕ
   pub parts : text ≡ digits ++ rest
@@ -33,7 +33,7 @@ pub record IsNumberBefore (text : List ℕ) (n : ℕ) (rest : List ℕ) : Type 0
   pub spells : IsNumber digits n
   pub small : n < 2 ^ 64
 
--- the first line of a text says this, and this stands behind it
+-- the first line of a text has these values, and this is the remainder
 pub record SaysInFront (f : Form) (text : List ℕ) (meanings : List Meaning) (rest : List ℕ) : Type 0 where
   pub line : List ℕ
   pub before : IsLineBefore text line rest

@@ -1,4 +1,4 @@
--- The code's own: the forms that most lines have which aren't read in one pass.
+-- The code's own: the frequent forms of lines that aren't read in one pass.
 use Rattle.std.specs.Prelude.{◌≡◌, ◌⊎◌}
 use Rattle.script_words.specs.declared.form.Form.{Form}
 use Rattle.script_words.specs.declared.form.Form.TheVariants as form

@@ -1,4 +1,4 @@
--- What the words of a line say behind what is declared (this project's own).
+-- What the words of a line mean after declarations (this project's own).
 use Rattle.std.specs.Prelude.{◌≡◌, ℕ, List, Option, Some, None, option_map}
 use Rattle.mrpc_table.specs.Lines.{magnitude, words_of}
 use Rattle.policy_blocks.specs.Declarations.{Declared, policy_place}
@@ -10,20 +10,19 @@ use Rattle.script_words.specs.declared.form.Form.TheVariants as form
 use Rattle.script_text.specs.declared.script.Line.{Line}
 use Rattle.script_text.specs.declared.script.Line.TheVariants as line
 
--- the line has this form, and its words say this
+-- the line has this form, and its words have these values
 pub record IsSaid (f : Form) (text : List ℕ) (meanings : List Meaning) : Type 0 where
   pub has_form : form_in (words_of text) ≡ Some f
   pub said : AreSaid (sorts_of f) (words_of text) meanings
 
--- the name of a declared policy that the words of an operator's line give
+-- the name of the declared policy in an operator's line
 abbrev pub policy_in : Form → List Meaning → Option (List ℕ)
 policy_in form.Attach meanings = Some (name_at meanings 4)
 policy_in form.Upgrade meanings = Some (name_at meanings 3)
 policy_in _ meanings = None
 
--- the line that words say, counted from 0; none where the policy that it names isn't declared, and none of a form that
--- declares something or closes the script (places and positions above 64 bits are all alike, since no heap and no chain
--- has them)
+-- the line that words mean; none if the policy that it names isn't declared, and none for declarations and `close`
+-- (places and positions above 64 bits are all equal, since no heap and no chain has them); words are counted from 0
 abbrev pub line_in : Declared → Form → List Meaning → Option Line
 line_in d form.Conn m = Some (line.Conn (number_at m 1) (number_at m 2))
 line_in d form.Store m = Some (line.Store (number_at m 1) (magnitude (unbounded_at m 2)) (number_at m 3))

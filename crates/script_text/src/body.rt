@@ -1,4 +1,4 @@
-//! What is kept of the lines so far, and what a line says behind them.
+//! The lines so far, the state after them, and what the next line means there.
 
 ghost use Rattle.std.specs.Prelude.{◌≡◌, ◌+◌, ◌*◌, ◌<◌, ◌≤◌, ◌^◌, ◌++◌, ◌∷◌, [], ℕ, List, OnOk, IfOk};
 ghost use Rattle.mrpc_table.specs.Lines.{IsIn};
@@ -20,22 +20,22 @@ use policy_blocks::Declarations;
 use script_words::{Form, Said, ScriptReason, name_at, number_at, unbounded_at};
 use std::alloc::Global;
 
-// The lines so far that do something, and what is kept of them.
+// The action lines so far, and the state after them.
 #[derive(Drop)]
 pub(crate) struct Body {
     pub lines: Lines,
     pub connections: Connections,
-    // How many calls were submitted.
+    // The number of submissions.
     pub submissions: u64,
     pub closed: bool,
 }
 
-// Why no line was made of its words.
+// Why words make no line.
 #[derive(Clone, Copy)]
 pub(crate) enum Flaw {
-    // This stands against it.
+    // They have this reason.
     Reason(ScriptReason),
-    // No memory was found.
+    // Out of memory.
     Memory,
 }
 
@@ -59,7 +59,7 @@ impl From<ScriptReason> for Flaw {
     }
 }
 
-// The place, where it is one of a heap of so many words, and not 0.
+// Returns the place, if it is at least 1 and below the heap's size in words.
 fn place_in(words: u32, place: Decimal) -> Result<u32, ScriptReason>
     ensures { result ≡ place_kept words place }
 {
@@ -69,7 +69,7 @@ fn place_in(words: u32, place: Decimal) -> Result<u32, ScriptReason>
     }
 }
 
-// The number of a load, where it isn't 0.
+// Returns the number of a load, if it isn't 0.
 fn load_of(load: u64) -> Result<u64, ScriptReason>
     ensures { result ≡ load_kept load }
 {
@@ -80,7 +80,7 @@ fn load_of(load: u64) -> Result<u64, ScriptReason>
     }
 }
 
-// Where the policy of a name stands among the declared ones.
+// Returns the index of the declared policy with a name.
 fn policy_in(declared: &Declarations, name: &[u8]) -> Result<usize, ScriptReason>
     ensures { result ≡ policy_kept declared.now name.now }
 {
@@ -90,7 +90,7 @@ fn policy_in(declared: &Declarations, name: &[u8]) -> Result<usize, ScriptReason
     }
 }
 
-// The line, or the flaw that a reason is.
+// Makes a flaw of a reason.
 fn made(said: Result<Line, ScriptReason>) -> Result<Line, Flaw>
     ensures { IsMade said result }
 {
@@ -100,7 +100,7 @@ fn made(said: Result<Line, ScriptReason>) -> Result<Line, Flaw>
     }
 }
 
-// The kind of the policy at a place among the declared ones.
+// The kind of the declared policy at an index.
 fn kind_at(declared: &Declarations, place: usize) -> Kind
     ensures { result ≡ kind_at declared.now place }
 {
@@ -111,7 +111,7 @@ fn kind_at(declared: &Declarations, place: usize) -> Kind
 }
 
 impl Body {
-    // The words of the heap of a connection that has to be open.
+    // Returns the size of a connection's heap in words; fails if the connection isn't open.
     #[inline(always)]
     fn heap(&self, conn: u64) -> Result<u32, ScriptReason>
         requires { IsIn 1 16 conn }
@@ -138,7 +138,7 @@ impl Body {
         }
     }
 
-    // The line that stores a word, where the connection is open and its heap has the place.
+    // Makes the line that stores a word, if the connection is open and its heap has the place.
     #[inline(always)]
     #[tactic(auto, unfolding(crate::specs::Keeping::store_said))]
     pub(crate) fn stored(&self, store: Store) -> Result<Line, ScriptReason>
@@ -183,7 +183,7 @@ impl Body {
         })
     }
 
-    // With one call more the calls load no more words than they may.
+    // Fails if one more call could exceed the limit of words that all calls load.
     fn has_room(&self, loads: u64) -> Result<(), ScriptReason>
         requires small { loads ≤ MAX_LOADS }
         requires few { self.now.submissions ≤ MAX_WORK }
@@ -196,8 +196,8 @@ impl Body {
         }
     }
 
-    // The line that submits a call, a request where the number is 0, where the connection is open and calls may load
-    // as much.
+    // Makes the line that submits a call, a request if `number` is 0. The connection has to be open, and the calls may
+    // not exceed their limit of loads.
     #[tactic(auto, unfolding(crate::specs::Keeping::submit_said))]
     pub(crate) fn submitted(
         &self,
@@ -239,7 +239,7 @@ impl Body {
         self.submitted(loads, submit, number)
     }
 
-    // The position at which a policy is attached, and its place among the declared ones.
+    // The position at which a policy is attached, and its index among the declared ones.
     #[tactic(auto, unfolding(crate::specs::Keeping::attaching))]
     fn attaching(
         &self,
@@ -299,7 +299,7 @@ impl Body {
         })
     }
 
-    // The place among the declared policies of the one that an entry gets.
+    // The index of the declared policy that an entry gets.
     #[tactic(auto, unfolding(crate::specs::Keeping::upgrading))]
     fn upgrading(&self, declared: &Declarations, words: &[Said<'_>]) -> Result<usize, ScriptReason>
         requires { IsIn 1 16 (number_at (meanings_of words.now) 1) }
@@ -331,7 +331,7 @@ impl Body {
         })
     }
 
-    // The line of a turn, where the connection is open and an engine stands at the position.
+    // Makes the line of a turn, if the connection is open and has an engine at the position.
     #[tactic(auto, unfolding(crate::specs::Keeping::turn_said))]
     pub(crate) fn turned(&self, turn: Turn) -> Result<Line, ScriptReason>
         requires { IsIn 1 16 turn.conn }
@@ -379,7 +379,7 @@ impl Body {
         Ok(Line::Send { conn: conn as u32 })
     }
 
-    // The line that drains a connection, where it is open.
+    // Makes the line that drains a connection, if it is open.
     #[tactic(auto, unfolding(crate::specs::Keeping::used_said))]
     pub(crate) fn drained(&self, conn: u64) -> Result<Line, ScriptReason>
         requires { IsIn 1 16 conn }
@@ -397,8 +397,7 @@ impl Body {
         self.drained(number_at(words, 1))
     }
 
-    // The line that words of a form say, of which none declares anything or closes the script, or what stands against
-    // it.
+    // Makes the line of words of a form, or returns their reason. The form is neither a declaration's nor `close`.
     pub(crate) fn line_of(
         &self,
         alloc: Global,
@@ -435,7 +434,7 @@ impl Body {
         }
     }
 
-    // Nothing yet, with room for so many lines.
+    // No lines, with room for this many.
     pub(crate) fn with_room(alloc: Global, room: usize) -> Result<Body, Memory>
         ensures { IfOk result IsFreshBody }
     {
@@ -447,8 +446,8 @@ impl Body {
         })
     }
 
-    // Adds a line that may stand behind these.
-    // Inlined for the lines that store a word, of which nothing is kept: nearly all lines of a long script.
+    // Appends a line that is legal after these. Inlined for lines that store a word, which change no state: nearly all
+    // lines of a long script are such.
     #[inline(always)]
     pub(crate) fn add(
         &mut self,
@@ -472,7 +471,7 @@ impl Body {
         Ok(())
     }
 
-    // Keeps what a line makes of the connections and of the number of calls.
+    // Updates the state of connections and the number of submissions by a line.
     #[inline(never)]
     fn keep(&mut self, alloc: Global, declared: &Declarations, line: &Line) -> Result<(), Memory>
         requires { CanAdd self.old line.now }

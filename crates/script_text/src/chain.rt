@@ -1,4 +1,4 @@
-//! What is kept of a chain: the names of its entries, and the kinds of their policies.
+//! The outline of a chain: the names of its entries, and the kinds of their policies.
 
 ghost use Rattle.std.specs.Prelude.{◌≡◌, ◌<◌, ◌≤◌, [], length, insert, IfOk, OnOk};
 ghost use Rattle.script_text.specs.Kinds.{kind_of, is_kind, has_entry, has_other_entry, without, attach_against, detach_against, upgrade_against, engine_in};
@@ -9,7 +9,7 @@ use script_words::ScriptReason;
 use std::alloc::Global;
 use std::marker::Model;
 
-// The kind of a policy; the tenant of a quota belongs to it.
+// The kind of a policy. For quotas the tenant is part of it.
 #[derive(Clone, Copy)]
 pub(crate) enum Kind {
     Access,
@@ -26,7 +26,7 @@ pub(crate) struct Link {
     pub kind: Kind,
 }
 
-// The entries of a chain, in order, eight at most.
+// The entries of a chain, in order, at most 8.
 #[derive(Drop)]
 pub(crate) struct Links {
     links: Vec<Link>,
@@ -73,7 +73,7 @@ impl Kind {
 }
 
 impl Links {
-    // A chain without an entry.
+    // A chain without entries.
     pub(crate) fn new(alloc: Global) -> Links
         ensures { result ≡ [] }
     {
@@ -82,14 +82,14 @@ impl Links {
         }
     }
 
-    // Whether an entry has the name.
+    // Returns true if an entry has the name.
     fn has(&self, name: &[u8]) -> bool
         ensures { result ≡ has_entry name.now self.now }
     {
         self.links.iter().any(|link| link.name.as_slice() == name)
     }
 
-    // Whether an entry has the name, and a policy of another kind.
+    // Returns true if an entry has the name, and a policy of another kind.
     fn has_other(&self, name: &[u8], kind: Kind) -> bool
         ensures { result ≡ has_other_entry name.now kind self.now }
     {
@@ -98,7 +98,7 @@ impl Links {
             .any(|link| link.name.as_slice() == name && !link.kind.is(kind))
     }
 
-    // The position at which a policy is attached, or why it can't be.
+    // Returns the position at which a policy is attached, or the reason why it can't be.
     pub(crate) fn attach_against(&self, at: Decimal, name: &[u8]) -> Result<u32, ScriptReason>
         ensures { result ≡ attach_against self.now at name.now }
     {
@@ -118,7 +118,7 @@ impl Links {
         }
     }
 
-    // Why the entry of a name can't be taken from the chain, if it can't.
+    // Fails with a reason if the entry of a name can't be detached.
     pub(crate) fn detach_against(&self, name: &[u8]) -> Result<(), ScriptReason>
         ensures { result ≡ detach_against self.now name.now }
     {
@@ -129,7 +129,7 @@ impl Links {
         }
     }
 
-    // Why the entry of a name can't have a policy of a kind, if it can't.
+    // Fails with a reason if the entry of a name can't get a policy of a kind.
     pub(crate) fn upgrade_against(&self, name: &[u8], kind: Kind) -> Result<(), ScriptReason>
         ensures { result ≡ upgrade_against self.now name.now kind }
     {
@@ -142,7 +142,7 @@ impl Links {
         }
     }
 
-    // The position, where an engine stands there.
+    // Returns the position if there is an engine.
     pub(crate) fn engine(&self, at: Decimal) -> Result<u32, ScriptReason>
         ensures { result ≡ engine_in self.now at }
     {
@@ -152,7 +152,7 @@ impl Links {
         }
     }
 
-    // An entry stands at a position, in front of those that stood there and behind.
+    // Inserts an entry at a position.
     pub(crate) fn attach(&mut self, at: usize, link: Link) -> Result<(), Memory>
         requires place { at ≤ length self.old }
         requires room { length self.old < 8 }
@@ -162,7 +162,7 @@ impl Links {
         Ok(())
     }
 
-    // Takes the entries of a name away.
+    // Removes the entries of a name.
     pub(crate) fn detach(&mut self, name: &[u8])
         ensures { self.new ≡ without name.now self.old }
     {

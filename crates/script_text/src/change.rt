@@ -1,4 +1,4 @@
-//! What the first line of a text says, with the lines of its block where it has one.
+//! Reads the first line of a text, with the lines of its block if it has one.
 
 ghost use Rattle.std.specs.Prelude.{◌≡◌, ◌∷◌, [], ◌≤◌, ◌<◌, true, false, Some, None, List, ℕ, IfSome, MatchOption, MatchResult, length};
 ghost use Rattle.mrpc_table.specs.Lines.{pieces_of, words_of};
@@ -26,21 +26,21 @@ use policy_blocks::{Declarations, Item, ItemForm, ItemLines, is_skipped, read_it
 use script_words::{Form, Said, ScriptFault, ScriptReason, form_of, judge};
 use std::alloc::Global;
 
-// What a line says.
+// What a line means.
 #[derive(Drop)]
 pub(crate) enum Change {
-    // Nothing: it is empty, or a comment.
+    // Nothing: the line is empty or a comment.
     Nothing,
-    // With the lines of its block, a tenant or a policy.
+    // A declaration of a tenant or a policy, with the lines of its block.
     Item(Item),
-    // Something that is done.
+    // An action.
     Line(Line),
-    // It closes the script.
+    // The end of the script.
     Close,
 }
 
-// The first line of a text, without its line feed, and what stands behind it; none where no line ends in the text.
-// (As `cut` does it for words, which are short; the search for a line feed looks at many bytes at once.)
+// Splits a text after its first line feed, which isn't part of the line; `None` if there is none. (Like `cut`, which
+// serves short words; this search compares many bytes at once.)
 fn cut_line(text: &[u8]) -> Option<(&[u8], &[u8])>
     ensures parts { MatchOption result (pieces_of text.now ≡ text.now ∷ [])
         (λ p. pieces_of text.now ≡ p.0.now ∷ pieces_of p.1.now) }
@@ -50,14 +50,14 @@ fn cut_line(text: &[u8]) -> Option<(&[u8], &[u8])>
     Some((&text[..at], &text[at + 1..]))
 }
 
-// The fault of the first line of what is left.
+// The fault of the first line.
 fn fault(reason: ScriptReason) -> ScriptFault
     ensures { result ≡ ScriptFault.At 1 reason }
 {
     ScriptFault::At { line: 1, reason }
 }
 
-// What words of a form say that begin no item, or what stands against them, but for `close` before them.
+// What words of a form mean, or their reason. The form is no declaration's, and `close` before them isn't checked.
 fn change_of(
     alloc: Global,
     loads: u64,
@@ -83,7 +83,7 @@ fn change_of(
     }
 }
 
-// What a line says whose words say this, of a form that begins no item, or what stands against it.
+// What a line with these values of its words means, or its reason. The form is no declaration's.
 fn worded(
     alloc: Global,
     loads: u64,
@@ -114,7 +114,7 @@ fn worded(
     }
 }
 
-// What a line of a form says that begins no item, or what stands against it.
+// What a line of a form means, or its reason. The form is no declaration's.
 fn said(
     alloc: Global,
     loads: u64,
@@ -138,7 +138,7 @@ fn said(
     }
 }
 
-// The form that a line of many a script has which begins with this byte. It may have another one.
+// The frequent form of lines that start with this byte. The line may have another form.
 fn usual_form(first: u8) -> Option<Form>
     ensures { IfSome result IsUsual }
 {
@@ -149,8 +149,8 @@ fn usual_form(first: u8) -> Option<Form>
     }
 }
 
-// What a line of a usual form says, or what stands against it. None for each other line, and where a word isn't as it
-// has to be: the form of such a line is looked up.
+// What a line of a frequent form means, or its reason. Returns `None` for each other line and if a word isn't as it has
+// to be; the form of such a line is looked up.
 fn usual_said(
     alloc: Global,
     loads: u64,
@@ -171,7 +171,7 @@ fn usual_said(
     }
 }
 
-// The line that words say which say that a word is stored, where nothing stands against it.
+// Makes the line of a store, unless it has a fault.
 #[inline(always)]
 fn stored(loads: u64, declared: &Declarations, body: &Body, store: Store) -> Option<Line>
     requires kept { IsKept loads declared.now body.now }
@@ -189,7 +189,7 @@ fn stored(loads: u64, declared: &Declarations, body: &Body, store: Store) -> Opt
     }
 }
 
-// The line that words say which say that a call is submitted, where nothing stands against it.
+// Makes the line of a submission, unless it has a fault.
 fn submitted(loads: u64, declared: &Declarations, body: &Body, submit: Submit) -> Option<Line>
     requires small { loads ≤ MAX_LOADS }
     requires kept { IsKept loads declared.now body.now }
@@ -208,7 +208,7 @@ fn submitted(loads: u64, declared: &Declarations, body: &Body, submit: Submit) -
     }
 }
 
-// The line that words say which say that an engine has a turn, where nothing stands against it.
+// Makes the line of a turn, unless it has a fault.
 fn turned(loads: u64, declared: &Declarations, body: &Body, turn: Turn) -> Option<Line>
     requires kept { IsKept loads declared.now body.now }
     requires said { (line : List ℕ) × IsSaid TurnForm line (turn_words turn) }
@@ -225,7 +225,7 @@ fn turned(loads: u64, declared: &Declarations, body: &Body, turn: Turn) -> Optio
     }
 }
 
-// The line that words say which say that a connection is drained, where nothing stands against it.
+// Makes the line of a drain, unless it has a fault.
 fn drained(loads: u64, declared: &Declarations, body: &Body, conn: u64) -> Option<Line>
     requires kept { IsKept loads declared.now body.now }
     requires said { (line : List ℕ) × IsSaid DrainForm line (drain_words conn) }
@@ -242,9 +242,9 @@ fn drained(loads: u64, declared: &Declarations, body: &Body, conn: u64) -> Optio
     }
 }
 
-// The line that a text begins with, and what stands behind it, where that line stores a word, its numbers are short, and
-// nothing stands against it. None for each other line.
-// Inlined, as is what it asks, so that such a line is made where it is kept: nearly all lines of a long script are such.
+// Reads the first line of a text, if it stores a word, its numbers are short, and it has no fault. Returns it with the
+// remainder; `None` for each other line. Inlined with its callees, so that the line is made in its final slot: nearly
+// all lines of a long script are such.
 #[inline(always)]
 pub(crate) fn front_stored<'a>(
     loads: u64,
@@ -262,7 +262,7 @@ pub(crate) fn front_stored<'a>(
     Some((made, behind))
 }
 
-// The same where that line submits a request, gives an engine a turn or drains a connection.
+// Like `front_stored`, for lines that submit a request, give an engine a turn, or drain a connection.
 pub(crate) fn front_line<'a>(
     loads: u64,
     declared: &Declarations,
@@ -289,7 +289,7 @@ pub(crate) fn front_line<'a>(
     Some((made, behind))
 }
 
-// The item that lines begin, and the text that is left behind it; behind `close`, its first line is at fault.
+// Reads a declaration, and returns it with the remainder after it. After `close`, its first line has a fault.
 fn item<'a>(
     alloc: Global,
     table: &Table,
@@ -319,8 +319,8 @@ fn item<'a>(
     }
 }
 
-// What the first line of a text says behind these, with the lines of its block where it has one, and what is left
-// behind them; or what is wrong with it. Lines of a fault are counted from 1 at that line.
+// Reads what the first line of a text means after these lines, with the lines of its block if it has one, and returns
+// it with the remainder; or returns its fault. The fault's lines are counted from 1 at that line.
 pub(crate) fn first_change<'a>(
     alloc: Global,
     loads: u64,

@@ -1,4 +1,4 @@
-//! What is kept of connections.
+//! The state of connections.
 
 ghost use Rattle.std.specs.Prelude.{◌≡◌, ◌-◌, ◌≤◌, ◌<◌, All, Some, IfOk, OnOk, insert, length, set, slice_get};
 ghost use Rattle.script_text.specs.Keeping.{connection_at, links_at, opened, relinked, IsFresh};
@@ -10,14 +10,14 @@ use mrpc_table::Memory;
 use std::alloc::Global;
 use std::marker::Model;
 
-// The words of a connection's heap, where it is open, and its chain.
+// The size of a connection's heap in words, if it is open, and the outline of its chain.
 #[derive(Drop)]
 pub(crate) struct Connection {
     pub words: Option<u32>,
     pub links: Links,
 }
 
-// All connections, that of number 1 first.
+// All connections, from number 1 on.
 #[derive(Drop)]
 pub(crate) struct Connections {
     connections: Vec<Connection>,
@@ -35,7 +35,7 @@ impl Model for Connections {
 }
 
 impl Connections {
-    // None is open.
+    // No connection is open.
     pub(crate) fn new(alloc: Global) -> Result<Connections, Memory>
         ensures fresh { IfOk result (λ c. All IsFresh c) }
         ensures whole { IfOk result (λ c. length c ≡ 16) }
@@ -50,7 +50,7 @@ impl Connections {
         Ok(Connections { connections })
     }
 
-    // What is kept of the connection of a number.
+    // The state of the connection with a number.
     pub(crate) fn at(&self, conn: u64) -> &Connection
         requires { (1 ≤ conn) × (conn ≤ 16) }
         ensures { result.now ≡ connection_at self.now conn }
@@ -58,7 +58,7 @@ impl Connections {
         &self.connections[conn as usize - 1]
     }
 
-    // Opens a connection with a heap of so many words.
+    // Opens a connection with a heap of this many words.
     pub(crate) fn open(&mut self, conn: u32, words: u32)
         requires { (1 ≤ conn) × (conn ≤ 16) }
         ensures { self.new ≡ opened self.old conn words }
@@ -66,7 +66,7 @@ impl Connections {
         self.connections[conn as usize - 1].words = Some(words);
     }
 
-    // An entry stands at a position of a connection's chain, in front of those that stood there and behind.
+    // Inserts an entry at a position of a connection's chain.
     pub(crate) fn attach(&mut self, conn: u32, at: u32, link: Link) -> Result<(), Memory>
         requires conn { (1 ≤ conn) × (conn ≤ 16) }
         requires place { at ≤ length (links_at self.old conn) }
@@ -78,7 +78,7 @@ impl Connections {
             .attach(at as usize, link)
     }
 
-    // Takes the entries of a name from a connection's chain.
+    // Removes the entries of a name from a connection's chain.
     pub(crate) fn detach(&mut self, conn: u32, name: &[u8])
         requires { (1 ≤ conn) × (conn ≤ 16) }
         ensures { self.new ≡ relinked self.old conn (without name.now (links_at self.old conn)) }

@@ -1,4 +1,4 @@
-//! Laws of scripts and their texts. These functions do nothing; their clauses hold.
+//! Laws of scripts and their texts. These functions do nothing; each contract is a law.
 
 ghost use Rattle.std.specs.Prelude.{◌≡◌, ◌⊎◌, ℕ, List};
 ghost use Rattle.script_words.specs.declared.fault.ScriptReason.{ScriptReason};
@@ -11,7 +11,7 @@ use policy_blocks::{one_item, stays_sound};
 use script_head::one_front;
 use script_words::one_judgement;
 
-/// A text spells one script, or it has one fault, and never both.
+/// A text is exactly one script, or has exactly one first fault, never both.
 pub fn one_script()
     ensures script { (text : List ℕ) (s t : Script) → Spells text s → Spells text t → s ≡ t }
     ensures fault { (text : List ℕ) (m n : ℕ) (r q : ScriptReason) → IsFault text m r → IsFault text n q
@@ -20,14 +20,14 @@ pub fn one_script()
         → ⊥ }
     ensures either { (text : List ℕ)
         → ((s : Script) × Spells text s) ⊎ ((line : ℕ) × (r : ScriptReason) × IsFault text line r) }
-    // What holds of each script that a text spells.
+    // Properties of each script that a text is.
     ensures sound { (text : List ℕ) (s : Script) → Spells text s → IsScript s }
 {
     one_front();
     one_laws();
 }
 
-// The laws of words and of items.
+// The laws of words and of declarations.
 pub(crate) fn one_laws()
     ensures { Laws }
 {

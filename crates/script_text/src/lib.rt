@@ -1,13 +1,14 @@
-//! Replay scripts: the lines of a script as data, and the reader that finds them in a text or names the first line at
-//! fault.
+//! Replay scripts: a script as data, and the reader that parses one from a text or returns its first fault.
 //!
-//! [`read_script`] reads a text of lines behind a table: tenants and policies, connections, stores, submissions, and
-//! what operators, clocks and engines do. `specs/Lines.antt` says what lines make of connections and which line may
-//! stand behind them, with the chain of a connection as `engine_core` has it; `specs/Words.antt` what the words of a
-//! line say; `specs/Offences.antt` what stands against a line; `specs/Texts.antt` which text spells a script, and which
-//! fault another one has. It stands on `mrpc_table`, `engine_core`, `script_words`, `script_head` and `policy_blocks`.
-//! The layers above use one contract: a text spells one script, or has one first fault, and that is what is read; and
-//! each line of a script may stand behind those before it.
+//! [`read_script`] reads a preamble and the lines after it: tenants and policies, connections, stores, submissions, and
+//! the actions of operators, clocks and engines. `specs/Lines.antt` defines the state of connections after some lines,
+//! and which line is legal next; the chain of a connection is that of `engine_core`. `specs/Words.antt` defines the
+//! line that words mean, `specs/Offences.antt` the faults of a line, and `specs/Texts.antt` which text is which script,
+//! and the first fault of any other text.
+//!
+//! The crate depends on `mrpc_table`, `engine_core`, `script_words`, `script_head` and `policy_blocks`. Its one
+//! contract for the layers above: a text is exactly one script, or has exactly one first fault, and [`read_script`]
+//! returns it; each line of a script is legal after those before it.
 #![tactic(auto)]
 
 mod body;

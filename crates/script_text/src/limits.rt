@@ -1,7 +1,7 @@
-//! The limits of scripts, which the definitions share.
+//! The limits of scripts, which definitions use too.
 
-/// The greatest number of a connection; the least is 1.
+/// The largest number of a connection; the smallest is 1.
 pub const MAX_CONNECTIONS: usize = 16;
 
-/// How many words the calls of a script load at most: their number times the limit of loads.
+/// The limit of words that all calls of a script load: the number of calls times the limit of loads may not exceed it.
 pub const MAX_WORK: u64 = 1 << 24;

@@ -1,4 +1,4 @@
-//! Reading a script from its text.
+//! Reads a script from its text.
 
 ghost use Rattle.std.specs.Prelude.{◌≡◌, ◌≤◌, ◌+◌, ◌-◌, [], length, take, IfOk, IfErr, MatchResult};
 ghost use Rattle.mrpc_table.specs.Valid.{IsValid};
@@ -21,46 +21,47 @@ use script_head::{Front, read_front};
 use script_words::{ScriptFault, ScriptReason};
 use std::alloc::Global;
 
-// The line with which each script begins.
+// The first line of each script, with its line feed.
 const FIRST_LINE: &[u8] = b"mrpc-replay 1\n";
 
-// The bytes of the shortest line that stores a word, `store 1 1 0`. So many lines at most are worth a room of their
-// own: nearly all lines of a long script store a word, and a text of nothing but line feeds gets no more.
+// The number of bytes in the shortest line that stores a word, `store 1 1 0` and its line feed. Capacity is reserved
+// for as many lines as fit into the text: nearly all lines of a long script store a word. A text of line feeds alone
+// gets no more.
 const SHORTEST_STORE: usize = 12;
 
-// Why the lines of a text weren't read to their end.
+// Why reading the lines of a text ended early.
 #[derive(Clone, Copy)]
 enum Stop {
-    // Of the lines from which on so many bytes are left this one is at fault, counted from 1.
+    // A line with a fault, counted from 1 where this many bytes of the text remain.
     At {
         left: usize,
         line: u64,
         reason: ScriptReason,
     },
-    // No memory was found.
+    // Out of memory.
     Memory,
 }
 
-/// The script that a text spells, each byte of it.
+/// Parses the script that a text is.
 ///
-/// A text (this project's own format; the manual's "Scripts") begins with `mrpc-replay 1`, with `loads N` or, where
-/// the limit of loads is 1024, without, and with `table`. Then come the canonical text of a table, `end`, and lines that
-/// declare something or do something, the last of which is `close`. Behind the table empty lines and lines that begin
-/// with `#` say nothing. Each line ends with a line feed. Reading takes time in proportion to the text, but for the
-/// search of policies by their names.
+/// The format is this project's own (the manual's "Scripts"). A text starts with `mrpc-replay 1`, `loads N` unless the
+/// limit of loads is 1024, and `table`. The canonical text of a table follows, then `end`, and lines that declare
+/// something or are actions, the last of which is `close`. After the table, empty lines and lines that start with `#`
+/// mean nothing. Each line ends with a line feed. Apart from the look-up of policies by their names, the time is linear
+/// in the length of the text.
 ///
 /// # Errors
 ///
-/// [`ScriptFault::At`] has the first line at fault, counted from 1, and the first of its reasons in the order of
-/// [`ScriptReason`]; [`ScriptFault::Memory`] comes where no memory was found.
+/// [`ScriptFault::At`] has the first line with a fault, counted from 1, and its first reason in the order of
+/// [`ScriptReason`]. [`ScriptFault::Memory`] means out of memory.
 pub fn read_script(alloc: Global, text: &[u8]) -> Result<Script, ScriptFault>
-    // What is read is spelled so, each byte of it.
+    // The text, each byte of it, is the result's.
     ensures read { IfOk result (Spells text.now) }
-    // What is spelled so is read, unless memory runs out.
+    // If the text is a script's, the call returns it, unless it runs out of memory.
     ensures only { (s : TheScript) → Spells text.now s → MatchResult result (λ t. t ≡ s) (λ e. e ≡ OutOfMemory) }
-    // A fault is the text's: the first line at fault, with its first reason.
+    // A fault is the text's: the first line with a fault, and its first reason.
     ensures fault { IfErr result (IsFaultOf text.now) }
-    // What holds of each script.
+    // Properties of each script.
     ensures script { IfOk result IsScript }
 {
     one_script();
@@ -91,7 +92,7 @@ fn read_text(alloc: Global, text: &[u8]) -> Result<Script, ScriptFault>
     }
 }
 
-// The fault of a line, counted from 1 where so many bytes of the text are left.
+// The fault of a line that is counted from 1 where this many bytes of the text remain.
 fn fault_at(text: &[u8], left: usize, line: u64, reason: ScriptReason) -> ScriptFault
     requires within { left ≤ length text.now }
     requires line { line ≤ left + 2 }
@@ -103,7 +104,7 @@ fn fault_at(text: &[u8], left: usize, line: u64, reason: ScriptReason) -> Script
     }
 }
 
-// What the lines of a text declare and do up to its end, `close` among them.
+// Reads the lines of a text up to its end, with `close` among them.
 fn read_lines(
     alloc: Global,
     loads: u64,
@@ -156,7 +157,7 @@ fn read_lines(
     Ok((declared, body.lines))
 }
 
-// What is declared and kept behind a change.
+// Applies a change to the declarations and the lines so far.
 fn changed(
     alloc: Global,
     declared: Declarations,
@@ -175,7 +176,7 @@ fn changed(
     Ok(declared)
 }
 
-// The stop at a fault of what is left.
+// The stop for a fault of the remainder.
 fn stopped(rest: &[u8], fault: ScriptFault) -> Stop
     ensures { result ≡ stopped rest.now fault }
 {

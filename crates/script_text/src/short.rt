@@ -1,5 +1,4 @@
-//! Lines that submit a call, give an engine a turn or drain a connection, read in one pass over their bytes, with their
-//! line feeds.
+//! Reads lines that submit a request, give an engine a turn, or drain a connection, in one pass over their bytes.
 
 ghost use Rattle.std.specs.Prelude.{◌≡◌, ◌∷◌, IfSome};
 ghost use Rattle.script_words.specs.declared.form.Form.TheVariants.{Drain as DrainForm, Submit as SubmitForm, Turn as TurnForm};
@@ -8,7 +7,7 @@ ghost use Rattle.script_text.specs.Stores.{drain_words, submit_words, turn_words
 use crate::store::{behind_feed, behind_space, front_number};
 use mrpc_table::Decimal;
 
-// What the words of a `submit` line say, but for the number of a request.
+// The values of a `submit` line without the number of a request.
 #[derive(Clone, Copy)]
 pub(crate) struct Submit {
     pub conn: u64,
@@ -16,14 +15,14 @@ pub(crate) struct Submit {
     pub addr: u64,
 }
 
-// What the words of a `turn` line say.
+// The values of a `turn` line.
 #[derive(Clone, Copy)]
 pub(crate) struct Turn {
     pub conn: u64,
     pub at: Decimal,
 }
 
-// What stands behind the first word of a `submit` line.
+// Returns the remainder after the first word of a `submit` line.
 fn behind_submit(text: &[u8]) -> Option<&[u8]>
     ensures { IfSome result (λ r. text.now ≡ 115 ∷ 117 ∷ 98 ∷ 109 ∷ 105 ∷ 116 ∷ 32 ∷ r.now) }
 {
@@ -33,7 +32,7 @@ fn behind_submit(text: &[u8]) -> Option<&[u8]>
     }
 }
 
-// What stands behind the first word of a `turn` line.
+// Returns the remainder after the first word of a `turn` line.
 fn behind_turn(text: &[u8]) -> Option<&[u8]>
     ensures { IfSome result (λ r. text.now ≡ 116 ∷ 117 ∷ 114 ∷ 110 ∷ 32 ∷ r.now) }
 {
@@ -43,7 +42,7 @@ fn behind_turn(text: &[u8]) -> Option<&[u8]>
     }
 }
 
-// What stands behind the first word of a `drain` line.
+// Returns the remainder after the first word of a `drain` line.
 fn behind_drain(text: &[u8]) -> Option<&[u8]>
     ensures { IfSome result (λ r. text.now ≡ 100 ∷ 114 ∷ 97 ∷ 105 ∷ 110 ∷ 32 ∷ r.now) }
 {
@@ -53,8 +52,8 @@ fn behind_drain(text: &[u8]) -> Option<&[u8]>
     }
 }
 
-// What a `submit` line of a request with which a text begins says, where its numbers are short, and what stands behind
-// the line. None for each other line, which is to be read word by word.
+// Reads a request's `submit` line with short numbers at the start of a text. Returns its values and the remainder;
+// `None` for each other line, which has to be read word by word.
 pub(crate) fn front_submit(text: &[u8]) -> Option<(Submit, &[u8])>
     ensures { IfSome result (λ r. SaysInFront SubmitForm text.now (submit_words r.0) r.1.now) }
 {
@@ -72,8 +71,7 @@ pub(crate) fn front_submit(text: &[u8]) -> Option<(Submit, &[u8])>
     Some((Submit { conn, method, addr }, left))
 }
 
-// What a `turn` line with which a text begins says, where its numbers are short, and what stands behind the line. None
-// for each other line, which is to be read word by word.
+// Like `front_submit`, for a `turn` line.
 pub(crate) fn front_turn(text: &[u8]) -> Option<(Turn, &[u8])>
     ensures { IfSome result (λ r. SaysInFront TurnForm text.now (turn_words r.0) r.1.now) }
 {
@@ -91,8 +89,7 @@ pub(crate) fn front_turn(text: &[u8]) -> Option<(Turn, &[u8])>
     Some((turn, left))
 }
 
-// The number of the connection in a `drain` line with which a text begins, where it is short, and what stands behind
-// the line. None for each other line, which is to be read word by word.
+// Like `front_submit`, for a `drain` line; returns the number of its connection.
 pub(crate) fn front_drain(text: &[u8]) -> Option<(u64, &[u8])>
     ensures { IfSome result (λ r. SaysInFront DrainForm text.now (drain_words r.0) r.1.now) }
 {

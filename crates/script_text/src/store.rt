@@ -1,5 +1,4 @@
-//! Lines that store a word, read in one pass over their bytes, with their line feeds: nearly all lines of a long script
-//! are such.
+//! Reads lines that store a word, in one pass over their bytes: nearly all lines of a long script are such.
 
 ghost use Rattle.std.specs.Prelude.{◌≡◌, ◌∷◌, true, IfSome};
 ghost use Rattle.std.specs.Char.{is_ascii_digit};
@@ -9,10 +8,10 @@ ghost use Rattle.script_text.specs.Stores.{store_words, IsNumberBefore, SaysInFr
 
 use mrpc_table::Decimal;
 
-// So many digits spell a number of 64 bits, whichever they are.
+// Any number of this many digits fits 64 bits.
 const FEW_DIGITS: usize = 19;
 
-// What the words of a `store` line say.
+// The values of a `store` line.
 #[derive(Clone, Copy)]
 pub(crate) struct Store {
     pub conn: u64,
@@ -20,9 +19,9 @@ pub(crate) struct Store {
     pub value: u64,
 }
 
-// The number that the first digits of a text spell, and what stands behind them; none where a text doesn't begin with
-// a number. Of more digits than surely fit, the last ones are left.
-// Inlined, since a call costs as much as some digits, and a long script has three numbers in nearly every line.
+// Reads the leading digits of a text as a number. Returns it with the remainder; `None` if the text doesn't start with
+// a number. At most 19 digits are read; further ones stay in the remainder. Inlined, since a call costs as much as some
+// digits, and nearly every line of a long script has three numbers.
 #[inline(always)]
 pub(crate) fn front_number(text: &[u8]) -> Option<(u64, &[u8])>
     ensures { IfSome result (λ r. IsNumberBefore text.now r.0 r.1.now) }
@@ -35,7 +34,7 @@ pub(crate) fn front_number(text: &[u8]) -> Option<(u64, &[u8])>
     }
     let mut number = u64::from(*first) - u64::from(b'0');
     let mut count = 1;
-    // (Behind a zero there is no further digit.)
+    // (After a leading zero no digit follows.)
     let most = if number == 0 {
         1
     } else {
@@ -48,7 +47,7 @@ pub(crate) fn front_number(text: &[u8]) -> Option<(u64, &[u8])>
     Some((number, &text[count..]))
 }
 
-// What stands behind the space with which a text begins.
+// Returns the remainder of a text after a space.
 pub(crate) fn behind_space(text: &[u8]) -> Option<&[u8]>
     ensures { IfSome result (λ r. text.now ≡ 32 ∷ r.now) }
 {
@@ -58,7 +57,7 @@ pub(crate) fn behind_space(text: &[u8]) -> Option<&[u8]>
     }
 }
 
-// What stands behind the line feed with which a text begins.
+// Returns the remainder of a text after a line feed.
 pub(crate) fn behind_feed(text: &[u8]) -> Option<&[u8]>
     ensures { IfSome result (λ r. text.now ≡ 10 ∷ r.now) }
 {
@@ -68,7 +67,7 @@ pub(crate) fn behind_feed(text: &[u8]) -> Option<&[u8]>
     }
 }
 
-// What stands behind the first word of a `store` line.
+// Returns the remainder after the first word of a `store` line.
 fn behind_store(text: &[u8]) -> Option<&[u8]>
     ensures { IfSome result (λ r. text.now ≡ 115 ∷ 116 ∷ 111 ∷ 114 ∷ 101 ∷ 32 ∷ r.now) }
 {
@@ -78,8 +77,8 @@ fn behind_store(text: &[u8]) -> Option<&[u8]>
     }
 }
 
-// What a `store` line with which a text begins says, where its numbers are decimal, and short, and what stands behind
-// the line. None for each other line, which is to be read word by word.
+// Reads a `store` line with short decimal numbers at the start of a text. Returns its values and the remainder; `None`
+// for each other line, which has to be read word by word.
 #[inline(always)]
 pub(crate) fn front_store(text: &[u8]) -> Option<(Store, &[u8])>
     ensures { IfSome result (λ r. SaysInFront StoreForm text.now (store_words r.0) r.1.now) }

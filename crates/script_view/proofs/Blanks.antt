@@ -1,4 +1,4 @@
--- Submissions without a message, one behind another.
+-- Consecutive submissions without a message.
 use Rattle.std.proofs.Common.{◌≡◌, ℕ, zero, suc, ◌+◌, List, ◌++◌, sym, ap, ◌∙◌, append_assoc, append-nil, arith}
 use Rattle.script_view.specs.Playing.{blank_line, blank_lines}
 

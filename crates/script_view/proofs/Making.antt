@@ -1,4 +1,4 @@
--- What makes one frame after another.
+-- The lines that replay consecutive frames.
 use Rattle.std.proofs.Common.{◌≡◌, ℕ, ◌+◌, ◌<◌, ◌≤◌, Bool, false, IsTrue, ◌↔◌, inl, inr, arith, List, [], ◌∷◌, ◌++◌}
 use Rattle.std.proofs.Common.{length, drop, codes, refl, sym, ap, subst, ◌∙◌, append_assoc, append-nil, Result, Ok}
 use Rattle.std.proofs.Common.{Err, IfOk, IfErr, Option, Some, IfSome}
@@ -24,12 +24,12 @@ use Rattle.script_view.specs.Unplayable.{Made, IsConn, IsLaidOut, IsMadeBy, IsUn
 use Rattle.script_view.specs.Walks.{PlaysFrame, plays_hello, plays_call, PlaysFrames, Plays}
 use Rattle.script_view.specs.declared.limits.TheConstants.{MAX_BODY}
 
--- what follows from a property of a fault, holds of it
+-- what follows from a property of a fault, holds for it
 pub on_fault : (P Q : ℕ → List ℕ → Type 0) (fault : ReadFault) → ((place : ℕ) (word : List ℕ) → P place word → Q place word) → OnFault P fault → OnFault Q fault
 on_fault P Q (At place word) then h = then place word.now h
 on_fault P Q Memory then h = tt
 
--- and where no memory was found, each does
+-- and `Memory` has every property of faults
 pub memory_alone : (P : ℕ → List ℕ → Type 0) (fault : ReadFault) → fault ≡ Memory → OnFault P fault
 memory_alone P fault is = subst (OnFault P) (sym is) tt
 
@@ -39,7 +39,7 @@ plays-append T a b c [] gs x y p q =
 plays-append T a b c (f ∷ fs) gs x y p q =
     (p.0, p.1 ++ y, p.2, p.3, plays-append T p.2 b c fs gs p.1 y p.4 q, ap (λ (t : List ℕ). t ++ y) p.5 ∙ append_assoc p.0 p.1 y)
 
--- what holds of frames that stand one behind another
+-- laws of consecutive frames
 pub record WalkLaw : Type 0 where
   pub none : (stream : List ℕ) (from : ℕ) → Stands stream from from []
   pub one : (stream : List ℕ) (from to : ℕ) (f : Frame) → StandsAt from (drop from stream) f → to ≡ from + (16 + length f.payload) → Stands stream from to (f ∷ [])
@@ -62,7 +62,7 @@ plays_more law T stream from mid to a b c x y p q = record {
   plays = plays-append T a b c p.frames q.frames x y p.plays q.plays;
 }
 
--- lines that are too many
+-- too many bytes of lines
 pub large : (T : Table) (before after : Made) (size : ℕ) (f : Frame) (text : List ℕ) (place : ℕ) (word : List ℕ)
     → PlaysFrame T before f text after → MAX_BODY < size + length text
     → place ≡ f.place → word ≡ codes "Size" → IsUnplayable T before size f place word
@@ -80,7 +80,7 @@ pub if_fault : {A : Type 0} (P Q : ℕ → List ℕ → Type 0) (r : Result A Re
 if_fault P Q (Ok a) then h = h
 if_fault P Q (Err fault) then h = on_fault P Q fault then h
 
--- what plays a whole stream, is the script of the input
+-- lines that replay a whole stream make the script of the input
 pub script_whole : {E : Type 0} → WalkLaw → (text : List ℕ) (T : Table) (stream : List ℕ) (r : Result (List ℕ) E) → Holds text T stream
     → IfOk r (λ script. (to : ℕ) × (body : List ℕ) × (made : Made) × (length stream ≤ to)
     × Plays T stream 0 to nothing_made body made × FitsReplay body made
@@ -104,11 +104,11 @@ script_whole law text T stream (Err e) holds h = tt
 pub conn_is : (conn : ℕ) (b : Bool) → (IsTrue b ↔ ((1 ≤ conn) × (conn ≤ MAX_CONNECTIONS))) → IsTrue b → IsConn conn
 conn_is conn b h passed = let both : (1 ≤ conn) × (conn ≤ MAX_CONNECTIONS) = h.0 passed in record { first = both.0; last = both.1 }
 
--- what isn't at most a limit, is above it
+-- a number that isn't at most a limit is above it
 pub too_many : (n limit : ℕ) (b : Bool) → (IsTrue b ↔ (n ≤ limit)) → b ≡ false → limit < n
 too_many n limit b h failed = elim (leb_tells n limit) [ inl le ↦ absurd (false≢true (sym failed ∙ h.1 le.1)) | inr above ↦ let gt = above.1 in omega (arith, gt) ]
 
--- what was made, part by part
+-- the calls so far, part by part
 abbrev pub made_of : List ℕ → ℕ → ℕ → Made
 made_of counts calls loads = record { counts = counts; calls = calls; loads = loads }
 
@@ -116,7 +116,7 @@ pub made_is : {counts counts' : List ℕ} {calls calls' loads loads' : ℕ} → 
     → loads ≡ loads' → made_of counts calls loads ≡ made_of counts' calls' loads'
 made_is p q r = λ i. made_of (p i) (q i) (r i)
 
--- what makes a request or a reply, by what was found of it
+-- how a request or a reply is sent, by what was found for it
 pub is_made : (T : Table) (before : Made) (f : Frame) (tree : Node) (message last blanks : ℕ) (found : Option ℕ) (placed : Placed) → IsMessageOf T f tree → IsConn f.conn
     → last ≡ last_of before f → found ≡ Some blanks → IfSome found (λ b. IsNumbered f last b) → message ≡ message_in T f → IsLaidOut T message tree placed
     → IsMadeBy T before f blanks placed

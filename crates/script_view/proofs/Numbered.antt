@@ -3,7 +3,7 @@ use Rattle.std.proofs.Common.{◌≡◌, ℕ, List, [], ◌∷◌, ◌++◌, map
 use Rattle.std.specs.List.{flat_map}
 use Rattle.mrpc_table.specs.Text.{line, spaced}
 
--- a number behind others
+-- a number after others
 abbrev pub behind : ℕ → List ℕ
 behind n = 32 ∷ decimal n
 

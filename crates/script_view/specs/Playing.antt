@@ -1,4 +1,4 @@
--- The lines of a replay script that make a frame (this project's own format; `script_text` reads it).
+-- The lines of a replay script that send a frame (this project's own format; `script_text` reads it).
 use Rattle.std.specs.Prelude.{◌≡◌, ℕ, zero, suc, ◌+◌, ◌<◌, ◌==◌, List, [], ◌∷◌, ◌++◌, codes, if◌then◌else◌}
 use Rattle.std.specs.Fmt.{decimal}
 use Rattle.std.specs.List.{flat_map}
@@ -7,7 +7,7 @@ use Rattle.frame_transport.specs.declared.format.Frame.{Frame}
 use Rattle.frame_transport.specs.declared.format.TheConstants.{REQUEST}
 use Rattle.script_view.specs.declared.limits.TheConstants.{FIRST_PLACE, MAX_REPLAY_WORDS}
 
--- a hello has a comment alone
+-- a hello becomes a comment
 abbrev pub hello_line : List ℕ
 hello_line = codes "# a hello, which isn't replayed\n"
 
@@ -15,7 +15,7 @@ hello_line = codes "# a hello, which isn't replayed\n"
 abbrev pub conn_line : ℕ → List ℕ
 conn_line conn = line (codes "conn" ∷ decimal conn ∷ decimal MAX_REPLAY_WORDS ∷ [])
 
--- a submission whose message stands at no place: it is refused at once, and has a number
+-- a submission at place 0, where no message can be: it is refused at once, and takes a number
 abbrev pub blank_line : ℕ → List ℕ
 blank_line conn = line (codes "submit" ∷ decimal conn ∷ codes "0" ∷ codes "0" ∷ [])
 
@@ -30,7 +30,7 @@ store_line conn word = line (codes "store" ∷ decimal conn ∷ decimal word.0 �
 abbrev pub store_lines : ℕ → List (ℕ × ℕ) → List ℕ
 store_lines conn words = flat_map (store_line conn) words
 
--- the message that stands from the first place on is submitted: for a reply with the number that it answers
+-- the message at the first place is submitted; a reply has the number that it answers
 abbrev pub request_line : (conn method : ℕ) → List ℕ
 request_line conn method = line (codes "submit" ∷ decimal conn ∷ decimal method ∷ decimal FIRST_PLACE ∷ [])
 
@@ -44,13 +44,14 @@ submit_line f = if f.kind == REQUEST then request_line f.conn f.method else repl
 abbrev pub send_line : ℕ → List ℕ
 send_line conn = line (codes "send" ∷ decimal conn ∷ [])
 
--- The frame of a call has its number, where its connection has had the number `last` and then so many submissions without a
--- message: a request has the next number, and a reply that of the request it answers, whatever its own is.
+-- The number of a call's frame, if its connection has the last number `last` and then this number of
+-- submissions without a message: a request has the next number, and a reply that of the request it answers,
+-- whatever its own is.
 pub data IsNumbered (f : Frame) (last blanks : ℕ) : Type 0 where
   request : f.kind ≡ REQUEST → f.number ≡ last + blanks + 1 → IsNumbered f last blanks
   reply : (f.kind ≡ REQUEST → ⊥) → 0 < f.number → blanks ≡ 0 → IsNumbered f last blanks
 
--- all lines of the frame of a call whose message has these words
+-- all lines for the frame of a call whose message has these words
 abbrev pub call_lines : Frame → ℕ → ℕ → List (ℕ × ℕ) → List ℕ
 call_lines f last blanks words =
     (if last == 0 then conn_line f.conn else [])

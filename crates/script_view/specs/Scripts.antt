@@ -21,12 +21,13 @@ script_text T loads body =
 abbrev pub nothing_made : Made
 nothing_made = record { counts = replicate 17 0; calls = 0; loads = 1 }
 
--- a replay reads the lines of so many bytes, and so many calls, if each may take so many loads
+-- a replay accepts this number of bytes of lines, and this number of calls, given the loads that each may
+-- take
 pub record FitsReplay (body : List ℕ) (made : Made) : Type 0 where
   pub short : length body ≤ MAX_BODY
   pub few : made.calls * made.loads ≤ MAX_WORK
 
--- the script of an input makes all its frames but hellos, in order, within the limits of a replay
+-- the script of an input sends all its frames except hellos, in order, within the limits of a replay
 pub record IsScriptOf (text script : List ℕ) : Type 0 where
   pub table : Table
   pub stream : List ℕ
@@ -39,7 +40,7 @@ pub record IsScriptOf (text script : List ℕ) : Type 0 where
   pub fits : FitsReplay body made
   pub whole : script ≡ script_text table made.loads body
 
--- an input has no script: its text is at fault, or its frames are, or a frame can't be sent by a replay
+-- an input has no script: its text is at fault, or its frames are, or a replay can't send a frame
 pub data HasStop (text : List ℕ) (place : ℕ) (word : List ℕ) : Type 0 where
   in_text : IsTextFault text place word → HasStop text place word
   in_stream : (T : Table) (stream : List ℕ) → Holds text T stream → StopsAt T stream nothing_made place word

@@ -1,4 +1,4 @@
--- What was made of a script so far, and which frames no replay can send behind it.
+-- The calls of a script so far, and the frames that no replay can send after them.
 use Rattle.std.specs.Prelude.{◌≡◌, ◌≢◌, ℕ, ◌+◌, ◌*◌, ◌<◌, ◌≤◌, max, List, codes, length, slice_index}
 use Rattle.mrpc_table.specs.Node.{Node}
 use Rattle.mrpc_table.specs.declared.limits.TheConstants.{MAX_LOADS}
@@ -14,8 +14,8 @@ use Rattle.script_text.specs.declared.limits.TheConstants.{MAX_CONNECTIONS, MAX_
 use Rattle.script_view.specs.Playing.{IsNumbered, call_lines, hello_line}
 use Rattle.script_view.specs.declared.limits.TheConstants.{FIRST_PLACE, MAX_REPLAY_WORDS, MAX_BODY}
 
--- the number of the last call of each connection, by its place, how many calls there are together, and the most loads that
--- one of them takes
+-- the number of the last call of each connection, by its index, the total number of calls, and the most loads
+-- that one of them takes
 pub record Made : Type 0 where
   pub counts : List ℕ
   pub calls : ℕ
@@ -25,7 +25,8 @@ pub record Made : Type 0 where
 abbrev pub last_of : Made → Frame → ℕ
 last_of made f = slice_index made.counts f.conn
 
--- a message stands in these words of a heap, from the first place on, and a copy of it keeps to the loads that it may make
+-- a message is in these words of a heap, from the first place on, and a copy of it takes at most the loads
+-- that it may take
 pub record IsLaidOut (T : Table) (msg : ℕ) (t : Node) (placed : Placed) : Type 0 where
   pub stands : StandsIn T MAX_REPLAY_WORDS msg t FIRST_PLACE (tree_words T msg t) placed
   pub few : length placed.words ≤ MAX_LOADS
@@ -35,7 +36,7 @@ pub record IsConn (conn : ℕ) : Type 0 where
   pub first : 1 ≤ conn
   pub last : conn ≤ MAX_CONNECTIONS
 
--- a request or a reply can be made by so many submissions without a message, and one of these words
+-- a request or a reply can be sent by this number of submissions without a message, and one with these words
 pub record IsMadeBy (T : Table) (before : Made) (f : Frame) (blanks : ℕ) (placed : Placed) : Type 0 where
   pub tree : Node
   pub message : IsMessageOf T f tree
@@ -43,7 +44,7 @@ pub record IsMadeBy (T : Table) (before : Made) (f : Frame) (blanks : ℕ) (plac
   pub numbered : IsNumbered f (last_of before f) blanks
   pub laid_out : IsLaidOut T (message_in T f) tree placed
 
--- A frame can't be sent by a replay, behind what was made in lines of so many bytes.
+-- A replay can't send this frame after the calls so far, whose lines have this number of bytes.
 pub data IsUnplayable (T : Table) (before : Made) (size : ℕ) (f : Frame) (place : ℕ) (word : List ℕ) : Type 0 where
   other_connection : f.kind ≢ HELLO → (IsConn f.conn → ⊥) → place ≡ f.place + 8 → word ≡ codes "Conn"
       → IsUnplayable T before size f place word

@@ -1,4 +1,5 @@
-//! How many calls a script has made, by connection and together, and how many loads each may take.
+//! Counts the calls that a script has made, on each connection and in total, and the loads that each may
+//! take.
 
 ghost use Rattle.std.specs.Prelude.{◌≡◌, ◌≤◌, ◌<◌, ◌+◌, ◌*◌, ◌^◌, max, replicate, slice_index, slice_set, IsTrue, ◌↔◌, ℕ};
 ghost use Rattle.script_text.specs.declared.limits.TheConstants.{MAX_CONNECTIONS, MAX_WORK};
@@ -8,9 +9,9 @@ use script_text::{MAX_CONNECTIONS, MAX_WORK};
 // The calls of a script so far.
 #[derive(Drop)]
 pub(crate) struct Calls {
-    // The number of the last call of each connection, 0 where it has none. No connection has the place 0.
+    // The number of the last call of each connection, 0 if it has none. Index 0 is no connection.
     pub counts: [u64; 17],
-    // How many calls there are together.
+    // The total number of calls.
     pub total: u64,
     // The most loads that one of them takes, at least 1.
     pub loads: u64,
@@ -21,7 +22,7 @@ pub(crate) struct Calls {
 }
 
 impl Calls {
-    // No call yet.
+    // No calls yet.
     pub(crate) fn new() -> Calls
         ensures counts { result.counts ≡ replicate 17 0 }
         ensures total { result.total ≡ 0 }
@@ -42,8 +43,9 @@ impl Calls {
         self.counts[conn as usize]
     }
 
-    // Takes a call of a connection, behind so many others without a message, which takes so many loads; answers whether
-    // all calls together are as many as a script may have, by the loads that each may take. If not, nothing changes.
+    // Adds a call of a connection that takes `loads` loads, after `blanks` calls without a message. Returns
+    // whether a script may have this total of calls, given the loads that each may take. If not, nothing
+    // changes.
     pub(crate) fn take(&mut self, conn: u32, blanks: u64, loads: u64) -> bool
         requires conn { conn ≤ MAX_CONNECTIONS }
         requires blanks { blanks < 2 ^ 32 }
@@ -65,7 +67,7 @@ impl Calls {
     }
 }
 
-// Whether a script may have so many calls, if each takes so many loads.
+// Whether a script may have this number of calls, if each takes this number of loads.
 fn is_work(calls: u64, loads: u64) -> bool
     ensures { IsTrue result ↔ (calls * loads ≤ MAX_WORK) }
 {
@@ -75,7 +77,7 @@ fn is_work(calls: u64, loads: u64) -> bool
     }
 }
 
-// Whether a script may have a connection of this number.
+// Whether a script may have a connection with this number.
 pub(crate) fn is_conn(conn: u32) -> bool
     ensures { IsTrue result ↔ ((1 ≤ conn) × (conn ≤ MAX_CONNECTIONS)) }
 {

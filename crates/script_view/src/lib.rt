@@ -1,13 +1,14 @@
-//! Replay scripts of frames: what `mrpc-view script` writes of the input that `mrpc decode` reads.
+//! Replay scripts of frames: what `mrpc-view script` writes for the input that `mrpc decode` reads.
 //!
-//! Its replay sends the same requests and replies, each with its message's encoding, as tests show. A message is laid
-//! out in words by `graph_place`, which are stored from place 1 on, submitted, and sent. A replay numbers the calls of
-//! a connection itself, so that submissions without a message, which are refused at once, stand in front of a request
-//! that has a higher number. Hellos aren't replayed. `specs/Playing.antt` has the lines of each frame, and
-//! `specs/Scripts.antt` the whole script. Frames that no replay can send are a fault, with the frame's place: `Conn`,
-//! `Number`, `Words`, `Loads`, `Work` and `Size` (`specs/Unplayable.antt`). It stands on `frame_reading` and
-//! `graph_place`. The layer above uses one contract: the script stores the words of each message, as a reader loads
-//! them, submits and sends it, frame by frame.
+//! A replay of the script sends the same requests and replies, each with its message's encoding, as tests
+//! show. `graph_place` lays a message out in words; the script stores them from place 1 on, submits the
+//! message, and sends it. A replay numbers the calls of a connection itself. So if a request has a higher
+//! number, submissions without a message, which are refused at once, precede it. Hellos aren't replayed.
+//! `specs/Playing.antt` defines the lines of each frame, and `specs/Scripts.antt` the whole script. A frame
+//! that no replay can send is a fault at an offset of the frame, with one of the reasons `Conn`, `Number`,
+//! `Words`, `Loads`, `Work` and `Size` (`specs/Unplayable.antt`). The crate uses `frame_reading` and
+//! `graph_place`. Its one contract for the layer above: frame by frame, the script stores the words of each
+//! message as a reader loads them, submits the message and sends it.
 #![tactic(auto)]
 
 mod calls;

@@ -1,11 +1,11 @@
-//! The limits of what can be replayed.
+//! The limits of a replay.
 
-/// How many words the heap of each connection has, which is as many as one may have.
+/// The number of words of each connection's heap: the most that a heap may have.
 pub const MAX_REPLAY_WORDS: u64 = 65_536;
 
-// The place from which on each message is stored.
+// The place at which each message starts.
 pub(crate) const FIRST_PLACE: u64 = 1;
 
-/// How many bytes the lines of the frames have together at the most. With the longest table in front of them a script is
-/// still one that is read.
+/// The most bytes of all lines of the frames together. With the longest table before them a script can still
+/// be read.
 pub const MAX_BODY: usize = 16_700_000;

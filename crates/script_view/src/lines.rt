@@ -29,7 +29,7 @@ pub(crate) fn put_line(out: &mut Bytes, word: &[u8], numbers: &[u64]) -> Result<
     out.append(b"\n")
 }
 
-// Appends parts, one behind another.
+// Appends parts in order.
 pub(crate) fn put_parts(out: &mut Bytes, parts: &[&[u8]]) -> Result<(), Memory>
     ensures { OnOk result (out.new ≡ out.old ++ flat_map (λ part. part.now) parts.now) }
 {
@@ -46,7 +46,7 @@ pub(crate) fn put_conn(out: &mut Bytes, conn: u32) -> Result<(), Memory>
     put_line(out, b"conn", &[u64::from(conn), MAX_REPLAY_WORDS])
 }
 
-// Appends so many submissions without a message.
+// Appends this number of submissions without a message.
 pub(crate) fn put_blanks(out: &mut Bytes, conn: u32, count: u64) -> Result<(), Memory>
     ensures { OnOk result (out.new ≡ out.old ++ blank_lines conn count) }
 {
@@ -89,7 +89,7 @@ pub(crate) fn put_submit(out: &mut Bytes, frame: &FrameRef) -> Result<(), Memory
     }
 }
 
-// Appends the line that sends what was submitted.
+// Appends the line that sends the submitted message.
 pub(crate) fn put_send(out: &mut Bytes, conn: u32) -> Result<(), Memory>
     ensures { OnOk result (out.new ≡ out.old ++ send_line conn) }
 {

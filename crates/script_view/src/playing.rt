@@ -1,4 +1,4 @@
-//! What makes one frame after another.
+//! The lines that replay consecutive frames.
 
 ghost use Rattle.std.specs.Prelude.{◌≡◌, ◌<◌, ◌≤◌, ◌^◌, ◌++◌, ◌+◌, ◌==◌, ℕ, List, [], length, if◌then◌else◌, IfOk, IfErr, IfSome, IfNone, OnOk};
 ghost use Rattle.mrpc_table.specs.Valid.{IsValid};
@@ -24,12 +24,12 @@ use mrpc_table::{Bytes, MAX_LOADS, Memory, Table, Tree};
 use spare_trees::Spare;
 use std::alloc::Global;
 
-// Where the sender's connection, and where the number, stands in a header.
+// The offset of the sender's connection in a header, and that of the number.
 const CONN_PLACE: u64 = 8;
 
 const NUMBER_PLACE: u64 = 12;
 
-// Appends what makes the frames of a stream, in order.
+// Appends the lines that replay the frames of a stream, in order.
 pub(crate) fn put_stream(
     alloc: Global,
     table: &Table,
@@ -54,7 +54,7 @@ pub(crate) fn put_stream(
     Ok(())
 }
 
-// Appends what makes the frame at this place of a stream, and answers the place behind it.
+// Appends the lines that replay the frame at this offset of a stream, and returns the offset after it.
 fn put_frame(
     alloc: Global,
     table: &Table,
@@ -83,7 +83,7 @@ fn put_frame(
     Ok(from + HEADER_LEN + frame.payload.len())
 }
 
-// Appends what makes a frame that has this.
+// Appends the lines that replay a frame with this content.
 fn put_content(
     alloc: Global,
     table: &Table,
@@ -114,7 +114,7 @@ fn put_content(
     }
 }
 
-// Appends what makes the frame of a request or a reply.
+// Appends the lines that replay a request or a reply.
 fn put_call(
     alloc: Global,
     table: &Table,
@@ -144,8 +144,8 @@ fn put_call(
     put_placed(frame, last, blanks, &placed, calls, body)
 }
 
-// The same, where the words of its message are known, the number that its connection has had last, and how many calls
-// without a message go before.
+// Like `put_call`, given the words of the message, the last number of its connection, and the number of calls
+// without a message before it.
 fn put_placed(
     frame: &FrameRef,
     last: u64,
@@ -172,8 +172,8 @@ fn put_placed(
     Ok(())
 }
 
-// How many calls without a message go before that of a frame, whose connection has had this number last. None where no
-// call can have the frame's number.
+// How many calls without a message must precede that of a frame, given the last number of its connection.
+// `None` if no call can have the frame's number.
 fn blanks_before(frame: &FrameRef, last: u64) -> Option<u64>
     ensures some { IfSome result (λ blanks. IsNumbered (frame_of frame.now) last blanks) }
     ensures small { IfSome result (λ blanks. blanks < 2 ^ 32) }
@@ -215,7 +215,7 @@ fn laid_out(
     Ok(placed)
 }
 
-// A fault of a frame that no replay can send, at a place of its own.
+// The fault of a frame that no replay can send, at an offset from the frame's start.
 fn unplayable(frame: &FrameRef, at: u64, word: &'static str) -> ReadFault
     requires near { frame.now.place < 2 ^ 63 }
     requires inside { at ≤ HEADER_LEN }
@@ -244,7 +244,7 @@ fn put_lines(
     put_send(body, frame.conn)
 }
 
-// Appends the line that opens a connection, in front of its first call.
+// Appends the line that opens a connection, before its first call.
 fn put_opening(body: &mut Bytes, conn: u32, last: u64) -> Result<(), Memory>
     ensures { OnOk result (body.new ≡ body.old ++ (if last == 0 then conn_line conn else [])) }
 {

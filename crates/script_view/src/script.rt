@@ -17,7 +17,7 @@ use spare_trees::Spare;
 use std::alloc::Global;
 use table_lines::table_text;
 
-/// The script that stores, submits and sends the message of each frame of an input but hellos.
+/// The script that stores, submits and sends the message of each frame of an input except hellos.
 pub fn script_of(alloc: Global, text: &[u8]) -> Result<Bytes, ReadFault>
     requires short { length text.now < 2 ^ 63 }
     ensures script { IfOk result (IsScriptOf text.now) }
@@ -47,7 +47,7 @@ fn script_of_stream(alloc: Global, table: &Table, stream: &[u8]) -> Result<Bytes
     }
 }
 
-// The front of a script, the lines of its frames, and its last line.
+// The preamble of a script, the lines of its frames, and its last line.
 fn whole_script(alloc: Global, table: &Table, loads: u64, body: &[u8]) -> Result<Bytes, ReadFault>
     requires { IsValid table.now }
     ensures script { IfOk result (λ script. script ≡ script_text table.now loads body.now) }

@@ -31,7 +31,7 @@ pub word_more : (digits : List ℕ) (i word value : ℕ) → i < length digits �
     → value ≡ digit_value (get_or digits i 0) → word * 16 + value ≡ digits_value 16 (take (i + 1) digits)
 word_more digits i word value within so_far here = rw (so_far, here) (sym (digits_value_more 16 digits i within))
 
--- what holds of the bytes so far and of one more
+-- a property of the bytes so far and of one more
 pub all_more : (p : ℕ → Bool) (xs : List ℕ) (i : ℕ) → i < length xs → list_all p (take i xs) ≡ true → p (get_or xs i 0) ≡ true → list_all p (take (i + 1) xs) ≡ true
 all_more p [] i within so_far here = absurd (omega arith)
 all_more p (x ∷ xs) zero within so_far here = and_from (p x) true here refl

@@ -1,4 +1,4 @@
--- The definitions on lines that were worked out by hand.
+-- The definitions, evaluated on lines that were worked out by hand.
 use Rattle.std.proofs.Common.{◌≡◌, ◌^◌, [], ◌∷◌, codes, Some, None, refl, inl, inr, arith}
 use Rattle.mrpc_table.specs.Lines.{words_of}
 use Rattle.script_words.specs.Forms.{sorts_of, form_in}
@@ -23,7 +23,7 @@ reply_form = refl
 rate_form : form_in (words_of (codes "policy rl rate 1 per 1000 burst 2 hold")) ≡ Some form.Rate
 rate_form = refl
 
--- a wrong word that isn't a key leaves the form, and a wrong kind, or number of words, doesn't
+-- a wrong word that isn't a key doesn't change the form; a wrong key, or number of words, does
 misspelled_form : form_in (words_of (codes "policy rl rate 0 perr 1000 burst 2 hold")) ≡ Some form.Rate
 misspelled_form = refl
 
@@ -39,7 +39,7 @@ spaced_line = refl
 empty_line : form_in (words_of []) ≡ None
 empty_line = refl
 
--- ---- what lines say
+-- ---- the values of lines
 
 rate_said : AreSaid (sorts_of form.Rate) (words_of (codes "policy rl rate 1 per 1000 burst 2 hold"))
     (word keyword.Policy ∷ name (codes "rl") ∷ word keyword.Rate ∷ number 1 ∷ word keyword.Per ∷ number 1000 ∷ word keyword.Burst ∷ number 2 ∷ word keyword.Hold ∷ [])
@@ -66,7 +66,7 @@ rate_said = (
 least_said : Says (Rattle.script_words.specs.declared.sort.Sort.TheVariants.Value) (codes "-9223372036854775808") (number (2 ^ 63))
 least_said = (negative (2 ^ 63), (codes "9223372036854775808", refl, refl), omega arith, refl)
 
--- ---- what is wrong with them
+-- ---- the faults of lines
 
 no_connection : IsAgainst (sorts_of form.Conn) (words_of (codes "conn 99 x")) Number
 no_connection = in_word refl (inr (inl (inr (99, refl, λ h. omega (arith, h.1), refl))))

@@ -1,4 +1,4 @@
--- What the code finds a word to store is what its value is.
+-- The code finds a word's value exactly.
 use Rattle.std.proofs.Common.{◌≡◌, ℕ, ◌-◌, ◌%◌, ◌<◌, ◌^◌, ◌==◌, ◌&&◌, Bool, true, false, cond, List, [], ◌∷◌, drop}
 use Rattle.std.proofs.Common.{Option, Some, None, refl, sym, ap, ◌∙◌, subst, eq-eqb, arith}
 use Rattle.std.specs.Prelude.{nat_le, nat_lt, option_map}
@@ -10,7 +10,7 @@ use Rattle.mrpc_table.specs.declared.words.Decimal.TheVariants.{Small, Large}
 use Rattle.script_words.specs.Values.{IsNumber, Value, plain, negative, hexadecimal, IsValue, Fits, word_of, are_hexadecimal}
 use Rattle.script_words.specs.Reading.{negated, hexadecimal_in, begins_with, value_in}
 
--- what an answer says of a word
+-- a word has the value that was found
 abbrev pub IsFound : List ℕ → Option Decimal → Type 0
 IsFound word None = (v : Value) → IsValue word v → ⊥
 IsFound word (Some Large) = (v : Value) × IsValue word v × (Fits v → ⊥)
@@ -35,7 +35,7 @@ plain_found : (word : List ℕ) (o : Option ℕ) → number_of word ≡ o → ((
 plain_found word None e only = λ v h. (let p = only v h in some_is_none p.0 (number_of word) e p.1)
 plain_found word (Some n) e only = plain_by word n (nat_lt n (2 ^ 64)) e refl
 
--- ---- behind a minus
+-- ---- after a minus
 
 negative_small : (digits : List ℕ) (n : ℕ) (b c : Bool) → IsNumber digits n → nat_lt n (2 ^ 64) ≡ b → nat_le n (2 ^ 63) ≡ c
     → IsFound (45 ∷ digits) (Some (cond c (Small ((2 ^ 64 - n) % 2 ^ 64)) Large))
@@ -55,7 +55,7 @@ negative_found : (digits : List ℕ) (o : Option ℕ) → number_of digits ≡ o
 negative_found digits None e = no_negative digits e
 negative_found digits (Some n) e = negative_by digits n (nat_lt n (2 ^ 64)) e refl
 
--- ---- behind 0x
+-- ---- after 0x
 
 no_hexadecimal : (digits : List ℕ) → are_hexadecimal digits ≡ false → (v : Value) → IsValue (48 ∷ 120 ∷ digits) v → ⊥
 no_hexadecimal digits isnt (plain n) h = some_is_none n None refl h

@@ -1,4 +1,4 @@
--- Words of sorts, one after another: what they say, and the first reason against them.
+-- Words under their sorts, one after another: their values, and their first reason.
 use Rattle.std.proofs.Common.{◌≡◌, ◌≢◌, ◌⊎◌, ℕ, ◌+◌, ◌<◌, ◌≤◌, Bool, true, false, cond, List, [], ◌∷◌, ◌++◌, length}
 use Rattle.std.proofs.Common.{take, drop, get_or, Option, Some, None, refl, sym, ap, ◌∙◌, subst, inl, inr, arith}
 use Rattle.std.specs.Prelude.{nat_le}
@@ -31,7 +31,7 @@ byte_clash x y xs ys e = cc
 no_digits : (w : List ℕ) (n : ℕ) (o : Option ℕ) → number_of w ≡ o → o ≡ None → number_of w ≡ Some n → ⊥
 no_digits w n o e none some = (let clash : ◌≡◌ {A = Option ℕ} None (Some n) = sym none ∙ sym e ∙ some in cc)
 
--- a word is one value
+-- a word is at most one value
 pub one_value : (w : List ℕ) (v u : Value) → IsValue w v → IsValue w u → v ≡ u
 one_value w (plain n) (plain m) h k = ap plain (same_number (number_of w) n m h k)
 one_value w (plain n) (negative m) h k = absurd (no_digits (45 ∷ k.0) n None refl refl (sym (ap number_of k.1) ∙ h))
@@ -44,7 +44,7 @@ one_value w (hexadecimal ds) (plain m) h k = absurd (no_digits (48 ∷ 120 ∷ d
 one_value w (hexadecimal ds) (negative m) h k = absurd (omega (arith, byte_clash 45 48 k.0 (120 ∷ ds) (sym k.1 ∙ h.0)))
 one_value w (hexadecimal ds) (hexadecimal es) h k = ap hexadecimal (ap (drop 2) (sym h.0 ∙ k.0))
 
--- a word that says something isn't at fault
+-- a word with a value has no reason
 pub word_fine : (s : Sort) (w : List ℕ) (m : Meaning) (r : ScriptReason) → Says s w m → Offends s w r → ⊥
 word_fine (Key k) w (word l) r h o = o.0 (h.1)
 word_fine (Fixed k) w (word l) r h o = o.0 (h.1)
@@ -64,7 +64,7 @@ word_fine Stored w (number n) r h o = elim o [
 word_fine Name w (name x) r h o = o.0 h.1
 word_fine _ w _ r h o = absurd h
 
--- one reason stands against a word
+-- a word has at most one reason
 pub one_reason : (s : Sort) (w : List ℕ) (r q : ScriptReason) → Offends s w r → Offends s w q → r ≡ q
 one_reason (Key k) w r q h o = h.1 ∙ sym o.1
 one_reason (Fixed k) w r q h o = h.1 ∙ sym o.1
@@ -80,7 +80,7 @@ one_reason Stored w r q (inr h) (inl o) = absurd (o.0 h.0 h.1)
 one_reason Stored w r q (inr h) (inr o) = h.3 ∙ sym o.3
 one_reason Name w r q h o = h.1 ∙ sym o.1
 
--- ---- one word more
+-- ---- one more word
 
 pub said_more : (sorts : List Sort) (ws : List (List ℕ)) (ms : List Meaning) (s : Sort) (w : List ℕ) (m : Meaning) → AreSaid sorts ws ms → Says s w m
     → AreSaid (sorts ++ s ∷ []) (ws ++ w ∷ []) (ms ++ m ∷ [])
@@ -116,7 +116,7 @@ offends_back [] (y ∷ ys) s w r e h = absurd (omega (arith, e))
 offends_back (x ∷ xs) [] s w r e h = absurd (omega (arith, e))
 offends_back (x ∷ xs) (y ∷ ys) s w r e h = inr (offends_back xs ys s w r (omega (arith, e)) h)
 
--- words that say something aren't at fault
+-- words with values have no reason
 pub words_fine : (sorts : List Sort) (ws : List (List ℕ)) (ms : List Meaning) (r : ScriptReason) → AreSaid sorts ws ms → OneOffends sorts ws r → ⊥
 words_fine [] ws ms r h o = absurd o
 words_fine (x ∷ xs) [] ms r h o = absurd o
@@ -131,7 +131,7 @@ said_count (x ∷ xs) [] ms h = absurd h
 said_count (x ∷ xs) (y ∷ ys) [] h = absurd h
 said_count (x ∷ xs) (y ∷ ys) (z ∷ zs) h = omega (arith, said_count xs ys zs h.1)
 
--- ---- what is known of the words so far
+-- ---- the state of the words so far
 
 abbrev pub IsState : List Sort → List (List ℕ) → List Said → Option ScriptReason → Type 0
 IsState sorts ws said None = AreSaid sorts ws (meanings_of said)
@@ -187,14 +187,14 @@ state_by : (sorts : List Sort) (ws : List (List ℕ)) (said : List Said) (s : So
 state_by sorts ws said s w r q true e count h o = first_kept sorts ws s w r q count h o (leb-true (order_of r) (order_of q) e)
 state_by sorts ws said s w r q false e count h o = first_new sorts ws s w r q count h o (let past : order_of q < order_of r = grind arith in omega (arith, past))
 
--- one word more that says something
+-- one more word with a value
 pub state_said : (sorts : List Sort) (ws : List (List ℕ)) (said : List Said) (first : Option ScriptReason) (s : Sort) (w : List ℕ) (one : Said) → length ws ≡ length sorts
     → IsState sorts ws said first → Says s w (meaning_of one) → IsState (sorts ++ s ∷ []) (ws ++ w ∷ []) (said ++ one ∷ []) first
 state_said sorts ws said None s w one count h says =
     subst (AreSaid (sorts ++ s ∷ []) (ws ++ w ∷ [])) (sym (map_push meaning_of said one)) (said_more sorts ws (meanings_of said) s w (meaning_of one) h says)
 state_said sorts ws said (Some r) s w one count h says = first_stays sorts ws s w (meaning_of one) r count h says
 
--- one word more that is at fault
+-- one more word with a reason
 pub state_offends : (sorts : List Sort) (ws : List (List ℕ)) (said : List Said) (first : Option ScriptReason) (s : Sort) (w : List ℕ) (q : ScriptReason) → length ws ≡ length sorts
     → IsState sorts ws said first → Offends s w q → IsState (sorts ++ s ∷ []) (ws ++ w ∷ []) said (Some (earlier first q))
 state_offends sorts ws said None s w q count h o = first_here sorts ws (meanings_of said) s w q count h o
@@ -231,7 +231,7 @@ pub whole_first : (sorts : List Sort) (ws : List (List ℕ)) (said : List Said) 
 whole_first sorts ws said first i r past few within to state some =
     first_word_at_fault sorts ws r (omega (arith, past, few, within, to)) (subst (IsState sorts ws said) some (state_of_all sorts ws said first i past few state))
 
--- one sort more, and one word more
+-- one more sort, and one more word
 pub next_sort : (sorts : List Sort) (i : ℕ) (d : Sort) → i < length sorts → take (i + 1) sorts ≡ take i sorts ++ get_or sorts i d ∷ []
 next_sort sorts i d within = take_more sorts i d within
 

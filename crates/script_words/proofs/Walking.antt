@@ -24,7 +24,7 @@ has_word (x ∷ xs) =
 
 -- ---- the form
 
--- the words end before the sorts
+-- the words end before the sorts do
 pub form_short : (sorts : List Sort) (i : ℕ) (rest : Option (Bor (List ℕ))) (b : Bool) → i < length sorts
     → rest ≡ None → has_form (drop i sorts) (words_in rest) ≡ b → false ≡ b
 form_short sorts i rest b within none so_far =
@@ -69,7 +69,7 @@ next {X} xs i y ys e = elim (cases_lt i (length xs)) [
   | inr past ↦ (let none : [] ≡ y ∷ ys = sym (drop_all i xs past) ∙ e in absurd cc)
 ]
 
--- what is left of a line's words, behind some of them
+-- the remainder of a line's words, after some of them
 pub left_none : (ws : List (List ℕ)) (i : ℕ) (rest : Option (Bor (List ℕ))) → drop i ws ≡ words_in rest → rest ≡ None → length ws ≤ i
 left_none ws i rest is none =
     let e : length (drop i ws) ≡ 0 = ap length (is ∙ ap words_in none) in

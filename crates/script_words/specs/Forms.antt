@@ -1,4 +1,4 @@
--- The forms of lines, as a table: the sorts of their words (this project's own).
+-- The list of line forms: the kinds of their words (this project's own).
 use Rattle.std.specs.Prelude.{ℕ, ◌-◌, ◌^◌, List, [], ◌∷◌, Option}
 use Rattle.std.specs.List.{find}
 use Rattle.mrpc_table.specs.declared.limits.TheConstants.{MIN_HEAP, MAX_HEAP}
@@ -9,46 +9,46 @@ use Rattle.script_words.specs.declared.keyword.Keyword.TheVariants.{Access, Atta
 use Rattle.script_words.specs.declared.sort.Sort.{Sort}
 use Rattle.script_words.specs.declared.sort.Sort.TheVariants.{Key, Fixed, Either, Number, Unbounded, Value, Name}
 
--- ---- numbers
+-- ---- ranges of numbers
 
--- of a connection
+-- the number of a connection
 abbrev pub conn : Sort
 conn = Number 1 16
 
--- of 64 bits
+-- any 64-bit number
 abbrev pub any : Sort
 any = Number 0 (2 ^ 64 - 1)
 
 abbrev pub method : Sort
 method = Number 0 65535
 
--- of the request that a reply answers
+-- the number of the request that a reply answers
 abbrev pub request : Sort
 request = Number 1 (2 ^ 32 - 1)
 
--- milliseconds on a clock
+-- a timestamp in milliseconds
 abbrev pub moment : Sort
 moment = Number 0 (2 ^ 53)
 
--- of the words of a heap
+-- the size of a heap, in words
 abbrev pub heap : Sort
 heap = Number MIN_HEAP MAX_HEAP
 
--- milliseconds of a window or a rate
+-- the length of a window or a period, in milliseconds
 abbrev pub per : Sort
 per = Number 1 86400000
 
--- calls, of a rate and at once
+-- calls of a rate, and of its burst
 abbrev pub calls : Sort
 calls = Number 1 1000000
 
--- how many tickets pass
+-- the cap of a quota: how many tickets it allows
 abbrev pub cap : Sort
 cap = Number 0 (2 ^ 32 - 1)
 
--- ---- the table
+-- ---- the forms
 
--- places and positions are numbers of any size: which of them there are depends on the lines before
+-- places and positions are numbers of any size, because earlier lines determine their ranges
 abbrev pub sorts_of : Form → List Sort
 sorts_of form.Store = Key Store ∷ conn ∷ Unbounded ∷ Value ∷ []
 sorts_of form.Submit = Key Submit ∷ conn ∷ method ∷ any ∷ []
@@ -76,6 +76,6 @@ all_forms =
     ∷ form.Detach ∷ form.Upgrade ∷ form.Conn ∷ form.Tenant ∷ form.Access ∷ form.Rate ∷ form.Quota ∷ form.Count
     ∷ form.Redact ∷ form.Close ∷ []
 
--- the form of a line with these words; none where they are of no form
+-- the form of a line with these words; none if they fit no form
 abbrev pub form_in : List (List ℕ) → Option Form
 form_in words = find (λ f. has_form (sorts_of f) words) all_forms

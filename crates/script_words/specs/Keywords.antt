@@ -1,4 +1,4 @@
--- The words that stand in lines as they are.
+-- The fixed words of lines.
 use Rattle.std.specs.Prelude.{ℕ, List, codes}
 use Rattle.script_words.specs.declared.keyword.Keyword.{Keyword}
 use Rattle.script_words.specs.declared.keyword.Keyword.TheVariants.{Access, Attach, Burst, Cap, Close, Conn, Count, Deny, Detach, Drain, Hold, Moment, Per, Policy, Quota, Race, Rate, Redact, Send, Store, Submit, Tenant, Turn, Upgrade}

@@ -1,4 +1,4 @@
--- What its words say (this project's own).
+-- The meanings of a line's words (this project's own).
 use Rattle.std.specs.Prelude.{List, map}
 use Rattle.script_words.specs.Sorts.{Meaning, word, number, unbounded, name}
 use Rattle.script_words.specs.declared.sort.Said.{Said}

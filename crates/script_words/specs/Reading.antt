@@ -1,4 +1,4 @@
--- The code's own: what it finds a word to store, or a larger number where it is out of range.
+-- The code's own: the value that the code finds a word to store; Large if it is out of range.
 use Rattle.std.specs.Prelude.{ℕ, ◌-◌, ◌%◌, ◌^◌, ◌==◌, nat_le, Bool, false, ◌&&◌, if◌then◌else◌, List, [], ◌∷◌, drop, Option, Some, None, option_map}
 use Rattle.std.specs.Str.Parse.{digits_value}
 use Rattle.mrpc_table.specs.Lines.{number_of, in_64_bits}

@@ -1,4 +1,4 @@
--- The reasons of faults: their words, their order, and those of tables and of policies among them.
+-- The reasons of faults: their words, their order, and the reasons of tables and policies among them.
 use Rattle.std.specs.Prelude.{ℕ, ◌≤◌, List, codes}
 use Rattle.mrpc_table.specs.declared.policy_lines.RuleReason.{RuleReason}
 use Rattle.mrpc_table.specs.declared.policy_lines.RuleReason.TheVariants as rule
@@ -31,7 +31,7 @@ reason_word Work = codes "Work"
 reason_word Close = codes "Close"
 reason_word After = codes "After"
 
--- of several reasons at one line the first in this order counts
+-- among several reasons of one line, the one with the lowest rank counts
 abbrev pub order_of : ScriptReason → ℕ
 order_of Header = 0
 order_of Syntax = 1
@@ -56,7 +56,7 @@ order_of Work = 19
 order_of Close = 20
 order_of After = 21
 
--- of the reasons that stand, this is the first
+-- of all reasons that apply, this is the first
 pub record IsFirst (Stands : ScriptReason → Type 0) (reason : ScriptReason) : Type 0 where
   pub stands : Stands reason
   pub first : (other : ScriptReason) → Stands other → order_of reason ≤ order_of other

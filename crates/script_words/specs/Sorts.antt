@@ -1,4 +1,4 @@
--- What a word of a sort says, and what stands against it (this project's own).
+-- The meanings and the faults of a word, by its kind (this project's own).
 use Rattle.std.specs.Prelude.{◌≡◌, ◌≢◌, ◌⊎◌, ℕ, List, [], Option, Some, None, slice_get}
 use Rattle.mrpc_table.specs.Lines.{IsIn, in_64_bits}
 use Rattle.mrpc_table.specs.Names.{IsName}
@@ -12,14 +12,14 @@ use Rattle.script_words.specs.declared.sort.Sort.TheVariants as sort
 use Rattle.script_words.specs.declared.fault.ScriptReason.{ScriptReason}
 use Rattle.script_words.specs.declared.fault.ScriptReason.TheVariants.{Number, Word, Name}
 
--- what a word says: it is one of the words of forms, or a number, or a number of any size, or a name
+-- the meaning of a word, its value: a fixed word, a number, a number of any size, or a name
 pub data Meaning : Type 0 where
   word : Keyword → Meaning
   number : ℕ → Meaning
   unbounded : Decimal → Meaning
   name : List ℕ → Meaning
 
--- a word of the sort says this
+-- a word of the sort has this meaning
 abbrev pub Says : Sort → List ℕ → Meaning → Type 0
 Says (sort.Key k) w (word l) = (l ≡ k) × (w ≡ spelling k)
 Says (sort.Fixed k) w (word l) = (l ≡ k) × (w ≡ spelling k)
@@ -30,7 +30,7 @@ Says sort.Value w (number n) = (v : Value) × IsValue w v × Fits v × (n ≡ wo
 Says sort.Name w (name x) = (x ≡ w) × IsName w
 Says _ w _ = ⊥
 
--- a reason stands against a word of the sort
+-- a word is not one of the sort, for this reason
 abbrev pub Offends : Sort → List ℕ → ScriptReason → Type 0
 Offends (sort.Key k) w reason = (w ≢ spelling k) × (reason ≡ Word)
 Offends (sort.Fixed k) w reason = (w ≢ spelling k) × (reason ≡ Word)
@@ -43,7 +43,7 @@ Offends sort.Value w reason =
     (((v : Value) → IsValue w v → ⊥) × (reason ≡ Word)) ⊎ ((v : Value) × IsValue w v × (Fits v → ⊥) × (reason ≡ Number))
 Offends sort.Name w reason = (IsName w → ⊥) × (reason ≡ Name)
 
--- ---- what the word at a place says, counted from 0
+-- ---- the meaning of the word at an index, counted from 0
 
 abbrev pub number_in : Option Meaning → ℕ
 number_in (Some (number n)) = n

@@ -4,11 +4,11 @@ use Rattle.std.specs.List.{list_all}
 use Rattle.std.specs.Str.Parse.{digits_value}
 use Rattle.mrpc_table.specs.Lines.{number_of}
 
--- decimal digits without a leading zero, however many
+-- decimal digits without a leading zero, of any length
 abbrev pub IsNumber : List ℕ → ℕ → Type 0
 IsNumber word n = number_of word ≡ Some n
 
--- a value, as a line writes it: in decimal digits, in decimal digits behind `-`, in hexadecimal digits behind `0x`
+-- a value, as a line writes it: decimal digits, `-` and decimal digits, or `0x` and hexadecimal digits
 pub data Value : Type 0 where
   plain : (n : ℕ) → Value
   negative : (n : ℕ) → Value
@@ -27,13 +27,13 @@ IsValue word (plain n) = IsNumber word n
 IsValue word (negative n) = (digits : List ℕ) × (word ≡ 45 ∷ digits) × IsNumber digits n
 IsValue word (hexadecimal digits) = (word ≡ codes "0x" ++ digits) × (are_hexadecimal digits ≡ true)
 
--- it has 64 bits; a number below zero goes down to -2^63
+-- it fits 64 bits; a negative number is at least -2^63
 abbrev pub Fits : Value → Type 0
 Fits (plain n) = n < 2 ^ 64
 Fits (negative n) = n ≤ 2 ^ 63
 Fits (hexadecimal digits) = Unit {0}
 
--- what is stored: below zero in two's complement
+-- the 64 bits that are stored: two's complement for a negative number
 abbrev pub word_of : Value → ℕ
 word_of (plain n) = n
 word_of (negative n) = (2 ^ 64 - n) % 2 ^ 64

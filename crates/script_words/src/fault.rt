@@ -1,4 +1,4 @@
-//! Why a text of lines is none.
+//! Faults of a text of lines.
 
 ghost use Rattle.std.specs.Prelude.{◌≡◌};
 ghost use Rattle.script_words.specs.Reasons.{reason_word, order_of, of_table, of_rule};
@@ -9,69 +9,70 @@ use std::fmt;
 use table_text::TableReason;
 use thiserror::Error;
 
-/// What is wrong with a line. Of several reasons at one line, the first of this list counts.
+/// The reason of a fault in a line. Among several reasons of one line, the first in this list counts.
 #[derive(Clone, Copy, Debug)]
 pub enum ScriptReason {
-    /// The first line isn't the one that names the format.
+    /// The first line doesn't name the format.
     Header,
-    /// In the table: the form or order of its lines, a label that doesn't go with its kind, or an enum without a value.
+    /// In the table: the form or order of its lines, a label that its kind doesn't allow, or an enum without a value.
     Syntax,
-    /// A number out of its range, a 17th tenant, or in the table an enum without 0 or a method's index out of turn.
+    /// A number is out of range, or the tenant is the 17th. In the table also: an enum lacks 0, or the index of a
+    /// method is out of sequence.
     Number,
-    /// In the table: a name or a field number that stands twice.
+    /// In the table: a duplicate name or field number.
     Duplicate,
-    /// In the table: a message or an enum that no line of it names.
+    /// In the table: a reference to a message or an enum that the table doesn't declare.
     UnknownType,
     /// In the table: a map key that is neither integral, nor a bool, nor a string.
     MapKey,
-    /// In the table: one of its limits.
+    /// In the table: one of its limits is exceeded.
     Limit,
-    /// A line of no form, a word that doesn't have the form of its sort, a policy or a table without its `end`, or a
-    /// last line without its line feed.
+    /// The line has no form, a word doesn't have the form of its sort, a policy or a table lacks its `end`, or the last
+    /// line lacks its line feed.
     Word,
-    /// A word that is no name of at most 64 bytes, where a name stands.
+    /// A word that has to be a name isn't a name of at most 64 bytes.
     Name,
-    /// What the line declares or opens, or the name of the rule, stands before.
+    /// The line declares or opens something a second time, or the name of the rule is already in use.
     Known,
-    /// What the line uses isn't declared or open.
+    /// The line uses something that isn't declared or open.
     Unknown,
-    /// A method or a field that the table lacks, or an OP that doesn't go with the field.
+    /// The table lacks the method or the field, or the operator isn't one for that field.
     Path,
-    /// A line behind the default of a policy, or no default.
+    /// A line follows the default of a policy, or the policy has no default.
     Default,
-    /// A place that isn't one of the connection's heap, or a race before load 0.
+    /// The place isn't in the connection's heap, or the load of a race is 0.
     Place,
     /// No entry of the chain has the name.
     NoSuch,
-    /// An entry of the chain has the name.
+    /// An entry of the chain already has the name.
     Taken,
     /// The chain has no such position.
     At,
-    /// The chain has 8 entries.
+    /// The chain already has 8 entries.
     ChainFull,
     /// The entry has a policy of another kind.
     OtherKind,
-    /// The submissions so far could load too much.
+    /// The submissions up to this line could load too much.
     Work,
-    /// The text ends, and its last line is missing.
+    /// The text ends without its last line.
     Close,
-    /// A line behind `close`.
+    /// A line follows `close`.
     After,
 }
 
-/// Why no text was read.
+/// Why a text couldn't be read.
 #[derive(Clone, Copy, Debug, Error)]
 pub enum ScriptFault {
-    /// The first line at fault, from 1, with its first reason.
+    /// The first line with a fault, counted from 1, and its first reason.
     #[error("fault {line} {reason}")]
     At { line: u64, reason: ScriptReason },
-    /// No memory was found.
+    /// Out of memory.
     #[error("out of memory")]
     Memory,
 }
 
 impl ScriptReason {
-    /// The word that names the reason in a printed fault.
+    /// The word that names the reason in the text of a fault.
     pub fn word(self) -> &'static str
         ensures { result.now ≡ reason_word self }
     {
@@ -101,14 +102,14 @@ impl ScriptReason {
         }
     }
 
-    /// Its place in the order: of two reasons the one with the lower number counts.
+    /// Its rank in the order: among several reasons, the one with the lowest rank counts.
     pub fn order(self) -> u8
         ensures { result ≡ order_of self }
     {
         self as u8
     }
 
-    /// The reason of a table's line, as one of the text that the table stands in.
+    /// Maps the reason of a table's line to the reason of the text that contains the table.
     pub fn of_table(reason: TableReason) -> ScriptReason
         ensures { result ≡ of_table reason }
     {
@@ -122,7 +123,7 @@ impl ScriptReason {
         }
     }
 
-    /// The reason of a policy's line, as one of the text that the policy stands in.
+    /// Maps the reason of a policy's line to the reason of the text that contains the policy.
     pub fn of_rule(reason: RuleReason) -> ScriptReason
         ensures { result ≡ of_rule reason }
     {

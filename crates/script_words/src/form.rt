@@ -1,4 +1,4 @@
-//! The forms of lines, as a table.
+//! The list of line forms.
 
 ghost use Rattle.std.specs.Prelude.{◌≡◌, ◌≤◌, length};
 ghost use Rattle.mrpc_table.specs.Lines.{words_of};
@@ -39,7 +39,7 @@ pub enum Form {
     Conn,
     /// `tenant NAME PER`
     Tenant,
-    /// `policy NAME access`, in front of rules and `end`
+    /// `policy NAME access`, followed by rules and `end`
     Access,
     /// `policy NAME rate N per P burst B hold|deny`
     Rate,
@@ -47,7 +47,7 @@ pub enum Form {
     Quota,
     /// `policy NAME count`
     Count,
-    /// `policy NAME redact`, in front of clears and `end`
+    /// `policy NAME redact`, followed by clears and `end`
     Redact,
     /// `close`
     Close,
@@ -78,7 +78,7 @@ const FORMS: [Form; 19] = [
 // The number of a connection.
 const CONN: Sort = Sort::Number { least: 1, most: 16 };
 
-// Any number of 64 bits.
+// Any 64-bit number.
 const NUMBER: Sort = Sort::Number {
     least: 0,
     most: u64::MAX,
@@ -89,13 +89,13 @@ const METHOD: Sort = Sort::Number {
     most: 65535,
 };
 
-// The number of the request to which a reply belongs.
+// The number of the request that a reply answers.
 const REQUEST: Sort = Sort::Number {
     least: 1,
     most: 0xffff_ffff,
 };
 
-// A moment in milliseconds.
+// A timestamp in milliseconds.
 const MOMENT: Sort = Sort::Number {
     least: 0,
     most: 1 << 53,
@@ -106,13 +106,13 @@ const WORDS: Sort = Sort::Number {
     most: MAX_HEAP,
 };
 
-// The milliseconds of a window, or of a rate.
+// The length of a quota window or of a rate's period, in milliseconds.
 const MILLISECONDS: Sort = Sort::Number {
     least: 1,
     most: 86_400_000,
 };
 
-// How many calls.
+// A number of calls.
 const CALLS: Sort = Sort::Number {
     least: 1,
     most: 1_000_000,
@@ -124,7 +124,7 @@ const CAP: Sort = Sort::Number {
 };
 
 impl Form {
-    /// The sorts of its words.
+    /// The sorts of its words, in order.
     pub fn sorts(self) -> &'static [Sort]
         ensures sorts { result.now ≡ sorts_of self }
         ensures few { length result.now ≤ 9 }
@@ -170,8 +170,7 @@ impl Form {
     }
 }
 
-// Whether a word may stand where one of this sort stands in a form: it is the one by which the form is known, if it
-// has to be.
+// Returns false only if the sort is a key word and this isn't that word.
 fn fits_key(sort: Sort, word: &[u8]) -> bool
     ensures { result ≡ fits_key sort word.now }
 {
@@ -181,7 +180,7 @@ fn fits_key(sort: Sort, word: &[u8]) -> bool
     }
 }
 
-// Whether a line is of the form of these sorts: it has as many words, and those by which the form is known.
+// Returns true if the line has as many words as `sorts` and each key word matches.
 fn has_form(sorts: &[Sort], line: &[u8]) -> bool
     ensures { result ≡ has_form sorts.now (words_of line.now) }
 {
@@ -199,8 +198,8 @@ fn has_form(sorts: &[Sort], line: &[u8]) -> bool
     rest.is_none()
 }
 
-/// The form of a line, by its number of words and by those by which a form is known; none where it has no form.
-/// What its other words are isn't asked. It takes time in proportion to the line.
+/// Returns the form of a line, by the number of its words and by its key words; `None` if it has no form. Other words
+/// aren't checked. The time is linear in the length of the line.
 pub fn form_of(line: &[u8]) -> Option<Form>
     ensures { result ≡ form_in (words_of line.now) }
 {

@@ -1,4 +1,4 @@
-//! The words of a line, each judged by its sort.
+//! Checks each word of a line against its sort.
 
 ghost use Rattle.std.specs.Prelude.{◌≡◌, ◌≤◌, length, Some, MatchResult};
 ghost use Rattle.mrpc_table.specs.Lines.{words_of};
@@ -16,10 +16,10 @@ use crate::words::first_word;
 use arrayvec::ArrayVec;
 use mrpc_table::{Decimal, is_name, number_of};
 
-/// The most words that a form has.
+/// The largest number of words that a form has.
 pub const MAX_WORDS: usize = 9;
 
-/// What the words of a line say, one by one.
+/// The values of the words of a line, in order.
 pub type Judged<'a> = ArrayVec<Said<'a>, MAX_WORDS>;
 
 fn fixed_word<'a>(keyword: Keyword, word: &'a [u8]) -> Result<Said<'a>, ScriptReason>
@@ -93,7 +93,7 @@ fn named<'a>(word: &'a [u8]) -> Result<Said<'a>, ScriptReason>
     }
 }
 
-// What a word of a sort says, or the reason against it.
+// Returns the value of a word of this sort, or its reason.
 fn said_by<'a>(sort: Sort, word: &'a [u8]) -> Result<Said<'a>, ScriptReason>
     ensures { MatchResult result (λ s. Says sort word.now (meaning_of s)) (Offends sort word.now) }
 {
@@ -108,7 +108,7 @@ fn said_by<'a>(sort: Sort, word: &'a [u8]) -> Result<Said<'a>, ScriptReason>
     }
 }
 
-// The first of the reasons so far and one more.
+// Returns the earlier of two reasons, in the order of `ScriptReason`.
 fn earlier(so_far: Option<ScriptReason>, reason: ScriptReason) -> ScriptReason
     ensures { result ≡ earlier so_far reason }
 {
@@ -118,11 +118,12 @@ fn earlier(so_far: Option<ScriptReason>, reason: ScriptReason) -> ScriptReason
     }
 }
 
-/// What the words of a line say, each judged by its sort, or the first reason against them. A line with another number
-/// of words is [`ScriptReason::Word`] alone. It takes no memory, and time in proportion to the line.
+/// Returns the values of a line's words, each checked against its sort, or the first reason. If the number of words
+/// differs, the only reason is [`ScriptReason::Word`]. It allocates no memory. The time is linear in the length of the
+/// line.
 pub fn judge<'a>(sorts: &[Sort], line: &'a [u8]) -> Result<Judged<'a>, ScriptReason>
     requires { length sorts.now ≤ MAX_WORDS }
-    // The words say this, or the reason is the first one against them.
+    // The words have these values, or this reason is the first one.
     ensures { MatchResult result (λ said. AreSaid sorts.now (words_of line.now) (meanings_of said.items))
         (IsFirst (IsAgainst sorts.now (words_of line.now))) }
 {

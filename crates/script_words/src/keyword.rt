@@ -1,9 +1,9 @@
-//! The words that stand in lines as they are.
+//! The fixed words of lines.
 
 ghost use Rattle.std.specs.Prelude.{◌≡◌, ◌↔◌, IsTrue};
 ghost use Rattle.script_words.specs.Keywords.{spelling};
 
-/// A word that stands in lines as it is.
+/// A fixed word of lines.
 #[derive(Clone, Copy)]
 pub enum Keyword {
     Access,
@@ -65,7 +65,7 @@ impl Keyword {
         }
     }
 
-    /// Whether a word is this one.
+    /// Returns true if a word is this one.
     pub fn is(self, word: &[u8]) -> bool
         ensures { IsTrue result ↔ (word.now ≡ spelling self) }
     {

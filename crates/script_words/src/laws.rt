@@ -1,4 +1,4 @@
-//! Laws of words. These functions do nothing; their clauses hold.
+//! Laws of words. These functions do nothing; each contract is a law.
 
 ghost use Rattle.std.specs.Prelude.{◌≡◌, ◌≤◌, ◌⊎◌, ℕ, List};
 ghost use Rattle.script_words.specs.Reasons.{order_of, IsFirst};
@@ -7,11 +7,12 @@ ghost use Rattle.script_words.specs.Sorts.{Meaning};
 ghost use Rattle.script_words.specs.declared.fault.ScriptReason.{ScriptReason};
 ghost use Rattle.script_words.specs.declared.sort.Sort.{Sort};
 
-/// Words that are to be of some sorts say one list, or there is one first reason against them, and never both.
+/// The words of a line, under a list of sorts, have exactly one list of values, or exactly one first reason, never
+/// both.
 pub fn one_judgement()
     ensures one { (sorts : List Sort) (words : List (List ℕ)) (ms ns : List Meaning)
         → AreSaid sorts words ms → AreSaid sorts words ns → ms ≡ ns }
-    // Reasons are in one order.
+    // No two reasons have the same rank.
     ensures order { (r q : ScriptReason) → order_of r ≤ order_of q → order_of q ≤ order_of r → r ≡ q }
     ensures either { (sorts : List Sort) (words : List (List ℕ))
         → ((ms : List Meaning) × AreSaid sorts words ms)

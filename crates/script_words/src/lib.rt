@@ -1,11 +1,12 @@
-//! Lines of words: which words a line of a form has, what they say, and what is wrong with them.
+//! The grammar of lines of words: the form of a line, the values of its words, and the faults of a line.
 //!
-//! A [`Form`] is a row of one table: its words, each of a [`Sort`]. [`form_of`] finds the form of a line by the words
-//! by which a form is known, and [`judge`] judges each word by its sort: it gives what the words say, or the first
-//! reason against them, in the order of [`ScriptReason`]. `specs/Forms.antt` has the table, `specs/Sorts.antt` says
-//! what a word of a sort says and what stands against it, and `specs/Lines.antt` the same of a line. It stands on
-//! `mrpc_table` and `table_text`. The layers above use one contract: words of some sorts say one list, or one reason
-//! comes first.
+//! A [`Form`] lists the words of a line, each by its [`Sort`]. [`form_of`] recognizes the form of a line by its key
+//! words. [`judge`] then checks each word against its sort. It returns the values of the words, or the first reason in
+//! the order of [`ScriptReason`].
+//!
+//! `specs/Forms.antt` has the list of forms. `specs/Sorts.antt` defines the value and the faults of one word, and
+//! `specs/Lines.antt` those of a line. The crate depends on `mrpc_table` and `table_text`. Its one contract for the
+//! layers above: the words of a line have exactly one list of values, or exactly one first reason.
 #![tactic(auto)]
 
 mod fault;

@@ -1,4 +1,4 @@
-//! What a word at a place of a line says. The forms of lines tell which words say what.
+//! The value of a word, by its index in the line. Which words have which values follows from the form.
 
 ghost use Rattle.std.specs.Prelude.{◌≡◌};
 ghost use Rattle.script_words.specs.Sorts.{number_at, name_at, unbounded_at, keyword_at};
@@ -8,7 +8,7 @@ use crate::keyword::Keyword;
 use crate::sort::Said;
 use mrpc_table::Decimal;
 
-/// The number that the word at a place says, counted from 0; 0 where it says none.
+/// Returns the number at an index, counted from 0; 0 if the word there isn't a number.
 pub fn number_at(words: &[Said<'_>], place: usize) -> u64
     ensures { result ≡ number_at (meanings_of words.now) place }
 {
@@ -18,7 +18,7 @@ pub fn number_at(words: &[Said<'_>], place: usize) -> u64
     }
 }
 
-/// The number of any size that the word at a place says, counted from 0; 0 where it says none.
+/// Returns the unbounded number at an index, counted from 0; 0 if the word there isn't one.
 pub fn unbounded_at(words: &[Said<'_>], place: usize) -> Decimal
     ensures { result ≡ unbounded_at (meanings_of words.now) place }
 {
@@ -28,7 +28,7 @@ pub fn unbounded_at(words: &[Said<'_>], place: usize) -> Decimal
     }
 }
 
-/// The name that the word at a place says, counted from 0; no bytes where it says none.
+/// Returns the name at an index, counted from 0; empty if the word there isn't a name.
 pub fn name_at<'a>(words: &[Said<'a>], place: usize) -> &'a [u8]
     ensures { result.now ≡ name_at (meanings_of words.now) place }
 {
@@ -38,7 +38,7 @@ pub fn name_at<'a>(words: &[Said<'a>], place: usize) -> &'a [u8]
     }
 }
 
-/// The word of forms that stands at a place, counted from 0; none where another word stands.
+/// Returns the fixed word at an index, counted from 0; `None` if another kind of word is there.
 pub fn keyword_at(words: &[Said<'_>], place: usize) -> Option<Keyword>
     ensures { result ≡ keyword_at (meanings_of words.now) place }
 {

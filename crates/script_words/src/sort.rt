@@ -1,43 +1,42 @@
-//! What a word of a line has to be, and what it says.
+//! Kinds of words, and values of words.
 
 use crate::keyword::Keyword;
 use mrpc_table::Decimal;
 
-/// What a word of a line has to be.
+/// The kind of a word in a line form: which words may be in its place.
 #[derive(Clone, Copy)]
 pub enum Sort {
-    /// This word, by which the form of the line is known.
+    /// Exactly this word; a form is recognized by such words.
     Key(Keyword),
-    /// This word.
+    /// Exactly this word.
     Fixed(Keyword),
     /// One of these two words.
     Either(Keyword, Keyword),
-    /// A decimal number, from the least to the most.
+    /// A decimal number in the range `least..=most`.
     Number { least: u64, most: u64 },
-    /// A decimal number of any size: a place of a heap or a position on a chain. Which ones there are depends on the
-    /// lines before.
+    /// A decimal number of any size: a place of a heap or a position of a chain. Earlier lines determine its range.
     Unbounded,
-    /// A value of 64 bits that is stored: decimal digits, decimal digits behind `-` down to -2^63, or 1 to 16
-    /// lower-case hexadecimal digits behind `0x`.
+    /// A 64-bit value to store: decimal digits, `-` and decimal digits down to -2^63, or `0x` and 1 to 16 lower-case
+    /// hexadecimal digits.
     Value,
-    /// A name: a letter or `_`, then letters, digits and `_`, 64 bytes at most.
+    /// A name: a letter or `_`, then letters, digits and `_`, at most 64 bytes.
     Name,
 }
 
-/// What a word of a line says.
+/// The value of a word.
 #[derive(Clone, Copy)]
 pub enum Said<'a> {
-    /// It is this word.
+    /// A fixed word.
     Word(Keyword),
-    /// It is this number, or stands for these 64 bits.
+    /// A number in its range, or the 64 bits of a value to store.
     Number(u64),
-    /// It is this number, which has any size.
+    /// A number of any size.
     Unbounded(Decimal),
-    /// It is this name.
+    /// A name.
     Name(&'a [u8]),
 }
 
-/// What stands in the unused places for words.
+/// The value of unused slots in an array of words.
 impl<'a> Default for Said<'a> {
     fn default() -> Said<'a> {
         Said::Number(0)

@@ -7,7 +7,7 @@ ghost use Rattle.script_words.specs.Reading.{negated, hexadecimal_in, value_in};
 
 use mrpc_table::{Decimal, number_of};
 
-// A number below zero in two's complement, down to -2^63.
+// The two's complement of a negated number; `Large` below -2^63.
 fn negated(number: Decimal) -> Decimal
     ensures { result ≡ negated number }
 {
@@ -17,7 +17,7 @@ fn negated(number: Decimal) -> Decimal
     }
 }
 
-// The value of a lower-case hexadecimal digit.
+// Returns the value of a lower-case hexadecimal digit.
 fn hexadecimal_digit(byte: u8) -> Option<u64>
     ensures { result ≡ (if is_hexadecimal byte then Some (digit_value byte) else None) }
 {
@@ -28,7 +28,7 @@ fn hexadecimal_digit(byte: u8) -> Option<u64>
     }
 }
 
-// The number that 1 to 16 hexadecimal digits spell.
+// Returns the number that 1 to 16 hexadecimal digits spell.
 fn hexadecimal(digits: &[u8]) -> Option<Decimal>
     ensures { result ≡ hexadecimal_in digits.now }
 {
@@ -45,7 +45,7 @@ fn hexadecimal(digits: &[u8]) -> Option<Decimal>
     Some(Decimal::Small(word))
 }
 
-// What a word stores: a number of 64 bits, or a larger one where it is out of range; none where it has no such form.
+// Returns the 64 bits that a word stores, or `Large` if the value is out of range; `None` if the word isn't a value.
 pub(crate) fn value_of(word: &[u8]) -> Option<Decimal>
     ensures { result ≡ value_in word.now }
 {

@@ -1,4 +1,4 @@
-//! The words of a line, from the left.
+//! Splits a line into its words, from the left.
 
 ghost use Rattle.std.specs.Prelude.{◌≡◌, ◌∷◌};
 ghost use Rattle.mrpc_table.specs.Lines.{words_of};
@@ -6,10 +6,10 @@ ghost use Rattle.script_words.specs.Rests.{words_in};
 
 use mrpc_table::cut;
 
-/// What is left of a line behind some of its words: the words behind a space, or nothing.
+/// The remainder of a line after some of its words: the text after a space, or `None` at the end of the line.
 pub type Rest<'a> = Option<&'a [u8]>;
 
-/// The first word, and what is left behind it.
+/// Returns the first word, and the remainder after it.
 pub fn first_word(text: &[u8]) -> (&[u8], Rest<'_>)
     ensures { words_of text.now ≡ result.0.now ∷ words_in result.1 }
 {

@@ -1,4 +1,4 @@
--- What entries of access and counts answer, and what the form of a call is under them.
+-- The answers of access and count entries, and the form of a call under them.
 use Rattle.std.proofs.Common.{◌≡◌, ◌∙◌, ℕ, ◌+◌, ◌≤◌, true, false, cond, ◌&&◌, List, [], ◌∷◌, ◌++◌}
 use Rattle.std.proofs.Common.{length, refl, sym, ap, subst, arith}
 use Rattle.std.specs.Prelude.{All, Option, Some, IsSomeAnd}
@@ -21,7 +21,7 @@ use Rattle.sent_calls.proofs.Numbers.{few-numbers, numbered}
 
 -- ---- answers
 
--- the answers that entries of access and counts give
+-- the answers of access and count entries
 abbrev pub IsPlainAnswer : Answer → Type 0
 IsPlainAnswer pass = Unit {0}
 IsPlainAnswer (deny rule) = Unit {0}
@@ -64,7 +64,7 @@ passes policy left now call past plain (counts is none e) = absurd cc
 passes policy left now call past plain (is_clear clears is same e) = absurd (subst IsPlain is plain)
 passes policy left now call past plain (redacts clears is other e) = absurd cc
 
--- one that denies it doesn't
+-- an entry that denies a call doesn't permit it
 pub not-permitted : (policy : Policy) (left now : ℕ) (call : Call) (past : Past) (rule : ℕ)
     → Answers policy left now call past (deny rule) → permits policy call ≡ false
 not-permitted policy left now call past rule (allows p is so e) = absurd cc

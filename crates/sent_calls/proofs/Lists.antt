@@ -1,4 +1,4 @@
--- Lists of which some elements are kept.
+-- Lists from which some elements are kept.
 use Rattle.std.proofs.Common.{◌≡◌, ◌∙◌, Bool, true, false, cond, List, [], ◌∷◌, ◌++◌, length, refl, ap, arith, length-append}
 use Rattle.std.specs.Prelude.{All, Option, Some, None, filter, IsSomeAnd}
 use Rattle.std.specs.List.{filter_map}
@@ -43,7 +43,7 @@ none-left {A} p (x ∷ xs) e =
     ] in
     given (p x) refl e
 
--- the first element that is kept, and those in front of it
+-- the first element that is kept, and those before it
 pub record First {A : Type 0} (p : A → Bool) (xs : List A) (first : A) : Type 0 where
   pub front : List A
   pub back : List A
@@ -75,7 +75,7 @@ pub last-kept : {A : Type 0} (b : Bool) (x : A) → cond b (x ∷ []) [] ≡ x �
 last-kept true x e = refl
 last-kept false x e = absurd (omega (arith, ap length e))
 
--- ---- what is given of the elements
+-- ---- the images of the elements
 
 pub one-given : {A B : Type 0} (h : A → Option B) (x : A) (y : B) → h x ≡ Some y → filter_map h (x ∷ []) ≡ y ∷ []
 one-given h x y e = rw e refl

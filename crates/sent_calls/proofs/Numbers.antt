@@ -1,4 +1,4 @@
--- The numbers of the calls that were accepted.
+-- The numbers of accepted calls.
 use Rattle.std.proofs.Common.{◌≡◌, ℕ, ◌+◌, ◌<◌, ◌≤◌, List, [], ◌∷◌, ◌++◌, length, sym, subst, arith}
 use Rattle.std.specs.Prelude.{All}
 use Rattle.std.proofs.lemmas.List.Elements.{All-nil, All-cons, All-weaker}
@@ -8,7 +8,7 @@ use Rattle.call_history.specs.Rules.{Under}
 use Rattle.call_history.specs.declared.happening.Happening.TheVariants.{Took}
 use Rattle.call_history.specs.declared.happening.Taken.{Taken}
 
--- calls are numbered one after another, behind this number
+-- calls are numbered consecutively, after this number
 abbrev pub Numbered : ℕ → List Taken → Type 0
 Numbered last [] = Unit {0}
 Numbered last (call ∷ calls) = (call.seq ≡ last + 1) × Numbered (last + 1) calls
@@ -34,14 +34,14 @@ above last (call ∷ calls) h =
     (All-weaker (λ (c : Taken). last + 1 < c.seq) (λ (c : Taken). last < c.seq) (λ c less. omega (arith, less)) calls
     (above (last + 1) calls h.1))
 
--- the calls behind one have greater numbers
+-- the calls after one have greater numbers
 pub greater-behind : (last : ℕ) (front back : List Taken) (call : Taken) → Numbered last (front ++ call ∷ back)
     → All (λ c. call.seq < c.seq) back
 greater-behind last [] back call h =
     subst (λ (n : ℕ). All (λ (c : Taken). n < c.seq) back) (sym h.0) (above (last + 1) back h.1)
 greater-behind last (x ∷ front) back call h = greater-behind (last + 1) front back call h.1
 
--- no number is above how many there are
+-- no number is greater than this number plus the count of calls
 pub few-numbers : (last : ℕ) (calls : List Taken) → Numbered last calls → All (λ c. c.seq ≤ last + length calls) calls
 few-numbers last [] h = All-nil (λ (c : Taken). c.seq ≤ last + length {A = Taken} [])
 few-numbers last (call ∷ calls) h =

@@ -1,5 +1,5 @@
--- Which calls of a script are sent: its chain set first, of access policies and counts, and a drain behind its last
--- submission.
+-- Which calls of a script are sent, if its chain is set up first, of access and count policies, and a drain follows its
+-- last submission.
 use Rattle.std.proofs.Common.{◌≡◌, ◌≢◌, ◌∙◌, ◌⊎◌, ℕ, Bool, true, false, inl, inr, List, [], ◌∷◌, ◌++◌, map, refl, sym}
 use Rattle.std.proofs.Common.{ap, subst, append_assoc, append-nil}
 use Rattle.std.specs.Prelude.{All, filter}
@@ -123,7 +123,7 @@ leads-history s old end (l ∷ lines) leads =
     let rest = leads-history s leads.0 end lines leads.2 in
     (first.0 ++ rest.0, rest.1 ∙ ap (λ (h : History). h ++ rest.0) first.1 ∙ append_assoc old.history first.0 rest.0)
 
--- ---- what a line makes of a connection's history
+-- ---- the effect of a line on a connection's history
 
 data Moves (conn : ℕ) (l : Line) (old new : State) : Type 0 where
   still : behind conn new.history ≡ behind conn old.history → Moves conn l old new
@@ -164,7 +164,7 @@ step-moves laws s lines others l old new conn script order leads (goes_on one ot
           ∙ laws.apart conn old.history (map (on_connection one.conn) goes.piece) (of-others conn one.conn goes.piece apart))
     ]
 
--- what lines of this kind keep on a connection holds behind them
+-- what lines of this kind preserve on a connection holds after them
 through : Laws → (s : Script) (conn : ℕ) (P : Behind → Type 0) (A : Line → Type 0)
     → ((l : Line) (old new : Opened) → A l → conn_of l ≡ conn → Done l old new → P old.course.past → P new.course.past)
     → (lines others : List Line) (st end : State) → IsScript s → s.lines ≡ lines ++ others → Leads s start lines st
@@ -180,7 +180,7 @@ through laws s conn P A keeps lines (l ∷ others) st end script order leads mor
     through laws s conn P A keeps (lines ++ l ∷ []) others more.0 end script (order ∙ sym (append_assoc lines (l ∷ []) others))
     (leads-push s start st more.0 lines l leads more.1) more.2 (All-tail A l others each) next
 
--- ---- chains that are set first
+-- ---- chains that are set up first
 
 earlier-none : (later past : Behind) → taken (later ++ past) ≡ [] → taken past ≡ []
 earlier-none [] past none = none
@@ -193,7 +193,7 @@ earlier-plain [] past first plain = inr plain
 earlier-plain (Op step ∷ later) past first plain = inl (earlier-none later past first)
 earlier-plain (x ∷ later) past first plain = earlier-plain later past first plain
 
--- ---- behind the drain
+-- ---- after the drain
 
 drained-none : Laws → (s : Script) (conn : ℕ) (front back : List Line) (old new : State) → IsScript s
     → s.lines ≡ front ++ line.Drain conn ∷ back → Leads s start front old → Step s old (line.Drain conn) new

@@ -24,7 +24,7 @@ use Rattle.sent_calls.proofs.Allowed.{ArePlain, IsItsCopy, IsPlainAnswer, all-pe
 use Rattle.sent_calls.proofs.Lists.{all-back, all-front, at-middle, both-to, first-kept, last-kept, none-given, none-kept, none-left, one-given, push-not-nil, some-and}
 use Rattle.sent_calls.proofs.Numbers.{Numbered, few-numbers, greater-behind, numbered}
 
--- where no call was accepted none was sent
+-- if no call was accepted, none was sent
 none-sent : (u : Under) (past : Behind) → IsPrefix u past → taken past ≡ [] → frames_behind u.table u.conn past ≡ []
 none-sent u [] prefix none = refl
 none-sent u (Took call ∷ past) prefix none = absurd (push-not-nil (taken past) call none)
@@ -33,7 +33,7 @@ none-sent u (Sent seq bytes ∷ past) prefix none =
     absurd (omega (arith, ap length (sym empty ∙ prefix.1.in_order.first)))
 none-sent u (x ∷ past) prefix none = append-nil (frames_behind u.table u.conn past) ∙ none-sent u past prefix.0 none
 
--- the calls that were accepted: a front, of which those that all entries allow were sent, and a rest, of which none was
+-- the accepted calls are a prefix, of which those that all entries allow were sent, and a suffix, of which none was
 record AreSent (u : Under) (past : Behind) (entries : List Entry) : Type 0 where
   front : List Taken
   back : List Taken
@@ -42,7 +42,7 @@ record AreSent (u : Under) (past : Behind) (entries : List Entry) : Type 0 where
   done : All (λ c. stands past c ≡ false) front
   rest : All (λ c. stands past c ≡ false → allowed u.conn entries c ≡ None) back
 
--- a call that is accepted stands
+-- an accepted call is pending
 abbrev pub StandsOnceTaken : Type 0
 StandsOnceTaken = (u : Under) (past : Behind) (call : Taken) → IsPrefix u past → call.seq ≡ length (taken past) + 1
     → standing (Took call ∷ past) ≡ standing past ++ call ∷ []
@@ -69,7 +69,7 @@ took law u past call entries prefix may i =
           (λ gone. absurd (true≢false (sym here ∙ gone)));
     }
 
--- what has a fate keeps it
+-- a call with a fate keeps it
 pub still-gone : (b l : Bool) → not l ≡ false → not (b || l) ≡ false
 still-gone true l h = refl
 still-gone false l h = h
@@ -81,7 +81,7 @@ regroup : (xs ys zs : List Taken) (x : Taken) → xs ++ (ys ++ x ∷ zs) ≡ (xs
 regroup xs ys zs x =
     sym (append_assoc xs (ys ++ x ∷ []) zs ∙ ap (λ (l : List Taken). xs ++ l) (append_assoc ys (x ∷ []) zs))
 
--- the copy of a call whose form this is
+-- the copy of a call that has this form
 its-allowed : (conn : ℕ) (past : Behind) (entries : List Entry) (call : Taken) (sent : Call) → IsItsCopy conn past call
     → form conn call.seq past ≡ Some sent → list_all (λ e. permits e.policy sent) entries ≡ true
     → allowed conn entries call ≡ Some sent
@@ -153,7 +153,7 @@ sent-one u past seq bytes prefix first plain may i =
 
 -- ---- refusals
 
--- a call of this number isn't allowed
+-- a call with this number isn't allowed
 abbrev NoneOf : Under → List Entry → ℕ → Taken → Type 0
 NoneOf u entries seq c = seq ≡ c.seq → allowed u.conn entries c ≡ None
 
@@ -199,7 +199,7 @@ denied-none u past seq version name rule prefix first plain may =
     ap (allowed_of entries) copy-is ∙ ap (λ b. cond b (Some here.0) None) never)
     (taken past) (forms-are-copies u past prefix first plain)
 
--- an entry of access or counts answers neither for want of charges nor of tickets
+-- an access or count entry refuses no call for its charges or tickets
 never-so : (u : Under) (past : Behind) (seq : ℕ) (name : List ℕ) (answer : Answer) → ArePlain (chain past).entries
     → Meets u past seq name answer → IsPlainAnswer answer
 never-so u past seq name answer plain meets =
@@ -252,7 +252,7 @@ refused-one u past seq why prefix first plain may unfailed i =
           i.back none-back i.rest;
     }
 
--- ---- all happenings
+-- ---- all events
 
 are-sent : StandsOnceTaken → (u : Under) (past : Behind) → IsPrefix u past → IsSetFirst past
     → ArePlain (chain past).entries → has_failed past ≡ false → AreSent u past (chain past).entries
@@ -290,7 +290,7 @@ are-sent law u (x ∷ past) prefix first plain unfailed =
       rest = i.rest;
     }
 
--- where none stands any more, all that are allowed were sent, and no others
+-- if no call is pending, all allowed calls were sent, and no others
 pub all-sent : StandsOnceTaken → (u : Under) (past : Behind) → IsPrefix u past → IsSetFirst past
     → ArePlain (chain past).entries → has_failed past ≡ false → standing past ≡ []
     → frames_behind u.table u.conn past

@@ -1,4 +1,4 @@
--- Under access policies and counts nothing is held, so none stands where nothing can go on.
+-- Under access and count policies nothing is held, so no call is pending if none can advance.
 use Rattle.std.proofs.Common.{◌≡◌, ◌∙◌, ℕ, List, [], ◌∷◌, refl, sym, ap, subst, arith}
 use Rattle.std.specs.Prelude.{All, Some, slice_get, unwrap_or}
 use Rattle.std.specs.List.{AllZip}

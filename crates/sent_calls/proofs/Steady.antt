@@ -1,5 +1,5 @@
--- What the steps of a connection leave as it is: that the link hasn't failed, and, where no call is accepted, that none
--- stands.
+-- What the transitions of a connection preserve: that the link hasn't failed, and, if no call is accepted, that none is
+-- pending.
 use Rattle.std.proofs.Common.{◌≡◌, ◌≢◌, ◌∙◌, ℕ, ◌+◌, ◌==◌, false, List, [], ◌∷◌, refl, sym, ap, subst}
 use Rattle.std.specs.Prelude.{filter}
 use Rattle.std.specs.List.{list_any}
@@ -32,7 +32,7 @@ use Rattle.sent_calls.proofs.Sending.{still-gone}
 abbrev pub Goes : Behind → Behind → Type 0
 Goes old new = has_failed old ≡ false → has_failed new ≡ false
 
--- none stands, if none stood
+-- no call is pending, if none was
 abbrev pub Rests : Behind → Behind → Type 0
 Rests old new = standing old ≡ [] → standing new ≡ []
 
@@ -46,7 +46,7 @@ same past = record { going = λ h. h; rests = λ h. h }
 pub further : (a b c : Behind) → Steady a b → Steady b c → Steady a c
 further a b c x y = record { going = λ h. y.going (x.going h); rests = λ h. y.rests (x.rests h) }
 
--- ---- single happenings
+-- ---- single events
 
 more-fates : (past new : Behind) → taken new ≡ taken past
     → ((c : Taken) → stands past c ≡ false → stands new c ≡ false) → Rests past new
@@ -88,7 +88,7 @@ turn-steady e seq (outcomes.Refused n why) c =
     (noted-steady e.name seq n c.past) (denied-steady (note_behind e.name seq n c.past) seq e why)
 turn-steady e seq outcomes.Redacted c = record { going = λ h. h; rests = λ h. h }
 
--- ---- events
+-- ---- transitions
 
 become : (old : Behind) (new is : Course) → new ≡ is → Steady old is.past → Steady old new.past
 become old new is e h = subst (λ (c : Course). Steady old c.past) (sym e) h
@@ -113,7 +113,7 @@ accepted-goes : (call : Taken) (copy : TookCopy) (c : Course) → call.copy ≡ 
 accepted-goes call (Copy tree) c is h = rw is h
 accepted-goes call (Malformed reason place value) c is h = rw is h
 
--- where a call is accepted the link hasn't failed either
+-- if a call is accepted, the link hasn't failed either
 pub acceptance-goes : (u : Under) (old new : Course) (call : Taken) → Comes u old (accepts call) new
     → Goes old.past new.past
 acceptance-goes u old new call (takes other e going may is) h =

@@ -5,7 +5,7 @@ use Rattle.script_text.specs.declared.script.Line.{Line}
 use Rattle.script_text.specs.declared.script.Line.TheVariants.{Drain}
 use Rattle.script_text.specs.declared.script.Script.{Script}
 
--- no submission of the connection stands behind this drain of it
+-- no submission of the connection follows this drain of it
 pub record IsDrainedLast (s : Script) (conn : ℕ) : Type 0 where
   pub front : List Line
   pub back : List Line

@@ -1,5 +1,5 @@
--- Which calls are sent on a connection whose chain is set first, and has access and count policies alone (this project's
--- own).
+-- Which calls are sent on a connection whose chain is set up first, and has access and count policies alone (this
+-- project's own).
 use Rattle.std.specs.Prelude.{◌≡◌, ℕ, Bool, true, List, [], ◌∷◌, Option, Some, None, if◌then◌else◌}
 use Rattle.std.specs.List.{filter_map, list_all}
 use Rattle.mrpc_table.specs.declared.call.Call.{Call}
@@ -11,18 +11,18 @@ use Rattle.call_history.specs.Behind.{Behind, copied, taken}
 use Rattle.call_history.specs.declared.happening.Happening.TheVariants.{Op}
 use Rattle.call_history.specs.declared.happening.Taken.{Taken}
 
--- a policy is one of access, or a count
+-- an access or a count policy
 abbrev pub IsPlain : Policy → Type 0
 IsPlain (Access p) = Unit {0}
 IsPlain Count = Unit {0}
 IsPlain _ = ⊥
 
--- whether such a policy allows a call: an access policy by its verdict, and a count each
+-- such a policy allows a call: an access policy by its verdict, a count always
 abbrev pub permits : Policy → Call → Bool
 permits (Access p) call = (verdict p call).allow
 permits _ call = true
 
--- the copy of a call, where it has one that all entries allow
+-- the copy of a call, if it has one that all entries allow
 abbrev pub allowed_of : List Entry → Option Call → Option Call
 allowed_of entries None = None
 allowed_of entries (Some call) = if list_all (λ e. permits e.policy call) entries then Some call else None
@@ -34,7 +34,7 @@ allowed conn entries call = allowed_of entries (copied conn call call.copy)
 abbrev pub allowed_copies : ℕ → List Entry → List Taken → List Call
 allowed_copies conn entries calls = filter_map (allowed conn entries) calls
 
--- no step of an operator came behind a call that was accepted
+-- no operation came after an accepted call
 abbrev pub IsSetFirst : Behind → Type 0
 IsSetFirst [] = Unit {0}
 IsSetFirst (Op step ∷ past) = taken past ≡ []

@@ -1,9 +1,9 @@
-//! Which calls are sent on a connection whose chain is set first.
+//! Which calls are sent on a connection whose chain is set up first.
 //!
-//! Where the operator's steps come before the first call, and attach access policies and counts alone, nothing is held:
-//! what is sent is decided by the verdicts on the copies. The functions here do nothing; their clauses are laws of
-//! histories ([`allowed_calls_are_sent`]) and of scripts ([`allowed_calls_of_a_script_are_sent`]). It stands on
-//! `replay_run` and on what that stands on. No layer stands above.
+//! If all operations come before the first call, and attach only access and count policies, no call is held: the
+//! verdicts on the copies alone decide what is sent. The functions here do nothing; their contracts are laws of
+//! histories ([`allowed_calls_are_sent`]) and of scripts ([`allowed_calls_of_a_script_are_sent`]). The crate depends on
+//! `replay_run` and its dependencies. No layer is above it.
 #![tactic(auto)]
 
 mod laws;

@@ -47,7 +47,7 @@ valid-table plan app h there = valid-by plan app.own h.table (is-application pla
 
 -- ---- ends of links
 
--- what holds of all ends holds of both ends of the link at a place
+-- what holds of all ends holds of both ends of the link at an index
 pub both-ends : (P : ℕ → Type 0) (links : List Pair) (i : ℕ) (d : Pair) → i < length links → All P (all_ends links)
     → P (get_or links i d).a × P (get_or links i d).b
 both-ends P [] i d within all = absurd (omega (arith, within))
@@ -59,14 +59,14 @@ both-ends P (x ∷ links) (suc i) d within all =
     both-ends P links i d (omega (arith, within))
     (All-tail P x.b (all_ends links) (All-tail P x.a (x.b ∷ all_ends links) all))
 
--- the ends of one link more
+-- the ends of one more link
 pub ends-more : (links : List Pair) (i : ℕ) (d : Pair) → i < length links
     → all_ends (take (i + 1) links) ≡ all_ends (take i links) ++ (get_or links i d).a ∷ (get_or links i d).b ∷ []
 ends-more links i d within =
     let upto : take (i + 1) links ≡ take i links ++ get_or links i d ∷ [] = rw add-one (take-suc links i d within) in
     ap all_ends upto ∙ flat_map-append ends_of (take i links) (get_or links i d ∷ [])
 
--- ---- how many ends there are
+-- ---- the number of ends
 
 pub ends-count : (links : List Pair) → length (all_ends links) ≡ 2 * length links
 ends-count [] = refl
@@ -87,7 +87,7 @@ few-ends plan h =
     let count = ends-count plan.links in
     omega arith
 
--- what is lent can't be nothing where it is something
+-- a present option has a value that can be lent
 pub lent-there : {X : Type 0} (o : Option (Bor X)) (x : X) → option_copied o ≡ Some x
     → ((r : Bor X) → o ≡ Some r → ⊥) → ⊥
 lent-there None x is never = none-some x is

@@ -1,8 +1,8 @@
--- An iterator that gives nothing more.
+-- An iterator that returns no more items.
 use Rattle.std.proofs.Common.{◌≡◌, List, [], ◌∷◌, length, Option, Some, None, arith, refl}
 use Rattle.std.specs.Prelude.{MatchOption}
 
--- what holds of an iterator that gives nothing more
+-- what holds of an iterator that returns no more items
 pub at-end : {X : Type 0} (o : Option X) (P : Type 0) (Q : X → Type 0) → ((x : X) → o ≡ Some x → ⊥)
     → MatchOption o P Q → P
 at-end None P Q never cases = cases

@@ -1,4 +1,4 @@
--- What is found in a list by a number, and how many distinct numbers there are below another.
+-- What is found in a list by a number, and how many distinct numbers there are below a bound.
 use Rattle.std.proofs.Common.{◌≡◌, ℕ, ◌<◌, ◌≤◌, ◌==◌, zero, suc, Bool, true, false, cond, List, [], ◌∷◌, length, map}
 use Rattle.std.proofs.Common.{Option, Some, refl, subst, sym, ◌∙◌, arith, Contains, inl, inr}
 use Rattle.mrpc_table.specs.Valid.{AreDistinct}
@@ -16,7 +16,7 @@ picked : {X : Type 0} (b : Bool) (x : X) (o : Option X) → (b ≡ false → (y 
 picked true x o rest = (x, refl)
 picked false x o rest = rest refl
 
--- an element that isn't the first is one of the others
+-- an item that isn't the first is one of the others
 behind : (x n : ℕ) (xs : List ℕ) → Contains (x ∷ xs) n → (x == n) ≡ false → Contains xs n
 behind x n xs (zero, within, same) differs = absurd (let yes : (x == n) ≡ true = eq-eqb x n same in
     let wrong : true ≡ false = sym yes ∙ differs in cc)
@@ -27,7 +27,7 @@ pub found : {X : Type 0} (f : X → ℕ) (n : ℕ) (xs : List X) → Contains (m
 found f n [] (k, within, same) = absurd (omega (arith, within))
 found f n (x ∷ xs) has = picked (f x == n) x (find (λ y. f y == n) xs) (λ differs. found f n xs (behind (f x) n (map f xs) has differs))
 
--- what was found is there, and passes the test
+-- what was found is in the list, and passes the test
 pub record IsFound {X : Type 0} (test : X → Bool) (xs : List X) (x : X) : Type 0 where
   pub there : Contains xs x
   pub passes : test x ≡ true
@@ -49,7 +49,7 @@ pub found_number : {X : Type 0} (f : X → ℕ) (n : ℕ) (xs : List X) (x : X) 
     → f x ≡ n
 found_number f n xs x same = eqb-true (f x) n (is_found (λ y. f y == n) xs x same).passes
 
--- ---- how many there are
+-- ---- the number of items
 
 apart : (x : ℕ) (ys : List ℕ) → (Contains ys x → ⊥) → AllByRecursion (λ y. eqb x y ≡ false) ys
 apart x [] none = tt

@@ -1,4 +1,4 @@
--- What comes of the hellos of an end of a link.
+-- The handshake at an end of a link.
 use Rattle.std.proofs.Common.{◌≡◌, ◌≢◌, ℕ, ◌≤◌, ◌⊎◌, inl, inr, Bool, true, false, List, [], ◌∷◌, ◌++◌, Option, Some}
 use Rattle.std.proofs.Common.{None, Result, Ok, Err, refl, sym, ap, subst, ◌∙◌, arith}
 use Rattle.std.specs.Prelude.{IfSome, IsTrue, OnOk}
@@ -19,13 +19,13 @@ use Rattle.shared_heap.specs.Fresh.{Reading}
 use Rattle.service.specs.Greeted.{Heard, WasHeard, WasLeft, WasSaid}
 use Rattle.service.specs.Served.{IsNewLink, WasRefused, hello_in}
 
--- ---- what is heard
+-- ---- what is received
 
--- it can't be that a hello is said and isn't
+-- a hello can't be both sent and not sent
 both : {P : Type 0} (said : Bool) → said ≡ true → said ≡ false → P
 both said agreed unsaid = absurd (let wrong : true ≡ false = sym agreed ∙ unsaid in cc)
 
--- ---- how it was greeted
+-- ---- the outcome of the handshake
 
 appends-same : (a a' b b' : Option (List ℕ)) (bytes : List ℕ) → a' ≡ a → b' ≡ b → Appends a b bytes
     → Appends a' b' bytes
@@ -106,7 +106,7 @@ pub heard-as : {L : Type 0} (of_link : LinkMembers L) (plan : Plan) (app : Appli
 heard-as of_link plan app start now a reader None bound refused = bound refl
 heard-as of_link plan app start now a reader (Some why) bound refused = refused why refl
 
--- ---- what a link was handed as it said its hello
+-- ---- what a link was handed as it sent its hello
 
 pub said-by : {L : Type 0} (of_link : LinkMembers L) (plan : Plan) (app : Application) (start link now : L)
     (said : Bool) (hello : List ℕ) → IsNewLink of_link start → hello ≡ hello_in plan app
@@ -127,7 +127,7 @@ said-by of_link plan app start link now said hello new is handed kept cause give
       same_link = λ first from. since' first (since first from);
     }
 
--- the same cause, said of the answer and of what it holds
+-- the same cause, of the result and of its value
 pub cause-of : {E : Type 0} (said : Bool) (before now : ℕ)
     → HasCause (◌≡◌ {A = Result Bool E} (Ok said) (Ok false)) before now → HasCause (said ≡ false) before now
 cause-of said before now cause = record {

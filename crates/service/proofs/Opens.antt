@@ -16,7 +16,7 @@ use Rattle.service.proofs.Zips.{zip-map, zip-two}
 use Rattle.service.specs.declared.greeting.Greeted.{Greeted}
 
 module _ {L : Type 0} (of_link : LinkMembers L) (plan : Plan) (pair : L → L → Type 0) where
-  -- none yet
+  -- no end yet
   pub none-greeted : (greeted : List (Greeted L)) → greeted ≡ [] → WereGreeted of_link plan pair [] greeted
   none-greeted greeted none = record {
     ends = [];
@@ -25,7 +25,7 @@ module _ {L : Type 0} (of_link : LinkMembers L) (plan : Plan) (pair : L → L �
     each = subst (λ xs. AllZip (WasGreeted of_link plan) [] xs) (sym none) tt;
   }
 
-  -- the two ends of one link more
+  -- the two ends of one more link
   pub were-more : (conns conns' : List ℕ) (greeted greeted' : List (Greeted L)) (one other : Opened L)
       (first second : Greeted L) → WereGreeted of_link plan pair conns greeted → WasGreeted of_link plan one first
       → WasGreeted of_link plan other second → pair one.link other.link
@@ -40,7 +40,7 @@ module _ {L : Type 0} (of_link : LinkMembers L) (plan : Plan) (pair : L → L �
         (zip-two (WasGreeted of_link plan) h.ends greeted one other first second h.each a b);
   }
 
--- the steps that are prepared are those on the connections of the ends
+-- the prepared operations are those for the connections of the ends
 pub steps-of-ends : {L : Type 0} (plan : Plan) (conns : List ℕ) (ends : List (Opened L)) (steps steps' : List (Vec DueStep))
     → conns_of ends ≡ conns → steps' ≡ steps → AllZip (λ conn due. HasSteps plan conn due.items) conns steps
     → HaveStepsAt plan ends steps'
@@ -49,7 +49,7 @@ steps-of-ends plan conns ends steps steps' are same zip =
     (subst (λ ns. AllZip (λ (conn : ℕ) (due : Vec DueStep). HasSteps plan conn due.items) ns steps') (sym are)
     (subst (λ all. AllZip (λ (conn : ℕ) (due : Vec DueStep). HasSteps plan conn due.items) conns all) (sym same) zip))
 
--- what didn't happen has its cause where the count stays
+-- what didn't occur has its cause if the count stays
 pub cause-none : (P : Type 0) (before now : ℕ) → (P → ⊥) → now ≡ before → HasCause P before now
 cause-none P before now never same =
     record { rose = λ is. absurd (never is); stays = λ _. same; never_falls = omega (arith, same) }

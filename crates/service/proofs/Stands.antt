@@ -1,4 +1,4 @@
--- Connections that begin, one behind the other.
+-- Connections that start, one after another.
 use Rattle.std.proofs.Common.{◌≡◌, ℕ, ◌+◌, ◌<◌, ◌≤◌, List, [], ◌∷◌, ◌++◌, get_or, length, map, All, Some, None, refl}
 use Rattle.std.proofs.Common.{sym, ap, subst, ◌∙◌, arith, length-append, append-nil, append_assoc}
 use Rattle.std.specs.Global.{Vec}
@@ -57,7 +57,7 @@ wired-push (x ∷ openings) (y ∷ items) (z ∷ jobs) (w ∷ writers) o item jo
 wired-push _ _ _ _ o item job writer are here = absurd are
 
 module _ {C L : Type 0} (of_link : LinkMembers L) (plan : Plan) (clock : C) where
-  -- ---- where connections stand
+  -- ---- the states of connections
 
   out-push : (ends : List (Opened L)) (standings : List (Standing L)) (openings : List (Opening C L)) (e : Opened L)
       (conn : ℕ) (link : L) (why : Cause) → AreStanding of_link plan clock ends standings openings
@@ -178,9 +178,9 @@ module _ {C L : Type 0} (of_link : LinkMembers L) (plan : Plan) (clock : C) wher
         (items ++ took.item ∷ []) (jobs ++ took.job ∷ []) (writers ++ took.writer ∷ []) xs) (sym took.halves)
         (bound-begun e app first took.item took.job took.writer begun took.wired halves once_more)))))
 
--- ---- steps
+-- ---- operations
 
--- what is at the place behind those that have begun are the steps of the next
+-- the operations at the next index are those of the next connection
 pub steps-at : {L : Type 0} (plan : Plan) (ends later : List (Opened L)) (e : Opened L) (steps : List (Vec DueStep))
     (n : ℕ) (due : Vec DueStep) → HaveStepsAt plan (ends ++ e ∷ later) steps → n ≡ length ends
     → due ≡ get_or steps n due → HasSteps plan e.conn due.items
@@ -195,7 +195,7 @@ steps-within plan ends later e steps n have at =
     let less = zip-within (λ (o : Opened _) (d : Vec DueStep). HasSteps plan o.conn d.items) ends later e steps have in
     omega (arith, less, at)
 
--- ---- greeted ends
+-- ---- ends after the handshake
 
 module _ {L : Type 0} (of_link : LinkMembers L) (plan : Plan) (e : Opened L) (g : Greeted L)
     (h : WasGreeted of_link plan e g) where
@@ -205,7 +205,7 @@ module _ {L : Type 0} (of_link : LinkMembers L) (plan : Plan) (e : Opened L) (g 
   pub when-refused : (why : Cause) → g.unbound ≡ Some why → WasRefused of_link plan g.app.now e.link g.link why
   when-refused why is = subst (λ u. Heard of_link plan g.app.now e.link g.link g.arrivals g.reader u) is h.heard
 
-  -- the steps that are prepared are those of its application
+  -- the prepared operations are those of its application
   pub its-steps : (steps : List DueStep) → HasSteps plan e.conn steps → IsStepsOf plan g.app.now steps
   its-steps steps has =
       subst (λ (app : Application). IsStepsOf plan app steps)
@@ -222,7 +222,7 @@ module _ {L : Type 0} (of_link : LinkMembers L) (plan : Plan) (e : Opened L) (g 
       refused = when-refused why is;
     }
 
-    -- with what a bound connection begins
+    -- the initial state of a bound connection
     abbrev pub first-of : (heard : WasHeard of_link plan g.app.now e.link g.link g.arrivals g.reader)
         → List DueStep → List Drawing → Beginning C L
     first-of heard steps seats = record {
@@ -270,7 +270,7 @@ module _ {L : Type 0} (of_link : LinkMembers L) (plan : Plan) (e : Opened L) (g 
 
 -- ---- several ends
 
--- connections have begun at the first of some ends, and at the others, which were greeted so, they haven't
+-- connections have started at a prefix of the ends, and at the others, after their handshakes, not yet
 pub record BegunSome {C R L : Type 0} (of_link : LinkMembers L) (plan : Plan) (clock : C) (ends : List (Opened L))
     (rest : List (Greeted L)) (standings : List (Standing L)) (items : List (Item C)) (jobs : List Job)
     (writers : List (QueueWriter R L of_link)) (seats : List Drawing) : Type 0 where
@@ -282,7 +282,7 @@ pub record BegunSome {C R L : Type 0} (of_link : LinkMembers L) (plan : Plan) (c
   pub shares : All (λ seat. seat.share ≡ all_shares) whole
   pub begun : HaveBegun of_link plan clock whole past standings items jobs writers seats
 
--- nothing has begun yet
+-- none has started yet
 pub none-begun : {C R L : Type 0} (of_link : LinkMembers L) (plan : Plan) (clock : C) (ends : List (Opened L))
     (rest : List (Greeted L)) (standings : List (Standing L)) (items : List (Item C)) (jobs : List Job)
     (writers : List (QueueWriter R L of_link)) (seats : List Drawing) → AllZip (WasGreeted of_link plan) ends rest
@@ -314,7 +314,7 @@ none-begun {C = C} of_link plan clock ends rest standings items jobs writers sea
       };
     }
 
--- all have begun
+-- all have started
 pub all-begun : {C R L : Type 0} (of_link : LinkMembers L) (plan : Plan) (clock : C) (ends : List (Opened L))
     (rest : List (Greeted L)) (standings : List (Standing L)) (items : List (Item C)) (jobs : List Job)
     (writers : List (QueueWriter R L of_link)) (seats : List Drawing) → rest ≡ []
@@ -330,7 +330,7 @@ all-begun of_link plan clock ends rest standings items jobs writers seats none h
       begun = subst (λ xs. HaveBegun of_link plan clock h.whole xs standings items jobs writers seats) same h.begun;
     }
 
--- the next end is that of the next that was greeted
+-- the next end is that of the next handshake
 pub record NextEnd {C R L : Type 0} (of_link : LinkMembers L) (plan : Plan) (clock : C) (ends : List (Opened L))
     (g : Greeted L) (rest : List (Greeted L)) (standings : List (Standing L)) (items : List (Item C)) (jobs : List Job)
     (writers : List (QueueWriter R L of_link)) (seats : List Drawing) : Type 0 where
@@ -379,7 +379,7 @@ module _ {C R L : Type 0} (of_link : LinkMembers L) (plan : Plan) (clock : C) (e
     begun = more;
   }
 
-  -- the next is one of few
+  -- the next is one of at most this many
   pub next-few : (most : ℕ) → length ends ≤ most
       → (n : NextEnd of_link plan clock ends g rest' standings items jobs writers seats) → length standings < most
   next-few most few n =

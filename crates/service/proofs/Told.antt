@@ -1,4 +1,4 @@
--- What became of connections, and the tickets that their seats tell once they come together.
+-- The outcomes of connections, and the tickets that their seats hold once they are joined.
 use Rattle.std.proofs.Common.{◌≡◌, ℕ, ◌<◌, ◌^◌, List, [], ◌∷◌, ◌++◌, length, map, All, Option, Some, None, refl, sym, ap, append-nil, subst, ◌∙◌, arith}
 use Rattle.std.specs.Prelude.{IsPermutation, slice_get}
 use Rattle.std.specs.List.{AllZip, flat_map, range_with_len}
@@ -27,7 +27,7 @@ use Rattle.service.specs.declared.beginning.Standing.TheVariants.{Bound, Unbound
 
 module _ (kept : (seats : List Drawing) → quotas_of (map kept_half seats) ≡ quotas_of seats)
     (new : (seats : List Drawing) → quotas_of (map new_half seats) ≡ quotas_of seats) where
-  -- seats that were split among others, and these, are of the same quotas
+  -- seats that were split among others, and the remaining ones, are of the same quotas
   pub split-quotas : (whole : List Drawing) (owns : List (List Drawing)) (rest : List Drawing)
       → SplitInto whole owns rest
       → (quotas_of rest ≡ quotas_of whole) × All (λ own. quotas_of own ≡ quotas_of whole) owns
@@ -55,7 +55,7 @@ later-quotas quotas law (own ∷ owns) (x ∷ laters) zip all =
 
 -- ---- tickets
 
--- seats that drew nothing tell no ticket
+-- seats without draws hold no ticket
 pub drawn-none : (seats : List Drawing) (tenant window : ℕ) → tenant < length seats
     → All (λ seat. seat.draws ≡ []) seats → drawn_by seats tenant window ≡ Some []
 drawn-none [] tenant window less none = absurd (omega (arith, less))
@@ -64,7 +64,7 @@ drawn-none (seat ∷ seats) tenant window less none =
     ∙ ap (λ draws. Some (tickets_in window draws))
     (All-get_or (λ (d : Drawing). d.draws ≡ []) (seat ∷ seats) tenant seat less none)
 
--- the tickets of a window that a seat tells which has all shares are those from 0 on
+-- the tickets of a window of a seat that has all shares are those from 0 on
 told-once : (o : Option Drawing) (window : ℕ) (tickets : List ℕ) → ((d : Drawing) → o ≡ Some d → AllOnce WINDOWS d.draws)
     → told_in window o ≡ Some tickets → window < WINDOWS → length tickets < 2 ^ 64 → EachOnce tickets
 told-once None window tickets once told within few = absurd cc
@@ -88,9 +88,9 @@ drawn-once seats tenant window tickets once shares told within few =
     (All-get_or (λ (x : Drawing). x.share ≡ all_shares) seats tenant d less shares)))
     told within few
 
--- ---- what was told
+-- ---- tickets of several seats
 
--- tickets of others behind each other are all of them, in some order
+-- tickets of several seats in a row are all of them, in some order
 pub told-all : (told : List (List ℕ)) → IsPermutation (all_told [] told) (flat_map (λ tickets. tickets) told)
 told-all [] = IsPermutation-refl []
 told-all (tickets ∷ told) =
@@ -104,7 +104,7 @@ once-too a b moved once =
     subst (λ n. IsPermutation (range_with_len 0 n) b) (sym long)
     (IsPermutation-trans _ a b once moved)
 
--- seats that came together tell the tickets from 0 on, each once
+-- joined seats hold the tickets from 0 on, each once
 pub once-told : (joined : List Drawing) (tenant window : ℕ) (told : List (List ℕ)) (tickets : List ℕ)
     → All (λ seat. seat.share ≡ all_shares → AllOnce WINDOWS seat.draws) joined
     → All (λ seat. seat.share ≡ all_shares) joined → drawn_by joined tenant window ≡ Some (all_told [] told)
@@ -116,9 +116,9 @@ once-told joined tenant window told tickets once shares drawn are within few =
     (drawn-once joined tenant window (all_told [] told) once shares drawn within
     (subst (λ n. n < 2 ^ 64) (length_permutation (all_told [] told) tickets moved) few))
 
--- ---- what became of connections
+-- ---- the outcomes of connections
 
--- the tickets that the history of a connection that was met tells, of a tenant's window
+-- the tickets of a tenant's window in the history of a reconciled connection
 abbrev pub tickets_met : {L : Type 0} → ℕ → ℕ → Met L → List ℕ
 tickets_met tenant window m = tickets_behind tenant window (behind m.bound.submissions.conn)
 
@@ -126,7 +126,7 @@ module _ {C L : Type 0} (of_clock : ClockMembers C) (of_link : LinkMembers L) (p
   abbrev pub Ran : Opening C L → Met L → Type 0
   Ran o m = HasServed of_clock of_link o m.bound m.seats m.link
 
-  -- seats of connections that began so drew nothing
+  -- seats of connections with these openings have no draws
   pub record HasSeats (o : Opening C L) : Type 0 where
     pub tenants : length o.begun.seats ≡ length plan.declared.tenants
     pub not_drawn : All (λ seat. seat.draws ≡ []) o.begun.seats
@@ -144,7 +144,7 @@ module _ {C L : Type 0} (of_clock : ClockMembers C) (of_link : LinkMembers L) (p
       (record { tenants = are.3.bound.seats; not_drawn = are.3.bound.not_drawn })
       (have-seats ends standings are.1 are.4))
 
-  -- each seat tells the tickets of its connection
+  -- each seat holds the tickets of its connection
   pub each-told : (tenant window : ℕ) → tenant < length plan.declared.tenants → window < WINDOWS
       → (openings : List (Opening C L)) (met : List (Met L)) → All HasSeats openings → AllZip Ran openings met
       → AllZip (λ own tickets. drawn_by own tenant window ≡ Some tickets) (map (λ m. m.seats) met)
@@ -166,7 +166,7 @@ module _ {C L : Type 0} (of_clock : ClockMembers C) (of_link : LinkMembers L) (p
   later-seats (o ∷ openings) [] ran = absurd ran
   later-seats (o ∷ openings) (m ∷ met) ran = (ran.0.same_seats, later-seats openings met ran.1)
 
-  -- all that were met are taken
+  -- all reconciled connections are used
   pub none-over : (ends : List (Opened L)) (standings : List (Standing L)) (met : List (Met L))
       (openings : List (Opening C L)) → AreStanding of_link plan clock ends standings openings
       → AllZip Ran openings met → left_of standings met ≡ []
@@ -180,7 +180,7 @@ module _ {C L : Type 0} (of_clock : ClockMembers C) (of_link : LinkMembers L) (p
   none-over (e ∷ ends) (Bound conn ∷ standings) (m ∷ met) openings are ran =
       none-over ends standings met are.1 are.4 (subst (λ os. AllZip Ran os (m ∷ met)) are.2 ran).1
 
-  -- so all seats are put together
+  -- so all seats are joined
   pub seats-of-all : (ends : List (Opened L)) (standings : List (Standing L)) (met : List (Met L))
       (openings : List (Opening C L)) (others : List (List Drawing))
       → AreStanding of_link plan clock ends standings openings → AllZip Ran openings met
@@ -191,7 +191,7 @@ module _ {C L : Type 0} (of_clock : ClockMembers C) (of_link : LinkMembers L) (p
       ∙ sym (ap (λ (ms : List (Met L)). others ++ map (λ m. m.seats) ms) (none-over ends standings met openings are ran))
       ∙ same
 
-  -- the tickets of all connections are those of the connections that were met
+  -- the tickets of all connections are those of the reconciled connections
   pub tickets-of-all : (tenant window : ℕ) (ends : List (Opened L)) (standings : List (Standing L))
       (met : List (Met L)) (openings : List (Opening C L)) → AreStanding of_link plan clock ends standings openings
       → AllZip Ran openings met
@@ -211,7 +211,7 @@ module _ {C L : Type 0} (of_clock : ClockMembers C) (of_link : LinkMembers L) (p
       (tickets-of-all tenant window ends standings met are.1 are.4
       (subst (λ os. AllZip Ran os (m ∷ met)) are.2 ran).1)
 
-  -- each connection was served as it stood
+  -- each connection was served according to its state
   pub were-served : (ends : List (Opened L)) (standings : List (Standing L)) (met : List (Met L))
       (openings : List (Opening C L)) → AreStanding of_link plan clock ends standings openings
       → AllZip Ran openings met → AllZip (WasServedAt of_clock of_link plan clock) ends (outcomes_of standings met)

@@ -10,7 +10,7 @@ module _ {A L : Type 0} (link : A → L) (pair : L → L → Type 0) where
   pairs-push (x ∷ []) a b pairs here = absurd pairs
   pairs-push (x ∷ y ∷ xs) a b pairs here = (pairs.0, pairs-push xs a b pairs.1 here)
 
-  -- pairs stay pairs, where each link is the one that it was, later on
+  -- pairs stay pairs if each link is a later state of its earlier one
   pub pairs-later : {B : Type 0} (link' : B → L) (since : L → L → Type 0) → ((l : L) → since l l)
       → ((a b c d : L) → pair a b → since a c → since b d → pair c d) → (xs : List A) (ys : List B)
       → AllZip (λ x y. (first : L) → since first (link x) → since first (link' y)) xs ys → ArePairs link pair xs

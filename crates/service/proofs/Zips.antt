@@ -1,4 +1,4 @@
--- Two lists, place by place.
+-- Two lists, index by index.
 use Rattle.std.proofs.Common.{◌≡◌, ◌<◌, suc, List, [], ◌∷◌, ◌++◌, length, get_or, map, refl, ap, arith}
 use Rattle.std.specs.List.{AllZip}
 
@@ -24,7 +24,7 @@ module _ {X Y : Type 0} (R : X → Y → Type 0) where
   zip-two (x ∷ xs) [] a b c d zip one other = absurd zip
   zip-two (x ∷ xs) (y ∷ ys) a b c d zip one other = (zip.0, zip-two xs ys a b c d zip.1 one other)
 
-  -- what stands at the place behind a front
+  -- the item at the index after a prefix
   pub zip-within : (front rest : List X) (x : X) (ys : List Y) → AllZip R (front ++ x ∷ rest) ys
       → length front < length ys
   zip-within [] rest x [] zip = absurd zip
@@ -39,7 +39,7 @@ module _ {X Y : Type 0} (R : X → Y → Type 0) where
   zip-at (a ∷ front) rest x [] d zip = absurd zip
   zip-at (a ∷ front) rest x (b ∷ ys) d zip = zip-at front rest x ys d zip.1
 
--- the next of a list that is zipped with one that goes on
+-- the next of a list that is zipped with a longer one
 pub record Next {X Y : Type 0} (R : X → Y → Type 0) (xs : List X) (y : Y) (ys : List Y) : Type 0 where
   pub x : X
   pub later : List X
@@ -56,7 +56,7 @@ pub none-left : {X Y : Type 0} (R : X → Y → Type 0) (xs : List X) → AllZip
 none-left R [] zip = refl
 none-left R (x ∷ xs) zip = absurd zip
 
--- a relation of what a function gives of the first items
+-- a relation of the images of the first items
 pub zip-map : {W X Y : Type 0} (f : W → X) (R : X → Y → Type 0) (ws : List W) (ys : List Y)
     → AllZip R (map f ws) ys → AllZip (λ w y. R (f w) y) ws ys
 zip-map f R [] [] zip = tt

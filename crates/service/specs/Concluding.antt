@@ -1,4 +1,5 @@
--- The code's own: what became of connections, from where they stood and what was done on those that were bound.
+-- The code's own: the outcomes of connections, from their states before the threads and what was done on the bound
+-- ones.
 use Rattle.std.specs.Prelude.{◌≡◌, List, [], ◌∷◌, All, length, map}
 use Rattle.std.specs.List.{AllZip}
 use Rattle.mrpc_base.specs.declared.clock.Clock.{Ghosts as ClockMembers}
@@ -17,7 +18,7 @@ use Rattle.service.specs.declared.beginning.Standing.TheVariants as standing
 use Rattle.service.specs.declared.served.Outcome.TheVariants as outcome
 use Rattle.service.specs.declared.served.ServedConn.{ServedConn}
 
--- each connection that was bound, with the next of those that were met
+-- each bound connection, with the next of the reconciled ones
 abbrev pub outcomes_of : {L : Type 0} → List (Standing L) → List (Met L) → List (ServedConn L)
 outcomes_of [] met = []
 outcomes_of (standing.Unbound conn link why ∷ standings) met =
@@ -26,7 +27,7 @@ outcomes_of (standing.Bound conn ∷ standings) [] = []
 outcomes_of (standing.Bound conn ∷ standings) (m ∷ met) =
     record { conn = conn; link = m.link; outcome = outcome.Bound m.bound } ∷ outcomes_of standings met
 
--- those that were met, and are left over
+-- the reconciled connections that remain
 abbrev pub left_of : {L : Type 0} → List (Standing L) → List (Met L) → List (Met L)
 left_of [] met = met
 left_of (standing.Unbound conn link why ∷ standings) met = left_of standings met
@@ -34,13 +35,13 @@ left_of (standing.Bound conn ∷ standings) [] = []
 left_of (standing.Bound conn ∷ standings) (m ∷ met) = left_of standings met
 
 module _ {C L : Type 0} (of_clock : ClockMembers C) (of_link : LinkMembers L) (plan : Plan) (clock : C) where
-  -- what a run did on the connection of an end that was opened, whose link is that end's, later on
+  -- what a run did on the connection of an opened end, whose link is a later state of that end's
   pub record WasServedAt (e : Opened L) (s : ServedConn L) : Type 0 where
     pub served : WasServed of_clock of_link plan clock e.conn s
     pub same_link : (first : L) → of_link.since first e.link → of_link.since first s.link
 
-  -- A run is over: the connections stood so when it began, those that were bound were served, and their seats were taken
-  -- of the whole, which has all shares.
+  -- A run is over: these were the states of the connections before the threads, the bound ones were served, and their
+  -- seats were split from the whole, which has all shares.
   pub record HaveRun (ends : List (Opened L)) (standings : List (Standing L)) (met : List (Met L))
       (seats : List Drawing) : Type 0 where
     pub openings : List (Opening C L)

@@ -1,7 +1,7 @@
--- The code's own: the ends of the links of a run, as they were opened.
+-- The code's own: the ends of the links of a run, as opened.
 use Rattle.std.specs.Prelude.{ℕ, List, map}
 
--- an end of a link that was opened, with its connection
+-- an opened end of a link, with its connection
 pub record Opened (L : Type 0) : Type 0 where
   pub conn : ℕ
   pub link : L

@@ -1,4 +1,4 @@
--- The code's own: ends of links that were greeted.
+-- The code's own: ends of links after the handshake.
 use Rattle.std.specs.Prelude.{◌≡◌, ◌≢◌, ℕ, List, [], ◌∷◌, ◌++◌, Bool, Option, Some, None, IsTrue, true, false}
 use Rattle.std.specs.List.{AllZip}
 use Rattle.std.specs.Io.KnownBytes.{Appends}
@@ -26,8 +26,8 @@ use Rattle.service.specs.Served.{ArePairs, IsNewLink, WasRefused, hello_in}
 use Rattle.service.specs.declared.greeting.Greeted.{Greeted}
 use Rattle.service.specs.declared.greeting.Introduced.{Introduced}
 
--- What leaves a connection unbound, by what its link gave, by its faults and by whether it has ended: what came shows
--- why, unless its own hello wasn't said, since its link failed at it.
+-- Why a connection isn't bound, given what its link gave, its failures and whether it has ended: what was received
+-- shows the cause, unless its own hello wasn't sent because its link failed at it.
 pub record WasLeft (service : List ℕ) (T : Table) (given given' : Option (List ℕ)) (faults faults' : ℕ)
     (said ended : Bool) (why : Unbound) : Type 0 where
   pub stream : List ℕ
@@ -43,7 +43,8 @@ pub record WasLeft (service : List ℕ) (T : Table) (given given' : Option (List
   pub transport : state ≡ Failed → why ≡ Transport
 
 module _ {L : Type 0} (of_link : LinkMembers L) (plan : Plan) where
-  -- Nothing came of a link yet. It was handed its hello where this was said, and else nothing, since it failed.
+  -- Nothing was received from the link yet. It was handed its hello if this was sent, and otherwise nothing, since it
+  -- failed.
   pub record WasSaid (app : Application) (start now : L) (said : Bool) : Type 0 where
     pub given : of_link.given now ≡ of_link.given start
     pub handed : said ≡ true → of_link.handed now ≡ hello_in plan app ∷ []
@@ -52,13 +53,13 @@ module _ {L : Type 0} (of_link : LinkMembers L) (plan : Plan) where
     pub rose : said ≡ false → Rose (of_link.faults start) (of_link.faults now)
     pub same_link : (first : L) → of_link.since first start → of_link.since first now
 
-  -- an end of a link of a connection of the plan, which said its hello or failed at it
+  -- an end of a link of a connection of the plan, which sent its hello or failed at it
   pub record WasIntroduced (e : Opened L) (i : Introduced L) : Type 0 where
     pub its_app : application_in plan.applications e.conn ≡ Some i.app.now
     pub is_new : IsNewLink of_link e.link
     pub said : WasSaid i.app.now e.link i.link i.said
 
-  -- a link gave a hello by which a connection is bound, behind which its arrivals live on
+  -- a link gave a hello that binds the connection, and its arrivals continue after that hello
   pub record WasHeard (app : Application) (start now : L) (a : Arrivals) (reader : Reading) : Type 0 where
     pub stream : List ℕ
     pub fault : Option FeedFault
@@ -76,19 +77,19 @@ module _ {L : Type 0} (of_link : LinkMembers L) (plan : Plan) where
     pub not_loaded : reader.loads ≡ []
     pub words : reader.heap.words ≡ app.receive
 
-  -- what an end heard: the hello of the other side, or what leaves the connection unbound
+  -- what an end received: the hello of the other side, or the cause that leaves the connection unbound
   abbrev pub Heard : Application → L → L → Arrivals → Reading → Option Unbound → Type 0
   Heard app start now a reader None = WasHeard app start now a reader
   Heard app start now a reader (Some why) = WasRefused of_link plan app start now why
 
-  -- an end of a link of a connection of the plan, which was greeted
+  -- an end of a link of a connection of the plan, after the handshake
   pub record WasGreeted (e : Opened L) (g : Greeted L) : Type 0 where
     pub its_app : application_in plan.applications e.conn ≡ Some g.app.now
     pub is_new : IsNewLink of_link e.link
     pub same_link : (first : L) → of_link.since first e.link → of_link.since first g.link
     pub heard : Heard g.app.now e.link g.link g.arrivals g.reader g.unbound
 
-  -- both ends of a link were greeted, and stand behind others
+  -- both ends of a link after the handshake, appended to others
   pub record BothGreeted (a b : Opened L) (greeted greeted' : List (Greeted L)) : Type 0 where
     pub first : Greeted L
     pub second : Greeted L
@@ -96,7 +97,7 @@ module _ {L : Type 0} (of_link : LinkMembers L) (plan : Plan) where
     pub a_greeted : WasGreeted a first
     pub b_greeted : WasGreeted b second
 
-  -- the ends of connections, two by two those of one link, were opened and greeted
+  -- the ends of connections, two by two those of one link, were opened and made the handshake
   pub record WereGreeted (pair : L → L → Type 0) (conns : List ℕ) (greeted : List (Greeted L)) : Type 0 where
     pub ends : List (Opened L)
     pub are : conns_of ends ≡ conns

@@ -1,4 +1,4 @@
--- What a run needs before it begins (this project's own).
+-- What a run needs before it starts (this project's own).
 use Rattle.std.specs.Prelude.{◌≡◌, ℕ, ◌<◌, length, List, Some}
 use Rattle.std.specs.List.{AllZip}
 use Rattle.run_plan.specs.Ports.{all_ends, application_in}
@@ -9,7 +9,7 @@ use Rattle.service_loop.specs.declared.due_step.DueStep.{DueStep}
 use Rattle.service_wiring.specs.Stepping.{IsStepsOf}
 use Rattle.service.specs.declared.prepared.Prepared.{Prepared}
 
--- these are the steps of operators on a connection of a plan
+-- the operations scheduled for a connection of a plan
 pub record HasSteps (plan : Plan) (conn : ℕ) (steps : List DueStep) : Type 0 where
   pub app : Application
   pub its_app : application_in plan.applications conn ≡ Some app
@@ -17,6 +17,6 @@ pub record HasSteps (plan : Plan) (conn : ℕ) (steps : List DueStep) : Type 0 w
   pub sound : AreSteps steps
   pub known : KnowTenants (λ tenant. tenant < length plan.declared.tenants) steps
 
--- it has the steps on each connection, in the order of the plan's links
+-- the operations scheduled for each connection, in the order of the plan's links
 abbrev pub IsPrepared : Plan → Prepared → Type 0
 IsPrepared plan prepared = AllZip (λ conn steps. HasSteps plan conn steps.items) (all_ends plan.links) prepared.steps.items

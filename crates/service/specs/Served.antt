@@ -30,30 +30,30 @@ use Rattle.service.specs.declared.served.Outcome.{Outcome}
 use Rattle.service.specs.declared.served.Outcome.TheVariants.{Unbound, Bound}
 use Rattle.service.specs.declared.served.ServedConn.{ServedConn}
 
--- the hello of the connection of an application: a frame that says the plan's service and the application's table
+-- the hello of an application's connection: a frame with the plan's service and the application's table
 abbrev pub hello_in : Plan → Application → List ℕ
 hello_in plan app = hello_of app.conn plan.service (table_of plan app)
 
 -- ---- links
 
--- a link as it was opened: nothing was handed to it, nothing came of it, and it never failed
+-- a link as opened: nothing was sent to it or received from it, and it never failed
 pub record IsNewLink {L : Type 0} (of_link : LinkMembers L) (link : L) : Type 0 where
   pub handed : of_link.handed link ≡ []
   pub given : TellsNone (of_link.given link)
   pub not_ended : of_link.ended link ≡ false
   pub faults : of_link.faults link ≡ 0
 
--- each two in turn have the ends of one link
+-- each two items in a row have the ends of one link
 abbrev pub ArePairs : {A L : Type 0} → (A → L) → (L → L → Type 0) → List A → Type 0
 ArePairs link pair [] = Unit {0}
 ArePairs link pair (a ∷ []) = ⊥
 ArePairs link pair (a ∷ b ∷ more) = pair (link a) (link b) × ArePairs link pair more
 
--- ---- what became of a connection
+-- ---- the outcome of a connection
 
 -- A connection wasn't bound: what its link gave, up to the stream's state, leaves it unbound for this cause. Its link
--- was handed its hello alone, or nothing where it failed at it; the stream has ended only where the link answered so;
--- the link's count of faults rose where the stream failed, and only there, and then the cause is the transport.
+-- was handed its hello alone, or nothing if it failed at it. The stream has ended only if the link reported so. The
+-- link's count of failures rose exactly if the stream failed, and then the cause is the transport.
 pub record WasRefused {L : Type 0} (of_link : LinkMembers L) (plan : Plan) (app : Application) (start now : L)
     (why : Cause) : Type 0 where
   pub stream : List ℕ
@@ -67,10 +67,10 @@ pub record WasRefused {L : Type 0} (of_link : LinkMembers L) (plan : Plan) (app 
   pub cause : HasCause (state ≡ Failed) (of_link.faults start) (of_link.faults now)
   pub transport : state ≡ Failed → why ≡ Transport
 
--- A connection was bound, and began so: by the hello with which what its link gave begins, behind which its receiver
--- lives on with what came after it; with its own hello handed over, and no fault of its link; with the steps of
--- operators that the plan has for it, the policy by which what arrives for its application is judged, a new heap for
--- that, and seats of all tenants, which drew nothing.
+-- A connection was bound with this opening: by the hello that is a prefix of what its link gave, after which its
+-- receiver continues with the remaining bytes. Its own hello was handed over, and its link had no failure. It has the
+-- operations that the plan schedules for it, the policy that judges deliveries to its application, a new heap for
+-- these, and seats of all tenants without draws.
 pub record WasBound {C L : Type 0} (of_link : LinkMembers L) (plan : Plan) (clock : C) (app : Application) (start : L)
     (opening : Opening C L) : Type 0 where
   pub its_plan : opening.plan ≡ plan
@@ -92,7 +92,7 @@ pub record WasBound {C L : Type 0} (of_link : LinkMembers L) (plan : Plan) (cloc
   pub seats : length opening.begun.seats ≡ length plan.declared.tenants
   pub not_drawn : All (λ seat. seat.draws ≡ []) opening.begun.seats
 
--- what a run did on a connection that was bound, and what is left of its seats
+-- what a run did on a bound connection, and what is left of its seats
 pub record WasServedBound {C L : Type 0} (of_clock : ClockMembers C) (of_link : LinkMembers L) (plan : Plan) (clock : C)
     (app : Application) (start now : L) (b : BoundConn) : Type 0 where
   pub opening : Opening C L
@@ -101,13 +101,13 @@ pub record WasServedBound {C L : Type 0} (of_clock : ClockMembers C) (of_link : 
   pub served : HasServed of_clock of_link opening b seats now
 
 module _ {C L : Type 0} (of_clock : ClockMembers C) (of_link : LinkMembers L) (plan : Plan) (clock : C) where
-  -- what became of an application's connection, whose link was first so, and is so now
+  -- the outcome of an application's connection, from its link as opened and as it is now
   abbrev pub Became : Application → L → L → Outcome → Type 0
   Became app start now (Unbound why) = WasRefused of_link plan app start now why
   Became app start now (Bound b) = WasServedBound of_clock of_link plan clock app start now b
 
-  -- what a run did on the connection of a number: it is that of the plan's application, and its link is one that was
-  -- opened for it, later on
+  -- what a run did on the connection with this number: it is that of the plan's application, and its link is a later
+  -- state of the one opened for it
   pub record WasServed (conn : ℕ) (s : ServedConn L) : Type 0 where
     pub app : Application
     pub its_app : application_in plan.applications conn ≡ Some app
@@ -119,11 +119,11 @@ module _ {C L : Type 0} (of_clock : ClockMembers C) (of_link : LinkMembers L) (p
 
 -- ---- tickets
 
--- the tickets that the history of a connection tells, of a tenant's window
+-- the tickets of a tenant's window in the history of a connection
 abbrev pub tickets_on : ℕ → ℕ → Outcome → List ℕ
 tickets_on tenant window (Unbound why) = []
 tickets_on tenant window (Bound b) = tickets_behind tenant window (behind b.submissions.conn)
 
--- those of all connections of a run
+-- the tickets of all connections of a run
 abbrev pub all_tickets : {L : Type 0} → ℕ → ℕ → List (ServedConn L) → List ℕ
 all_tickets tenant window conns = flat_map (λ s. tickets_on tenant window s.outcome) conns

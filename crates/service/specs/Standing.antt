@@ -1,4 +1,4 @@
--- The code's own: where the connections of a run stand when its threads begin.
+-- The code's own: the states of a run's connections before its threads start.
 use Rattle.std.specs.Prelude.{◌≡◌, ◌≤◌, ℕ, List, [], ◌∷◌, ◌++◌, All, length, map, Some}
 use Rattle.std.specs.Global.{Vec}
 use Rattle.std.specs.List.{AllZip}
@@ -30,7 +30,7 @@ module _ {C L : Type 0} (of_link : LinkMembers L) (plan : Plan) (clock : C) wher
     pub same_link : (first : L) → of_link.since first e.link → of_link.since first link
     pub refused : WasRefused of_link plan app e.link link why
 
-  -- an end of a link whose connection began so
+  -- an end of a link whose connection has this opening
   pub record IsBegun (e : Opened L) (conn : ℕ) (o : Opening C L) : Type 0 where
     pub app : Application
     pub its_app : application_in plan.applications e.conn ≡ Some app
@@ -39,7 +39,7 @@ module _ {C L : Type 0} (of_link : LinkMembers L) (plan : Plan) (clock : C) wher
     pub same_link : (first : L) → of_link.since first e.link → of_link.since first o.begun.link
     pub bound : WasBound of_link plan clock app e.link o
 
-  -- where each connection stands; those that are bound began so, in the same order
+  -- the state of each connection; the bound ones have these openings, in the same order
   abbrev pub AreStanding : List (Opened L) → List (Standing L) → List (Opening C L) → Type 0
   AreStanding [] [] openings = openings ≡ []
   AreStanding (e ∷ ends) (Unbound conn link why ∷ standings) openings =
@@ -48,7 +48,7 @@ module _ {C L : Type 0} (of_link : LinkMembers L) (plan : Plan) (clock : C) wher
       × (openings ≡ o ∷ more) × IsBegun e conn o × AreStanding ends standings more
   AreStanding _ _ _ = ⊥
 
--- Connections have begun at these ends, of which the bound ones took their seats of the whole.
+-- Connections have started at these ends. The bound ones split their seats from the whole.
 pub record HaveBegun {C R L : Type 0} (of_link : LinkMembers L) (plan : Plan) (clock : C) (whole : List Drawing)
     (ends : List (Opened L)) (standings : List (Standing L)) (items : List (Item C)) (jobs : List Job)
     (writers : List (QueueWriter R L of_link)) (seats : List Drawing) : Type 0 where
@@ -62,7 +62,7 @@ pub record HaveBegun {C R L : Type 0} (of_link : LinkMembers L) (plan : Plan) (c
   pub few : length items ≤ length ends
   pub as_many : length standings ≡ length ends
 
--- Connections have begun at all of these ends. The whole of the seats, which drew nothing, has all shares.
+-- Connections have started at all of these ends. The whole of the seats, without draws, has all shares.
 pub record AllBegun {C R L : Type 0} (of_link : LinkMembers L) (plan : Plan) (clock : C) (ends : List (Opened L))
     (standings : List (Standing L)) (items : List (Item C)) (jobs : List Job) (writers : List (QueueWriter R L of_link))
     (seats : List Drawing) : Type 0 where
@@ -70,12 +70,12 @@ pub record AllBegun {C R L : Type 0} (of_link : LinkMembers L) (plan : Plan) (cl
   pub shares : All (λ seat. seat.share ≡ all_shares) whole
   pub begun : HaveBegun of_link plan clock whole ends standings items jobs writers seats
 
--- these are the steps on the connection of each end
+-- the operations scheduled for the connection of each end
 abbrev pub HaveStepsAt : {L : Type 0} → Plan → List (Opened L) → List (Vec DueStep) → Type 0
 HaveStepsAt plan ends steps = AllZip (λ e due. HasSteps plan e.conn due.items) ends steps
 
--- A bound connection of an application, which began so, was taken up behind the others: it stands among them, and
--- what its threads get stands behind what theirs get. It took half of each share.
+-- A bound connection of an application, with this opening, was appended to the others, and the tasks of its threads
+-- to theirs. It took half of each share.
 pub record TookUp {C R L : Type 0} {g : LinkMembers L} (plan : Plan) (app : Application) (first : Beginning C L)
     (standings standings' : List (Standing L)) (items items' : List (Item C)) (jobs jobs' : List Job)
     (writers writers' : List (QueueWriter R L g)) (seats seats' : List Drawing) : Type 0 where

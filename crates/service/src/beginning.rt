@@ -1,4 +1,4 @@
-//! How the connections of a run begin.
+//! How the connections of a run start.
 
 ghost use Rattle.std.specs.Prelude.{◌≡◌, ◌≢◌, ◌<◌, ◌≤◌, [], ◌∷◌, ◌++◌, All, Contains, IfOk, List, OnOk, Some, length, map, slice_get};
 ghost use Rattle.std.specs.List.{AllZip};
@@ -28,7 +28,7 @@ use shared_heap::Reader;
 use std::sync::Wait;
 use tenant_quota::{Seats, shares_suffice};
 
-// Where a connection stands when the threads begin.
+// The state of a connection before the threads start.
 #[derive(Drop)]
 pub(crate) enum Standing<L> {
     // It is bound.
@@ -37,8 +37,8 @@ pub(crate) enum Standing<L> {
     Unbound { conn: u32, link: L, why: Unbound },
 }
 
-// The connections that have begun, and for those that are bound what each thread gets, all in the same order; and what
-// is left of the seats.
+// The connections that have started, the tasks of the threads for the bound ones, all in the same order, and the
+// remaining seats.
 #[derive(Drop)]
 pub(crate) struct Begun<'t, R: Wait, L: Link, C: Clock, G, O: ReadyOrder> {
     pub standings: Vec<Standing<L>>,
@@ -48,7 +48,7 @@ pub(crate) struct Begun<'t, R: Wait, L: Link, C: Clock, G, O: ReadyOrder> {
     pub seats: Seats,
 }
 
-// Begins each connection, with its steps.
+// Starts each connection, with its scheduled operations.
 pub(crate) fn begin_all<'t, R: Wait, L: Link + Drop, C: Clock, G, O: ReadyOrder>(
     common: &Common<'t, R, C, G, O>,
     steps: &'t [Vec<DueStep>],
@@ -81,7 +81,7 @@ pub(crate) fn begin_all<'t, R: Wait, L: Link + Drop, C: Clock, G, O: ReadyOrder>
     Ok(begun)
 }
 
-// Begins the next connection, whose steps stand at its place.
+// Starts the next connection, whose scheduled operations are at its index.
 fn begin_next<'t, R: Wait, L: Link + Drop, C: Clock, G, O: ReadyOrder>(
     common: &Common<'t, R, C, G, O>,
     steps: &'t [Vec<DueStep>],
@@ -176,7 +176,7 @@ fn take_up<'t, R: Wait, L: Link + Drop, C: Clock, G, O: ReadyOrder>(
     take_in(begun, app.conn, item, job, writer)
 }
 
-// Keeps what the threads of a bound connection get.
+// Keeps the tasks of the threads of a bound connection.
 fn take_in<'t, R: Wait, L: Link + Drop, C: Clock, G, O: ReadyOrder>(
     begun: &mut Begun<'t, R, L, C, G, O>,
     conn: u32,
@@ -190,7 +190,7 @@ fn take_in<'t, R: Wait, L: Link + Drop, C: Clock, G, O: ReadyOrder>(
         × (begun.new.writers.items ≡ begun.old.writers.items ++ writer.entry ∷ [])) }
     ensures seats { begun.new.seats ≡ begun.old.seats }
 {
-    // The job first: it has many parts, which would be dropped one by one behind each push before its own.
+    // The task first: it has many fields, which would otherwise be dropped one by one after each earlier push.
     begun.jobs.push(job)?;
     begun.items.push(item)?;
     begun.writers.push(writer)?;

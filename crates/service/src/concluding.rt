@@ -1,4 +1,4 @@
-//! What became of the connections of a run.
+//! The outcomes of the connections of a run.
 
 ghost use Rattle.std.specs.Prelude.{◌≡◌, ◌<◌, ◌^◌, ◌∷◌, ◌++◌, [], ℕ, IfOk, List, OnOk, length, map};
 ghost use Rattle.std.specs.List.{AllZip};
@@ -20,7 +20,7 @@ use std::alloc::Global;
 use std::vec::IntoIter;
 use tenant_quota::{Seats, seats_come_together};
 
-// What became of each connection, once the seats of all have come together.
+// The outcome of each connection, after the seats of all were joined.
 pub(crate) fn conclude<'t, R, L: Link + Drop, C: Clock, G, O>(
     common: &Common<'t, R, C, G, O>,
     standings: Vec<Standing<L>>,
@@ -47,7 +47,7 @@ pub(crate) fn conclude<'t, R, L: Link + Drop, C: Clock, G, O>(
     Ok(Served { conns })
 }
 
-// What became of each connection, in their order. The seats of those that were served are put together.
+// The outcome of each connection, in their order. Joins the seats of those that were served.
 fn outcomes<'t, L: Drop>(
     alloc: Global,
     standings: Vec<Standing<L>>,
@@ -69,7 +69,7 @@ fn outcomes<'t, L: Drop>(
     Ok(conns)
 }
 
-// What became of the next connection: of one that was bound, the next of those that were met, whose seats are kept.
+// The outcome of the next connection. A bound one takes the next reconciled connection and keeps its seats.
 fn outcome_of<'t, L: Drop>(
     one: Standing<L>,
     met: &mut IntoIter<Met<'t, L>>,

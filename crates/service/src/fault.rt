@@ -1,4 +1,4 @@
-//! Why a run ended at once.
+//! Why a run has no result.
 
 ghost use Rattle.std.specs.Prelude.{◌≡◌};
 ghost use Rattle.service.specs.declared.fault.ServeFault.TheVariants.{Memory as NoMemory};
@@ -6,13 +6,13 @@ ghost use Rattle.service.specs.declared.fault.ServeFault.TheVariants.{Memory as 
 use mrpc_table::Memory;
 use thiserror::Error;
 
-/// Why a run gives nothing back.
+/// Why a run has no result.
 #[derive(Clone, Copy, Debug, PartialEq, Eq, Error)]
 pub enum ServeFault {
     /// The fabric failed to open a link.
     #[error("the fabric failed")]
     Fabric,
-    /// No memory was found.
+    /// Out of memory.
     #[error("out of memory")]
     Memory,
 }

@@ -1,4 +1,4 @@
-//! The links of a run, and how they begin.
+//! The links of a run, and their handshakes.
 
 ghost use Rattle.std.specs.Prelude.{◌≡◌, ◌≢◌, ◌<◌, ◌≤◌, ◌+◌, ◌++◌, ◌^◌, [], ◌∷◌, Contains, IfOk, IfSome, IsErrOf, None, OnErr, OnOk, Some, false, length, true};
 ghost use Rattle.mrpc_base.specs.Faults.{HasCause};
@@ -25,7 +25,7 @@ use shared_heap::Reader;
 use std::alloc::Global;
 use std::sync::Wait;
 
-// An end of a link that said its hello, or whose link failed at it.
+// An end of a link that sent its hello, or whose link failed at it.
 #[derive(Drop)]
 pub(crate) struct Introduced<'t, L> {
     pub app: &'t Application,
@@ -33,7 +33,7 @@ pub(crate) struct Introduced<'t, L> {
     pub said: bool,
 }
 
-// An end of a link that was greeted: the connection is bound, or it isn't, for a cause.
+// An end of a link after the handshake: the connection is bound, or it isn't, for a cause.
 #[derive(Drop)]
 pub(crate) struct Greeted<'t, L> {
     pub app: &'t Application,
@@ -43,7 +43,7 @@ pub(crate) struct Greeted<'t, L> {
     pub unbound: Option<Unbound>,
 }
 
-// Opens the link of each pair of a plan, and greets both of its ends, pair by pair.
+// Opens the link of each pair of a plan, and makes the handshake at both ends, pair by pair.
 pub(crate) fn greet_all<'t, R: Wait, F: Fabric>(
     rt: &R,
     alloc: Global,
@@ -82,7 +82,7 @@ fn open_pair<F: Fabric>(fabric: &mut F, pair: &Pair) -> Result<(F::L, F::L), Ser
     }
 }
 
-// Has both ends of a link say their hellos, and then each hear the other's.
+// Sends the hello at both ends of a link, then receives the other's at each.
 fn greet_pair<'t, R: Wait, L: Link + Drop>(
     rt: &R,
     alloc: Global,
@@ -107,7 +107,7 @@ fn greet_pair<'t, R: Wait, L: Link + Drop>(
     push_pair(ends, first, second)
 }
 
-// Says the hello of a connection. Where the link failed at it, it is finished, so that the other end waits no longer.
+// Sends the hello of a connection. If the link fails at it, finishes the link, so that the other end no longer waits.
 fn introduce<'t, L: Link + Drop>(
     alloc: Global,
     plan: &'t Plan,
@@ -128,7 +128,7 @@ fn introduce<'t, L: Link + Drop>(
     Ok(Introduced { app, link, said })
 }
 
-// Hears the hello of the other end. Where the connection isn't bound, its link is finished.
+// Receives the hello of the other end. If the connection isn't bound, finishes its link.
 fn greet<'t, R: Wait, L: Link + Drop>(
     rt: &R,
     alloc: Global,
@@ -170,14 +170,14 @@ fn greet<'t, R: Wait, L: Link + Drop>(
     })
 }
 
-// Where bytes are received.
+// A buffer into which bytes are received.
 fn receive_buffer(alloc: Global) -> Result<Vec<u8>, Memory>
     ensures { IfOk result (λ buffer. length buffer.items ≡ MOST_BYTES) }
 {
     Ok(vec![in alloc; 0; MOST_BYTES]?)
 }
 
-// Hears the other's hello, where its own was said.
+// Receives the other's hello, if its own was sent.
 fn hear<R: Wait, L: Link>(
     rt: &R,
     alloc: Global,
@@ -210,7 +210,7 @@ fn hear<R: Wait, L: Link>(
     hear_hello(rt, alloc, service, link, arrivals, buffer)
 }
 
-// Finishes a link, or leaves it.
+// Finishes a link if `over` is set.
 fn finish_where<L: Link>(over: bool, link: &mut L)
     ensures handed { L.handed link.new ≡ L.handed link.old }
     ensures given { L.given link.new ≡ L.given link.old }

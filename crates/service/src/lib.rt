@@ -1,15 +1,15 @@
 //! A run of a plan over the links of a fabric.
 //!
-//! [`prepare`] makes what a run needs before it begins. [`serve`] opens the link of each pair of connections, has both
-//! ends say and hear their hellos, and serves the connections that are bound, each with its application, its writer and
-//! workers that visit it in turn with others, to their ends. It stands on `link_greeting` for hellos, on
-//! `service_wiring` for what the threads get, on `service_run` for the threads and what they leave, and on
+//! [`prepare`] makes what a run needs before it starts. [`serve`] opens the link of each pair of connections and
+//! makes the handshake at both ends. It then serves each bound connection to its end, with its application, its
+//! writer, and workers that visit it among others. The crate depends on `link_greeting` for the handshake, on
+//! `service_wiring` for the tasks of the threads, on `service_run` for the threads and what they leave, and on
 //! `tenant_quota` for seats.
 //!
-//! The layer above uses one contract: of each connection of the plan, in the order of its links, [`serve`] gives back
-//! what a run did on it (`WasServed`): that it was not bound, for the cause that its link shows, or that it was, and
-//! then what it did from its hello on. Each two in turn have the ends of one link, and over all of them the tickets of a
-//! tenant's window are 0, 1, 2 and so on, each once, where they are fewer than 2^64.
+//! The layer above uses one contract: for each connection of the plan, in the order of its links, [`serve`] returns
+//! what a run did on it (`WasServed`). Either the connection wasn't bound, for the cause that its link shows, or it
+//! was bound and served from its hello on. Each two results in a row have the ends of one link. Over all results the
+//! tickets of a tenant's window are 0, 1, 2 and so on, each once, if they are fewer than 2^64.
 #![tactic(auto)]
 
 mod beginning;

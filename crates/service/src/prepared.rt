@@ -1,4 +1,4 @@
-//! What a run needs before it begins.
+//! What a run needs before it starts.
 
 ghost use Rattle.std.specs.Prelude.{Contains, IfOk};
 ghost use Rattle.run_plan.specs.Plans.{IsPlan};
@@ -13,15 +13,15 @@ use service_wiring::due_steps;
 use std::alloc::Global;
 use stop_flag::RunFlag;
 
-/// The steps of operators on each connection, in the order of the plan's links, and the flag that stops the run's
-/// threads where memory is wanting.
+/// The operations scheduled for each connection, in the order of the plan's links, and the flag that stops the run's
+/// threads if memory runs out.
 #[derive(Drop)]
 pub struct Prepared {
     pub steps: Vec<Vec<DueStep>>,
     pub stop: RunFlag,
 }
 
-/// Makes what a run of the plan needs before it begins.
+/// Makes what a run of the plan needs before it starts.
 pub fn prepare(alloc: Global, plan: &Plan) -> Result<Prepared, Memory>
     requires { IsPlan plan.now }
     ensures { IfOk result (λ prepared. IsPrepared plan.now prepared) }
@@ -37,7 +37,7 @@ pub fn prepare(alloc: Global, plan: &Plan) -> Result<Prepared, Memory>
     Ok(Prepared { steps, stop })
 }
 
-// The steps on a connection.
+// The operations scheduled for a connection.
 fn steps_on(alloc: Global, plan: &Plan, conn: u32) -> Result<Vec<DueStep>, Memory>
     requires plan { IsPlan plan.now }
     requires known { Contains (connections_of plan.now.applications) conn }

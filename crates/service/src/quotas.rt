@@ -9,7 +9,7 @@ use run_plan::Plan;
 use std::alloc::Global;
 use tenant_quota::Seats;
 
-// A new quota for each tenant, with its one seat.
+// A new quota for each tenant, with a single seat.
 pub(crate) fn all_seats(alloc: Global, plan: &Plan) -> Result<Seats, Memory>
     ensures tenants { IfOk result (λ seats. length seats ≡ length plan.now.declared.tenants) }
     ensures shares { IfOk result (λ seats. All (λ seat. seat.share ≡ all_shares) seats) }

@@ -1,9 +1,9 @@
-//! What a run gives back.
+//! The results of a run.
 
 use link_greeting::Unbound;
 use service_run::BoundConn;
 
-/// What became of a connection.
+/// The outcome of a connection.
 #[derive(Drop)]
 pub enum Outcome<'t> {
     /// It wasn't bound, for this cause; its application wasn't started.
@@ -12,7 +12,7 @@ pub enum Outcome<'t> {
     Bound(BoundConn<'t>),
 }
 
-/// What a run did on a connection.
+/// The result of a run for one connection.
 #[derive(Drop)]
 pub struct ServedConn<'t, L> {
     /// Its number, 1 to 16.
@@ -22,7 +22,8 @@ pub struct ServedConn<'t, L> {
     pub outcome: Outcome<'t>,
 }
 
-/// What a run did on its connections, in the order of the plan's links: of each link that at `a`, and then that at `b`.
+/// The results for all connections, in the order of the plan's links: for each link first the connection `a`, then
+/// `b`.
 #[derive(Drop)]
 pub struct Served<'t, L> {
     pub conns: Vec<ServedConn<'t, L>>,

@@ -32,10 +32,10 @@ use std::alloc::Global;
 use std::sync::Wait;
 use std::thread::Threads;
 
-/// Runs a plan over the links of a fabric, up to the end of each connection: it opens the link of each pair, has both
-/// ends greet each other, and serves each connection that is bound with its application. It waits for the connections.
-/// `Fabric` comes where the fabric failed to open a link, and `Memory` where no memory was found in any thread; links
-/// that were opened are then dropped.
+/// Runs a plan over the links of a fabric, to the end of each connection: opens the link of each pair, makes the
+/// handshake at both ends, and serves each bound connection with its application. Blocks until all connections are
+/// finished. `Fabric` if the fabric failed to open a link. `Memory` if any thread ran out of memory; links that were
+/// opened are then dropped.
 pub fn serve<'t, R: Threads + Wait + Sync, F: Fabric, C: Clock, G: Gate, O: ReadyOrder>(
     rt: &'t R,
     alloc: Global,
@@ -48,22 +48,22 @@ pub fn serve<'t, R: Threads + Wait + Sync, F: Fabric, C: Clock, G: Gate, O: Read
 ) -> Result<Served<'t, F::L>, ServeFault>
     requires plan { IsPlan plan.now }
     requires prepared { IsPrepared plan.now prepared.now }
-    // An order that goes by the plan's weights, where the plan's connections are weighed.
+    // The order follows the plan's weights, if the plan's connections are weighted.
     requires order { GoesBy plan.now (O.grant_of order.now) }
 
-    // What it did on each connection, in the order of the links.
+    // What the run did on each connection, in the order of the links.
     ensures served { IfOk result (λ served. AllZip (WasServed C.Clock F.L.Link plan.now clock.now)
         (all_ends plan.now.links) served.conns.items) }
 
-    // Each two in turn have the ends of one link.
+    // Each two results in a row have the ends of one link.
     ensures pairs { IfOk result (λ served. ArePairs (λ s. s.link) F.pair served.conns.items) }
 
-    // The tickets of a tenant's window are 0, 1, 2 and so on, each once, where they are fewer than 2^64.
+    // The tickets of a tenant's window are 0, 1, 2 and so on, each once, if they are fewer than 2^64.
     ensures tickets { IfOk result (λ served. (tenant window : ℕ) → tenant < length plan.now.declared.tenants
         → window < WINDOWS → length (all_tickets tenant window served.conns.items) < 2 ^ 64
         → EachOnce (all_tickets tenant window served.conns.items)) }
 
-    // The fabric got no link back, and as many more are away as there are connections here.
+    // The fabric got no link back, and one more is away for each connection here.
     ensures away { IfOk result (λ served. F.away fabric.new ≡ F.away fabric.old + length served.conns.items) }
     ensures back { F.back fabric.new ≡ F.back fabric.old }
     ensures cause { HasCause (IsErrOf result ServeFault.Fabric) (F.faults fabric.old) (F.faults fabric.new) }
@@ -82,7 +82,7 @@ pub fn serve<'t, R: Threads + Wait + Sync, F: Fabric, C: Clock, G: Gate, O: Read
     Ok(served)
 }
 
-// Serves the connections whose links were greeted.
+// Serves the connections after the handshakes.
 fn run_all<'t, R: Threads + Wait + Sync, L: Link + Send + Drop, C: Clock, G: Gate, O: ReadyOrder>(
     common: &Common<'t, R, C, G, O>,
     steps: &'t [Vec<DueStep>],

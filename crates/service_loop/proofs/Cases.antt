@@ -1,4 +1,4 @@
--- Answers by cases, and facts that stay.
+-- Results by cases, and facts that are preserved.
 use Rattle.std.proofs.Common.{◌≡◌, ℕ, ◌≤◌, inl, inr, Bool, true, false, List, [], ◌++◌, Option, Some, None, Result}
 use Rattle.std.proofs.Common.{Ok, Err, OnOk, refl, sym, ap, ◌∙◌, arith, append_assoc, append-nil, ◌+◌, length, take}
 use Rattle.std.proofs.Common.{drop, length-append, length-take}
@@ -18,9 +18,9 @@ use Rattle.service_loop.specs.Steps.{KnowTenants}
 use Rattle.service_loop.specs.declared.due_step.DueStep.{DueStep}
 use Rattle.service_loop.specs.declared.submissions.Submissions.{Submissions}
 
--- ---- answers
+-- ---- results
 
--- what follows from an answer without a fault
+-- what follows from a result without an error
 pub ok-then : {A E P Q : Type 0} (r : Result A E) → OnOk r P → (P → Q) → OnOk r Q
 ok-then (Ok x) h then = then h
 ok-then (Err e) h then = tt
@@ -29,7 +29,7 @@ pub untrue : (b : Bool) → (b ≡ true → ⊥) → b ≡ false
 untrue true h = absurd (h refl)
 untrue false h = refl
 
--- a buffer that was lent as a whole has the length that it had
+-- a buffer that was lent as a whole has its length again
 pub lent-back : (n : ℕ) (new lent items : List ℕ) → length new ≡ length lent → lent ≡ items → length items ≡ n
     → length (take n (new ++ drop (length new) items)) ≡ length items
 lent-back n new lent items same whole many =
@@ -38,7 +38,7 @@ lent-back n new lent items same whole many =
     length-append new (drop (length new) items) in
     simp length-take (omega (arith, long, all, same, many))
 
--- ---- bytes that come piece by piece
+-- ---- bytes that arrive piece by piece
 
 pub appends-then : (a b c : Option (List ℕ)) (p q : List ℕ) → Appends a b p → Appends b c q → Appends a c (p ++ q)
 appends-then None b c p q first second = tt
@@ -47,7 +47,7 @@ appends-then (Some xs) (Some ys) None p q first second = absurd second
 appends-then (Some xs) (Some ys) (Some zs) p q first second =
     second ∙ ap (λ ws. ws ++ q) first ∙ append_assoc xs p q
 
--- ---- frames, tickets and faults, step by step
+-- ---- frames, tickets and failures, step by step
 
 pub hands-then : (a b c : Connection) (x y z : List (List ℕ)) → Hands a b x y → Hands b c y z → Hands a c x z
 hands-then a b c x y z first second = (

@@ -1,4 +1,4 @@
--- The chain that steps make, and that it refuses none of them.
+-- The chain after operations, none of which it refuses.
 use Rattle.std.proofs.Common.{◌≡◌, ℕ, ◌+◌, ◌<◌, ◌≤◌, ◌^◌, not, if◌then◌else◌, cond, List, [], ◌∷◌, ◌++◌, length, map}
 use Rattle.std.proofs.Common.{take, drop, refl, ap, sym, ◌∙◌, subst, arith, length-take, true, false, Bool}
 use Rattle.std.specs.Prelude.{All, Option, IsSomeAnd}
@@ -21,7 +21,7 @@ use Rattle.service_loop.specs.Steps.{AreSteps, HaveCome, IsCome, RefusesNone, st
 use Rattle.service_loop.specs.declared.due_step.DueStep.{DueStep}
 use Rattle.service_loop.proofs.Lists.{IsAt, all-of-map}
 
--- a chain after some steps
+-- a chain after a list of operations
 abbrev pub changed_by : List Step → Chain → Chain
 changed_by [] c = c
 changed_by (step ∷ steps) c = changed_by steps (changed step c)
@@ -34,7 +34,7 @@ changed-snoc (first ∷ steps) step c = changed-snoc steps step (changed first c
 abbrev pub ops_in : Behind → List Step
 ops_in past = map (λ came. came.0) (steps_in past)
 
--- the chain behind is that of the steps that came
+-- the chain of a trace is that of the operations applied
 pub chain-is : (past : Behind) → chain past ≡ changed_by (ops_in past) empty_chain
 chain-is [] = refl
 chain-is (what.Op step ∷ past) =
@@ -62,7 +62,7 @@ ops-come all (x ∷ came) (due ∷ steps) zip =
 
 -- ---- numbers and policies
 
--- so many attachments and upgrades at most, and each policy is of some kind
+-- at most this many attachments and upgrades, and each policy satisfies a predicate
 pub record IsBounded (P : Policy → Type 0) (n : ℕ) (c : Chain) : Type 0 where
   pub attached : c.attached ≤ n
   pub versions : All (λ e. e.version ≤ n + 1) c.entries
@@ -137,7 +137,7 @@ empty-bounded P = record {
   policies = All-nil (λ (e : Entry). P e.policy);
 }
 
--- the engines of a connection to whose chain these steps came
+-- the engines of a connection to whose chain these operations were applied
 pub record HasEngines (P : Policy → Type 0) (n : ℕ) (c : ChainParts) : Type 0 where
   pub attached : c.attached ≤ n
   pub versions : All (λ e. e.entry.version ≤ n + 1) c.engines
@@ -166,7 +166,7 @@ engines-bounded P all c steps h came policies =
           all-bounded.policies;
     }
 
--- the same for the first steps of a list
+-- like `engines-bounded`, for a prefix of the operations
 pub engines-first : (P : Policy → Type 0) (all : Option ℕ) (c : Connection) (steps : List DueStep) (applied : ℕ)
     → IsConnection c → HaveCome all (behind c) (take applied steps) → All (λ due. IfPolicy due.step P) steps
     → HasEngines P (length (take applied steps)) c.chain
@@ -186,14 +186,14 @@ few-versions P c steps applied h few =
     (λ (e : EngineParts). e.entry.version + 1 < 2 ^ 32)
     (λ e low. omega (arith, low, few, length-take applied steps)) c.engines h.versions
 
--- ---- no step is refused
+-- ---- no operation is refused
 
 refuses-at : (front : List Step) (step : Step) (back : List Step) (c : Chain) → RefusesNone c (front ++ step ∷ back)
     → Changes (changed_by front c) step (changed step (changed_by front c))
 refuses-at [] step back c none = none.0
 refuses-at (first ∷ front) step back c none = refuses-at front step back (changed first c) none.1
 
--- a chain that takes a step doesn't refuse it
+-- a chain that applies an operation doesn't refuse it
 not-refused : (answer : ChainFault) (c : Chain) (step : Step) (after : Chain) → Changes c step after
     → IsSomeAnd (refusal_in answer) (Refuses c step) → ⊥
 not-refused (fault.NoSuch name) c step after changes refused = changes.free _ refused.against
@@ -203,7 +203,7 @@ not-refused (fault.ChainFull engines) c step after changes refused = changes.fre
 not-refused (fault.OtherKind name) c step after changes refused = changes.free _ refused.against
 not-refused fault.Memory c step after changes refused = refused
 
--- the next step isn't refused
+-- the next operation isn't refused
 pub never-refused : (all : Option ℕ) (c : Connection) (steps : List DueStep) (applied : ℕ) (due : DueStep)
     (answer : ChainFault) → IsConnection c → AreSteps steps → IsAt steps applied due
     → HaveCome all (behind c) (take applied steps) → IsSomeAnd (refusal_in answer) (Refuses (chain_of c.chain) due.step)

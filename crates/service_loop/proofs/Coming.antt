@@ -1,4 +1,4 @@
--- The steps that came, once one more does.
+-- The operations applied, after one more is.
 use Rattle.std.proofs.Common.{◌≡◌, ◌⊎◌, inl, inr, ℕ, ◌+◌, ◌<◌, ◌≤◌, Bool, true, false, List, [], ◌∷◌, ◌++◌, length}
 use Rattle.std.proofs.Common.{take, drop, refl, ap, sym, ◌∙◌, subst, arith}
 use Rattle.std.specs.Prelude.{Option, Some, None}
@@ -18,7 +18,7 @@ all-same : (closed : Bool) (past new : Behind) → taken new ≡ taken past → 
 all-same false past new same = refl
 all-same true past new same = ap (λ calls. Some (length calls)) same
 
--- the steps that came stay so where no step comes and no call is taken
+-- the operations applied stay the same if none is applied and no call is taken
 pub come-beside : (closed : Bool) (past new : Behind) (steps : List DueStep) → taken new ≡ taken past
     → steps_in new ≡ steps_in past → HaveCome (all_taken closed past) past steps
     → HaveCome (all_taken closed new) new steps
@@ -26,7 +26,7 @@ come-beside closed past new steps calls came h =
     subst (λ (xs : List (Step × ℕ)). AllZip (IsCome (all_taken closed new)) xs steps) (sym came)
     (subst (λ (all : Option ℕ). AllZip (IsCome all) (steps_in past) steps) (sym (all-same closed past new calls)) h)
 
--- where a call is taken while more may come
+-- a call is taken while more may follow
 pub come-open : (past new : Behind) (steps : List DueStep) → steps_in new ≡ steps_in past
     → HaveCome (all_taken false past) past steps → HaveCome (all_taken false new) new steps
 come-open past new steps came h = subst (λ (xs : List (Step × ℕ)). AllZip (IsCome None) xs steps) (sym came) h
@@ -39,7 +39,7 @@ closing n (x ∷ came) [] zip = absurd zip
 closing n (x ∷ came) (due ∷ steps) zip =
     (record { step = zip.0.step; place = inl zip.0.place }, closing n came steps zip.1)
 
--- once it is known that no more calls come
+-- once it is known that no more calls follow
 pub come-closing : (past : Behind) (steps : List DueStep) → HaveCome (all_taken false past) past steps
     → HaveCome (all_taken true past) past steps
 come-closing past steps h = closing (length (taken past)) (steps_in past) steps h
@@ -54,7 +54,7 @@ in-place true past count accepted is least reached = elim (cases_eq accepted cou
   | inr other ↦ inr (refl, (let less : length (taken past) < count = omega (arith, is, least, other) in less))
 ]
 
--- The next step comes.
+-- the next operation is applied
 pub come-next : (closed : Bool) (past new : Behind) (steps : List DueStep) (applied accepted : ℕ) (due : DueStep)
     → taken new ≡ taken past → steps_in new ≡ steps_in past ++ (due.step, length (taken past)) ∷ []
     → accepted ≡ length (taken past) → IsAt steps applied due → CountsAscend accepted (drop applied steps)
@@ -75,7 +75,7 @@ come-next closed past new steps applied accepted due calls came count at left re
     (subst (AllZip (IsCome (all_taken closed past)) (steps_in past ++ (due.step, length (taken past)) ∷ []))
     (sym at.upto) zip))
 
--- those that are left
+-- the remaining operations
 pub left-next : (steps : List DueStep) (applied accepted : ℕ) (due : DueStep) → IsAt steps applied due
     → CountsAscend accepted (drop applied steps) → CountsAscend accepted (drop (applied + 1) steps)
 left-next steps applied accepted due at left =

@@ -1,4 +1,4 @@
--- Whether a step is due.
+-- Whether an operation is due.
 use Rattle.std.proofs.Common.{◌≡◌, ℕ, ◌<◌, ◌≤◌, zero, suc, Bool, true, false, List, [], ◌∷◌, length, refl, arith}
 use Rattle.std.specs.Prelude.{Some, leb, slice_get}
 use Rattle.std.specs.Bool.{OnTrue}

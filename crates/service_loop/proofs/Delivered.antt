@@ -1,4 +1,4 @@
--- Deliveries go on.
+-- Deliveries advance.
 use Rattle.std.proofs.Common.{◌≡◌, ◌≢◌, ℕ, ◌+◌, ◌<◌, ◌≤◌, ◌^◌, ◌⊎◌, inl, inr, List, [], ◌∷◌, ◌++◌, map, length}
 use Rattle.std.proofs.Common.{Option, Some, None, refl, sym, ap, subst, ◌∙◌, arith, append_assoc, append-nil}
 use Rattle.std.proofs.Common.{length-append, option_to_list, IsPermutation}
@@ -37,7 +37,7 @@ use Rattle.deliveries.specs.declared.reclaims.Reclaims.{Reclaims}
 use Rattle.service_loop.specs.Delivering.{CountsAsEnded, HaveDelivered, HaveEnded, HaveGoneOn, IsClosing, held_numbers, message_blocks, message_of, messages_of}
 use Rattle.service_loop.specs.declared.delivering.Deliveries.{Deliveries}
 
--- ---- how many there are
+-- ---- numbers of frames
 
 few-messages : (fates : List Fated) → length (messages_of fates) ≤ length fates
 few-messages [] = omega arith
@@ -74,9 +74,9 @@ few-given heap placed n h =
     length-blocks [] = refl
     length-blocks (x ∷ xs) = let rest = length-blocks xs in omega (arith, rest)
 
--- ---- at first
+-- ---- initially
 
--- nothing was placed, told or given back
+-- nothing was placed, sent or given back
 pub delivered-none : (life : Life) (d : Deliveries) → HaveLived life d.arrivals → life.fates ≡ []
     → IsTelling d.arrivals.writer.heap [] d.notices → IsReclaiming [] [] d.reclaims
     → d.arrivals.inbound.heap.held ≡ [] → d.reclaims.programmed < 2 ^ 63 → (IsClosing d.notices → ⊥)
@@ -105,21 +105,21 @@ told-none-yet heap n waiting notices numbers owed given of_heap = record {
   of_heap = of_heap;
 }
 
--- where neither ring was closed
+-- neither ring was closed
 pub neither : (notices : Sending) (blocks : NumberSending) → (Some notices ≡ None) ⊎ (Some blocks ≡ None) → ⊥
 neither notices blocks (inl none) = none-some notices (sym none)
 neither notices blocks (inr none) = none-some blocks (sym none)
 
--- ---- numbers that come back
+-- ---- returned numbers
 
--- what two lists have in common, in either order
+-- the common items of two lists, in either order
 swapped : (xs ys : List ℕ) (x : ℕ) → IsPermutation ((xs ++ x ∷ []) ++ ys) ((xs ++ ys) ++ x ∷ [])
 swapped xs ys x = subst (λ zs. IsPermutation zs ((xs ++ ys) ++ x ∷ [])) (sym (append_assoc xs (x ∷ []) ys))
     (subst (IsPermutation (xs ++ (x ∷ ys))) (sym (append_assoc xs ys (x ∷ [])))
     (IsPermutation-append xs xs (x ∷ ys) (ys ++ x ∷ []) (IsPermutation-refl xs)
     (IsPermutation-append_comm (x ∷ []) ys)))
 
--- a block leaves the held ones, and its number comes back
+-- a block is no longer held, and its number came back
 left-one : (number : ℕ) (old new : List Block) (back placed : List ℕ) → IsWithout number old new
     → IsPermutation placed (held_numbers old ++ back) → IsPermutation placed (held_numbers new ++ (back ++ number ∷ []))
 left-one number old new back placed without is =
@@ -156,7 +156,7 @@ all-fed a i same (inr (inl most)) = inr (inl most)
 all-fed a i same (inr (inr (ended, partial))) =
     inr (inr (ended, subst (λ (f : Fed). IsPartial f.bytes) (sym same) partial))
 
--- what a reclaim leaves of the receiver
+-- what a reclaim preserves of the receiver
 pub record StaysFed (T : Table) (old new : Receiving) : Type 0 where
   pub life : (life : Life) → Lives T life old → Lives T life new
   pub fed : new.fed ≡ old.fed
@@ -197,7 +197,7 @@ reclaimed life numbers back more gained d i r h stays returned lost programmed =
 
 -- ---- what is received
 
--- nothing came, and no number
+-- nothing arrived, and no number came back
 pub same-numbers : (life : Life) (numbers back : List ℕ) (d : Deliveries) → HaveDelivered life numbers back d
     → HaveDelivered life (numbers ++ []) (back ++ []) d
 same-numbers life numbers back d h = subst (λ xs. HaveDelivered life xs (back ++ []) d) (sym (append-nil numbers))
@@ -224,13 +224,13 @@ gone-nowhere life numbers back known d h = record {
   delivered = same-numbers life numbers back d h;
 }
 
--- a stream that is open isn't all
+-- an open stream isn't complete
 pub not-all : (a : Arrivals) → a.stream ≡ Open → length a.lines.items < MAX_ARRIVALS → HasAll a → ⊥
 not-all a is few (inl failed) = let wrong : Open ≡ Failed = sym is ∙ failed in absurd cc
 not-all a is few (inr (inl most)) = absurd (omega (arith, few, most))
 not-all a is few (inr (inr (ended, partial))) = ended is
 
--- nor does it count as ended
+-- it doesn't count as ended either
 pub not-counted : (a : Arrivals) → (a.stream ≡ Open) × (length a.lines.items < MAX_ARRIVALS) → CountsAsEnded a → ⊥
 not-counted a unclosed (inl ended) = ended unclosed.0
 not-counted a unclosed (inr most) = absurd (let less = unclosed.1 in omega (arith, less, most))
@@ -270,7 +270,7 @@ fated-none life numbers back d h =
     (record { stream = life.stream; fault = life.fault; hello = life.hello; fates = fs }) numbers back d)
     (sym (append-nil life.fates)) h
 
--- frames had their fates, and what the application is told of grew with them
+-- frames were handled, and the notices grew with them
 told-more : (life : Life) (numbers back : List ℕ) (more : List Fated) (d : Deliveries) (a : Arrivals) (n : Notices)
     → HaveDelivered life numbers back d → HaveLived (fated life more) a
     → IsTelling a.writer.heap (messages_of (life.fates ++ more)) n
@@ -301,7 +301,7 @@ told-none life numbers back more d a h lived none heap held unclosed =
     (subst (λ bs. IsPermutation (message_blocks (messages_of life.fates)) (held_numbers bs ++ back)) (sym held) h.held))
     unclosed
 
--- what a turn made of the arrivals
+-- the effect of a turn on the arrivals
 abbrev pub HaveTurned : Life → Turned → Arrivals → Type 0
 HaveTurned life turned a = (more : List Fated) × AreTurned turned more × HaveLived (fated life more) a
 
@@ -383,7 +383,7 @@ turned-delivered life numbers back d a n answer m h t is holds heap told unclose
         (IsPermutation-append xs xs (ys ++ x ∷ []) (x ∷ ys) (IsPermutation-refl xs)
         (IsPermutation-append_comm ys (x ∷ []))))
 
--- the frames that have their fates are no fewer later on
+-- later states have handled at least as many frames
 pub ended-later : (life : Life) (numbers back : List ℕ) (more : List Fated) (d e : Deliveries)
     → HaveDelivered life numbers back d → HaveDelivered (fated life more) numbers back e
     → e.arrivals.stream ≡ d.arrivals.stream → CountsAsEnded d.arrivals → CountsAsEnded e.arrivals
@@ -400,7 +400,7 @@ pub open-later : (old new : Notices) → StayOpen old new → (IsClosing old →
 open-later old new stay unclosed (inl notices) = unclosed (inl (stay.notices notices))
 open-later old new stay unclosed (inr blocks) = unclosed (inr (stay.numbers blocks))
 
--- what was placed stays, and the application was told of more
+-- the placed messages stay, and the application was sent more notices
 pub told-on : (life : Life) (numbers back : List ℕ) (d : Deliveries) (n : Notices) → HaveDelivered life numbers back d
     → IsTelling d.arrivals.writer.heap (messages_of life.fates) n
     → (IsClosing n → HaveEnded (record d { notices = n }))
@@ -414,7 +414,7 @@ told-on life numbers back d n h told closed = record {
   closed = closed;
 }
 
--- ---- the link fails elsewhere
+-- ---- the link fails at a send
 
 pub stopped : (life : Life) (numbers back : List ℕ) (d : Deliveries) → d.arrivals.stream ≡ Open
     → HaveDelivered life numbers back d
@@ -447,7 +447,7 @@ stopped life numbers back d is h =
 
 -- ---- a round
 
--- the deliveries after each part of a round, with what each part made of them
+-- the deliveries after each part of a round, with the effect of each part
 pub gone : (life : Life) (numbers back more gained : List ℕ) (fates : List Fated) (given given' : Option (List ℕ))
     (mid new : Deliveries) (r : HaveGoneOn life (numbers ++ more) (back ++ gained) given given' mid)
     → HaveDelivered (fated r.later fates) ((numbers ++ more) ++ r.more) ((back ++ gained) ++ r.gained) new
@@ -470,7 +470,7 @@ gone life numbers back more gained fates given given' mid new r h = record {
       (append_assoc back gained r.gained) h);
 }
 
--- the link failed where its stream counts as failed now, as far as the stream was the same before and after
+-- the link failed exactly if its stream counts as failed now, given streams that are equal before and after
 pub cause-as : (x w y z : Stream) (m n : ℕ) → x ≡ w → z ≡ y → HasCause ((x ≢ Failed) × (y ≡ Failed)) m n
     → HasCause ((w ≢ Failed) × (z ≡ Failed)) m n
 cause-as x w y z m n before after h =

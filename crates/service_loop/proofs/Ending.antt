@@ -1,4 +1,4 @@
--- What drains and the end of a link leave of submissions.
+-- How drains and the end of a link change submissions.
 use Rattle.std.proofs.Common.{◌≡◌, ℕ, true, false, List, [], ◌∷◌, map, sym, ◌∙◌, subst, append-nil}
 use Rattle.mrpc_base.specs.Faults.{HasCause}
 use Rattle.shared_heap.specs.Fresh.{Reading}
@@ -85,7 +85,7 @@ served-failed old new b by h =
 
 -- ---- drains
 
--- a drain of a connection that hadn't ended: it came to its end, or its link failed
+-- a drain of a connection that hadn't ended: it completed, or its link failed
 pub record Ends (failed : Type 0) (a b : Connection) : Type 0 where
   pub unended : a.ended ≡ false
   pub views : SameViews (behind a) (behind b)

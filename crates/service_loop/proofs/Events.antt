@@ -1,4 +1,4 @@
--- What a step, a moment and an acceptance leave behind.
+-- The events of an operation, a timestamp and an acceptance.
 use Rattle.std.proofs.Common.{◌≡◌, ℕ, [], ◌∷◌, ◌++◌, refl, ap, sym, ◌∙◌, subst, append-nil}
 use Rattle.mrpc_table.specs.declared.table.Table.{Table}
 use Rattle.engine_core.specs.declared.op.Op.{Op as Step}
@@ -16,9 +16,9 @@ use Rattle.conn_core.specs.Connections.{Connection, IsSame, behind, frames}
 use Rattle.service_loop.specs.Calls.{moments_at_calls, moments_in, turned_away}
 use Rattle.service_loop.specs.Steps.{steps_in}
 
--- ---- what is handed over and drawn
+-- ---- what is sent and drawn
 
--- what came behind hands nothing over and draws nothing
+-- the new events send nothing and draw nothing
 pub record HandsNone (past new : Behind) : Type 0 where
   pub frames : (T : Table) (conn : ℕ) → frames_behind T conn new ≡ frames_behind T conn past
   pub tickets : (tenant window : ℕ) → tickets_behind tenant window new ≡ tickets_behind tenant window past
@@ -32,7 +32,7 @@ frames-from a b same none =
     (λ (n : ℕ). frames_behind a.table n (behind b)) same.conn
     ∙ none.frames a.table a.conn
 
--- ---- a step of an operator
+-- ---- an operation of an operator
 
 pub record HasStepped (old new : Course) (step : Step) : Type 0 where
   pub past : new.past ≡ Op step ∷ old.past
@@ -56,7 +56,7 @@ stepped-in u old new step (link_failed is new-is) = absurd cc
 
 -- ---- an acceptance
 
--- a call was taken, and nothing else
+-- a call was accepted, and nothing else
 pub record TakesIn (call : Taken) (past new : Behind) : Type 0 where
   pub taken : taken new ≡ taken past ++ call ∷ []
   pub steps : steps_in new ≡ steps_in past
@@ -95,7 +95,7 @@ takes-refused call past = record {
   };
 }
 
--- the course after it
+-- the state after it
 record GoesBy (call : Taken) (old new : Course) : Type 0 where
   views : TakesIn call old.past new.past
   ended : new.ended ≡ old.ended

@@ -1,4 +1,4 @@
--- What holds of submissions as they go on.
+-- The invariant of submissions as they advance.
 use Rattle.std.proofs.Common.{◌≡◌, ◌⊎◌, ℕ, ◌+◌, ◌≤◌, Bool, true, false, List, [], ◌∷◌, ◌++◌, length, map, flat_map}
 use Rattle.std.proofs.Common.{take, drop, refl, ap, sym, ◌∙◌, subst, arith, append_assoc, append-nil}
 use Rattle.std.specs.Prelude.{Some, slice_get}
@@ -22,7 +22,7 @@ use Rattle.service_loop.proofs.Coming.{come-beside, come-next, come-open, left-n
 use Rattle.service_loop.proofs.Events.{HasAccepted, HasStepped, accepted-in}
 use Rattle.service_loop.proofs.Lists.{IsAt, zip-push}
 
--- ---- where no call is taken
+-- ---- no call is taken
 
 readers-beside : (a b : Connection) (r : Reading) → IsSame a b → taken (behind b) ≡ taken (behind a) → AreReaders a r
     → AreReaders b r
@@ -45,7 +45,7 @@ accepts-beside a b items linked calls away h = record {
   none_away = away ∙ h.none_away;
 }
 
--- no call is taken and no step comes
+-- no call is taken and no operation is applied
 pub serves-beside : (a b : Connection) (r : Reading) (ring : Receiving) (steps : List DueStep) (applied count : ℕ)
     → IsSame a b → (b.ended ≡ false → a.ended ≡ false) → taken (behind b) ≡ taken (behind a)
     → steps_in (behind b) ≡ steps_in (behind a) → turned_away (behind b) ≡ turned_away (behind a)
@@ -63,9 +63,9 @@ serves-beside a b r ring steps applied count same linked calls came away h = rec
   left = h.left;
 }
 
--- ---- a step
+-- ---- an operation
 
--- the next step comes
+-- the next operation is applied
 pub serves-step : (a b : Connection) (r : Reading) (ring : Receiving) (steps : List DueStep) (applied count : ℕ)
     (due : DueStep) → IsSame a b → HasStepped (course a) (course b) due.step → slice_get steps applied ≡ Some due
     → IsAt steps applied due → (ring.closed ≡ true) ⊎ (due.count ≤ count) → Serves a r ring steps applied count
@@ -91,7 +91,7 @@ serves-step a b r ring steps applied count due same stepped found at reached h =
 
 -- ---- a call
 
--- a descriptor was taken, and given up since the link has failed
+-- a descriptor was taken, and rejected because the link has failed
 pub serves-given-up : (c : Connection) (r : Reading) (old new : Receiving) (steps : List DueStep) (applied count : ℕ)
     (d : Descriptor) → c.ended ≡ true → new.taken ≡ old.taken ++ d ∷ [] → new.closed ≡ old.closed
     → new.heap ≡ old.heap → Serves c r old steps applied count → Serves c r new steps applied count
@@ -154,14 +154,14 @@ more-loads loads own before after is adds =
     (sym (append-nil own.loads))
     ∙ sym (flat_map-append (λ (call : CallLoads). call.loads) loads (own ∷ []))
 
--- the reader made these loads for one more call, which are fresh
+-- the reader made these loads for one more call, and they are fresh
 pub record HasRead (after : ℕ) (own : Loads) (old new : Reading) : Type 0 where
   pub heap : new.heap ≡ old.heap
   pub adds : map word_of new.loads ≡ map word_of old.loads ++ own
   pub fresh : (calls : List CallLoads) → Fresh calls old.known
       → Fresh (calls ++ (record { after = after; loads = own }) ∷ []) new.known
 
--- a call that was accepted has the next number
+-- an accepted call has the next number
 pub call-number : (a b : Connection) (r : Reading) (old : Receiving) (steps : List DueStep) (applied count seq H : ℕ)
     (d : Descriptor) (own : Loads) → Accepts H (ask_of d) seq own a b → Serves a r old steps applied count
     → seq ≡ count + 1

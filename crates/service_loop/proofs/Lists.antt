@@ -11,7 +11,7 @@ all-of-map P f [] all = All-nil (λ x. P (f x))
 all-of-map P f (x ∷ xs) all =
     All-cons (λ x. P (f x)) x xs (All-head P (f x) (map f xs) all) (all-of-map P f xs (All-tail P (f x) (map f xs) all))
 
--- a list at one of its elements
+-- a list at one of its indices
 pub record IsAt {X : Type 0} (xs : List X) (i : ℕ) (x : X) : Type 0 where
   pub within : i < length xs
   pub upto : take (i + 1) xs ≡ take i xs ++ x ∷ []

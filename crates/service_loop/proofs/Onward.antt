@@ -1,4 +1,4 @@
--- A connection that goes on, step by step.
+-- A connection that advances, step by step.
 use Rattle.std.proofs.Common.{◌≡◌, ℕ, true, false, List, [], ◌++◌, Option, refl, sym, ap, subst, ◌∙◌, arith, append_assoc, append-nil}
 use Rattle.mrpc_base.specs.declared.clock.Clock.{Ghosts as ClockMembers}
 use Rattle.mrpc_base.specs.declared.link.Link.{Ghosts as LinkMembers}
@@ -39,7 +39,7 @@ deliveries-then a b c ab bc = record {
   programmed = bc.programmed ∙ ab.programmed;
 }
 
--- what was delivered stays, and the link gave nothing
+-- the deliveries stay, and the link gave nothing
 pub delivers-same : (given given' : Option (List ℕ)) (old new : Deliveries) → given' ≡ given
     → ((life : Life) (numbers back : List ℕ) → HaveDelivered life numbers back old → HaveDelivered life numbers back new)
     → DeliversOn given given' old new
@@ -125,7 +125,7 @@ module _ {C Q L : Type 0} (clock : ClockMembers C) (quotas : TicketMembers Q) (l
         c.deliveries ab.delivers bc.delivers;
   }
 
-  -- the rounds that are kept, and what visits came to, are no part of this
+  -- the kept rounds and the account aren't part of the invariant
   pub whole-kept : (e : Endpoint C Q L) (kept : ℕ) (share : Option Share) → IsWhole clock quotas link e
       → IsWhole clock quotas link (record e { kept = kept; share = share })
   whole-kept e kept share h = record {

@@ -1,4 +1,4 @@
--- What each part of a round leaves.
+-- The results of each part of a round.
 use Rattle.std.proofs.Common.{◌≡◌, inl, inr, ℕ, ◌+◌, List, [], ◌∷◌, ◌++◌, length, map, ap, sym, ◌∙◌, subst}
 use Rattle.mrpc_base.specs.Heap.{AfterLoads}
 use Rattle.shared_heap.specs.Fresh.{AfterLoad, BeginsWith, CallLoads, Fresh, HasLoaded, Reading, word_of}
@@ -14,7 +14,7 @@ loaded-by : (old new : Reading) (own : Loads) → Reads (λ (a b : Reading). b �
 loaded-by old new own (inl none) = subst (λ (xs : Loads). AfterLoads AfterLoad old xs new) (sym none.0) none.1
 loaded-by old new own (inr only) = subst (λ (r : Reading). AfterLoads AfterLoad r own new) only.room only.loads
 
--- a note was met, and then these loads were made for a call that is behind its stores
+-- a note was met, and then these loads were made for a call submitted after its stores
 pub read-by : ((calls : List CallLoads) (noted loads : List (ℕ × ℕ)) (old new : Reading) → Fresh calls old.known
     → BeginsWith old.known noted → AfterLoads AfterLoad old loads new
     → Fresh (calls ++ (record { after = length noted; loads = loads }) ∷ []) new.known)

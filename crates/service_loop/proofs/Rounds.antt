@@ -1,4 +1,4 @@
--- The parts of a round, one behind another.
+-- The parts of a round, in order.
 use Rattle.std.proofs.Common.{◌≡◌, ◌⊎◌, inl, inr, ℕ, ◌≤◌, List, [], ◌∷◌, ◌++◌, sym, ◌∙◌, subst, arith}
 use Rattle.std.specs.Prelude.{All}
 use Rattle.std.proofs.lemmas.List.Elements.{All-push}
@@ -15,14 +15,14 @@ pub record ComesTo (a b : Connection) : Type 0 where
   pub tickets : (tenant window : ℕ) → tickets_behind tenant window (behind b) ≡ tickets_behind tenant window (behind a)
   pub ended : b.ended ≡ a.ended
 
--- ---- moments
+-- ---- timestamps
 
 pub moments-later : (P : ℕ → Type 0) (now : ℕ) (xs ys : List ℕ) → P now → (ys ≡ xs) ⊎ (ys ≡ xs ++ now ∷ []) → All P xs
     → All P ys
 moments-later P now xs ys new (inl same) all = subst (All P) (sym same) all
 moments-later P now xs ys new (inr more) all = subst (All P) (sym more) (All-push P xs now all new)
 
--- what a round makes of the moments, part by part
+-- how a round changes the timestamps, part by part
 pub record GoesThrough (now : ℕ) (s t u v w : Connection) : Type 0 where
   pub steps : (moments_in (behind t) ≡ moments_in (behind s))
       × (moments_at_calls (behind t) ≡ moments_at_calls (behind s))

@@ -7,12 +7,12 @@ use Rattle.call_history.specs.declared.happening.Taken.{Taken}
 use Rattle.service_loop.specs.Calls.{moments_at_calls, moments_in, turned_away}
 use Rattle.service_loop.specs.Steps.{CountsAscend, IsInPlace, steps_in}
 
--- a step before the first call and one behind it
+-- an operation before the first call and one after it
 steps-row : (first second : Step) (call : Taken)
     → steps_in (Op second ∷ Took call ∷ Op first ∷ []) ≡ (first, 0) ∷ (second, 1) ∷ []
 steps-row first second call = refl
 
--- two calls in one moment, and one in the next
+-- two calls at one timestamp, and one at the next
 moments-row : (a b c : Taken)
     → moments_in (Took c ∷ Moment 7 ∷ Took b ∷ Took a ∷ Moment 3 ∷ []) ≡ 3 ∷ 7 ∷ []
 moments-row a b c = refl
@@ -24,14 +24,14 @@ calls-row a b c = refl
 away-row : turned_away (Away 0 0 4 ∷ Moment 3 ∷ Away 0 0 8 ∷ []) ≡ 2
 away-row = refl
 
--- a step of count 5 behind one call: not while more calls may come, but where there is only one
+-- an operation with count 5 after one call: not while more calls may follow, but if there is only one
 early-row : IsInPlace None 5 1 → ⊥
 early-row is = absurd (omega (arith, is))
 
 late-row : IsInPlace (Some 1) 5 1
 late-row = inr (refl, omega arith)
 
--- counts may stay and rise
+-- counts may stay equal and rise
 ascend-row : (a b c : Step) → CountsAscend 0 (record { count = 2; step = a } ∷ record { count = 2; step = b }
     ∷ record { count = 3; step = c } ∷ [])
 ascend-row a b c = (omega arith, (omega arith, (omega arith, tt)))

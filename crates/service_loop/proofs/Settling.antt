@@ -1,4 +1,4 @@
--- A connection whose link has failed is settled: no call stands.
+-- A connection whose link has failed is settled: no call is pending.
 use Rattle.std.proofs.Common.{◌≡◌, ℕ, ◌<◌, true, arith, List, [], ◌∷◌, length, map, refl, ap, sym, ◌∙◌, subst}
 use Rattle.std.specs.Prelude.{Some, None, slice_get}
 use Rattle.std.proofs.lemmas.List.Elements.{All-nil}

@@ -1,4 +1,4 @@
--- The share of a connection behind a visit.
+-- The visit account of a connection after a visit.
 use Rattle.std.proofs.Common.{◌≡◌, ◌≤◌, ◌<◌, ◌+◌, ◌-◌, ◌^◌, ◌⊎◌, inl, inr, ℕ, Bool, true, false, nat_lt, Option, None}
 use Rattle.std.proofs.Common.{Some, ap, refl, sym, subst, ◌∙◌, arith}
 use Rattle.std.proofs.lemmas.Bool.{lt-ltb}
@@ -14,7 +14,7 @@ either : (b : Bool) → (b ≡ true) ⊎ (b ≡ false)
 either true = inl refl
 either false = inr refl
 
--- what an order grants connection `conn`, if it has a share
+-- the grant of an order for connection `conn`, if it has a visit account
 abbrev Grants : (ℕ → ℕ → ℕ) → ℕ → Option Share → Type 0
 Grants grant_of conn share = IfSome share (λ s. (kept : ℕ) → grant_of conn kept ≡ granted s.weight kept)
 
@@ -23,7 +23,7 @@ Grants grant_of conn share = IfSome share (λ s. (kept : ℕ) → grant_of conn 
 balanced-new : (weight : ℕ) → IsBalanced weight new_account
 balanced-new weight = record { all = omega arith; most = omega arith }
 
--- the share of a connection that no visit came to yet
+-- the visit account of a connection without visits
 pub share-new : (kept accepted : ℕ) (share : Option Share) → IfSome share IsNewShare → kept ≡ 0 → accepted ≡ 0
     → IfSome share (IsShareOf kept accepted)
 share-new kept accepted None h no-rounds no-calls = tt
@@ -36,7 +36,7 @@ share-new kept accepted (Some share) h no-rounds no-calls = record {
 
 -- ---- a visit
 
--- its grant is what the share says
+-- its grant is that of the account's weight
 its-grant : (kept accepted : ℕ) (share : Share) (grant_of : ℕ → ℕ → ℕ) (conn grant : ℕ) → grant ≡ grant_of conn kept
     → IsShareOf kept accepted share → Grants grant_of conn (Some share)
     → grant ≡ granted share.weight share.account.kept
@@ -54,7 +54,7 @@ can-count kept accepted (Some share) grant_of conn grant visit is h grants fits 
   fits = subst (λ (n : ℕ). Fits n visit) (its-grant kept accepted share grant_of conn grant is h grants) fits;
 }
 
--- a visit that gave as many rounds as there came calls keeps the rounds above the calls
+-- a visit that gave at least as many rounds as calls were accepted keeps the rounds above the calls
 rounds-cover : (weight : ℕ) (account : Account) (visit : Visit) (old new : ℕ)
     → (account.visits < 2 ^ 40 → old ≤ account.rounds) → new ≤ old + visit.given
     → (visited weight account visit).visits < 2 ^ 40 → new ≤ (visited weight account visit).rounds
@@ -75,7 +75,7 @@ share-again kept kept' old new share now visit h more counted keeps = record {
       (rounds-cover share.weight share.account visit old new h.rounds more);
 }
 
--- behind it the share is that of the connection again
+-- after the visit, the account is the connection's again
 pub shares-again : (kept kept' old new left : ℕ) (share share' : Option Share) (visit : Visit)
     → IfSome share (IsShareOf kept old) → new ≤ old + visit.given → Counts visit left share share' kept'
     → IfSome share' (IsShareOf kept' new)
@@ -96,7 +96,7 @@ kept-counted : (weight : ℕ) (account : Account) (visit : Visit) → account.vi
     → (visited weight account visit).kept ≡ kept_of visit.ending (granted weight account.kept - visit.given)
 kept-counted weight account visit less = rw (lt-ltb account.visits (2 ^ 40) less) refl
 
--- the rounds are kept that the ending keeps, unless there is an account that stands still
+-- the rounds kept are those that the ending keeps, unless an account no longer changes
 pub kept-so : (kept accepted : ℕ) (share share' : Option Share) (grant_of : ℕ → ℕ → ℕ) (conn grant kept' : ℕ)
     (visit : Visit) → grant ≡ grant_of conn kept → IfSome share (IsShareOf kept accepted)
     → Grants grant_of conn share → Counts visit (grant - visit.given) share share' kept'
@@ -115,7 +115,7 @@ counted-so None share' left kept visit counts = tt
 counted-so (Some share) None left kept visit counts = absurd counts
 counted-so (Some share) (Some now) left kept visit counts = counts.0.account
 
--- ---- what an order grants
+-- ---- the grants of an order
 
 grants-on : (grant_of : ℕ → ℕ → ℕ) (old new : ℕ) (share share' : Option Share)
     → weight_of_share share' ≡ weight_of_share share → new ≡ old → Grants grant_of old share
@@ -126,7 +126,7 @@ grants-on grant_of old new (Some r) (Some s) weight conn h = λ kept.
     let same : s.weight ≡ r.weight = (let both : Some s.weight ≡ Some r.weight = weight in cc) in
     ap (λ (n : ℕ). grant_of n kept) conn ∙ h kept ∙ ap (λ (n : ℕ). granted n kept) (sym same)
 
--- it grants the same later on, since the number and the weight stay
+-- a later state gets the same grant, since the number and the weight stay
 pub grants-later : {C Q L : Type 0} (grant_of : ℕ → ℕ → ℕ) (old new : Endpoint C Q L)
     → weight_of_share new.share ≡ weight_of_share old.share
     → new.submissions.conn.conn ≡ old.submissions.conn.conn → GrantsShare grant_of old → GrantsShare grant_of new

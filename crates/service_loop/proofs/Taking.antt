@@ -1,4 +1,4 @@
--- A descriptor that was taken, and what comes of it.
+-- A descriptor that was taken, and its effect.
 use Rattle.std.proofs.Common.{◌≡◌, ℕ, Bool, true, false, List, Ok, Err, OnOk, map, refl, sym, ◌∙◌, subst}
 use Rattle.std.specs.Prelude.{Result}
 use Rattle.mrpc_table.specs.declared.memory.Memory.{Memory}
@@ -15,7 +15,7 @@ use Rattle.service_loop.specs.declared.submissions.Submissions.{Submissions}
 use Rattle.service_loop.proofs.Coming.{come-closing}
 use Rattle.service_loop.proofs.Going.{serves-given-up}
 
--- the parts that are as they were, besides the ring
+-- the parts unchanged, apart from the ring
 pub before-taken : (d : Descriptor) (s : Submissions) (h : HasTaken d s)
     → Serves s.conn s.reader h.earlier.calls s.steps.now s.applied s.accepted
 before-taken d s h =
@@ -41,7 +41,7 @@ pub untrue : (b : Bool) → (b ≡ true → false ≡ true) → b ≡ false
 untrue true h = absurd (let wrong : false ≡ true = h refl in cc)
 untrue false h = refl
 
--- a drain before the closing leaves all that holds between two rounds
+-- a drain before the closing preserves the invariant between two rounds
 pub served-open : (r : Result (Unit {0}) Memory) (s : Submissions) → OnOk r (IsServing s)
     → OnOk r (IsSettled (under s.conn) (behind s.conn) (map (λ (call : ℕ × ℕ). call.1) s.conn.chain.row))
     → s.finished ≡ false → s.calls.closed ≡ false → OnOk r (IsServed s)

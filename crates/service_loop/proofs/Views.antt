@@ -1,4 +1,4 @@
--- Turns, sendings and the end of a link leave the calls that were taken, the steps that came and the moments as they were.
+-- Turns, sends and the end of a link preserve the calls accepted, the operations applied and the timestamps.
 use Rattle.std.proofs.Common.{◌≡◌, ℕ, ◌+◌, true, List, [], ◌∷◌, refl, ap, sym, ◌∙◌, subst}
 use Rattle.engine_core.specs.Chains.{Entry}
 use Rattle.engine_core.specs.declared.outcome.Noted.{Noted}
@@ -47,7 +47,7 @@ views-then a b c ab bc = record {
 pub views-as : (past new other : Behind) → new ≡ other → SameViews past other → SameViews past new
 views-as past new other is same = subst (SameViews past) (sym is) same
 
--- one more happening that is none of these
+-- one more event that is none of these
 one-charged : (seq : ℕ) (name : List ℕ) (left : ℕ) (past : Behind) → SameViews past (Charged seq name left ∷ past)
 one-charged seq name left past = record {
   taken = refl;
@@ -130,7 +130,7 @@ ended-turned e seq (outcomes.Held left cost) c = refl
 ended-turned e seq (outcomes.Refused n why) c = refl
 ended-turned e seq outcomes.Redacted c = refl
 
--- a connection went on by turns and sendings alone
+-- a connection advanced by turns and sends alone
 pub record StaysLinked (old new : Course) : Type 0 where
   pub views : SameViews old.past new.past
   pub ended : new.ended ≡ old.ended
@@ -163,7 +163,7 @@ linked-passes u position old new (next p c between last within turns rest) =
 linked-passes u position old new (begins_again p c between last within turns rest) =
     linked-then c between last (linked-turns u p c between again turns) (linked-passes u 0 between last rest)
 
--- ---- sendings
+-- ---- sends
 
 linked-sent : (u : Under) (old new : Course) (seq bytes : ℕ) → Comes u old (sends seq bytes) new → StaysLinked old new
 linked-sent u old new seq bytes (takes call is running may new-is) = absurd cc

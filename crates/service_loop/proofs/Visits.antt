@@ -1,10 +1,10 @@
--- What the rounds of a visit came to.
+-- The outcome of the rounds of a visit.
 use Rattle.std.proofs.Common.{◌≡◌, ◌≢◌, ◌↔◌, Bool, true, false, sym, ◌∙◌}
 use Rattle.service_loop.specs.declared.visited.Outcome.{Outcome}
 use Rattle.service_loop.specs.declared.visited.Outcome.TheVariants.{Busy, Memory}
 use Rattle.service_loop.proofs.Cases.{untrue}
 
--- memory was found
+-- it didn't run out of memory
 pub not-memory : (memory : Bool) (x : Outcome) → ((memory ≡ true) ↔ (x ≡ Memory)) → memory ≡ false → x ≢ Memory
 not-memory memory x wanting has is = let wrong : true ≡ false = sym (wanting.1 is) ∙ has in absurd cc
 

@@ -1,4 +1,4 @@
--- What holds of a connection holds again behind each part of a round.
+-- The invariant of a connection holds again after each part of a round.
 use Rattle.std.proofs.Common.{◌≡◌, ◌≢◌, ◌≤◌, ◌<◌, ◌^◌, ◌⊎◌, inl, inr, ℕ, Bool, true, false, List, [], length}
 use Rattle.std.proofs.Common.{refl, sym, subst, ◌∙◌, append-nil}
 use Rattle.std.specs.Prelude.{All, IsTrue}
@@ -28,7 +28,7 @@ pub failed-ended : (x : Stream) → x ≡ Failed → x ≢ Open
 failed-ended x failed unclosed = let wrong : Failed ≡ Open = sym failed ∙ unclosed in absurd cc
 
 module _ {C Q L : Type 0} (clock : ClockMembers C) (quotas : TicketMembers Q) (link : LinkMembers L) where
-  -- what is to be shown of a connection that was whole
+  -- the proof obligations for a connection whose invariant held
   pub record Again (old new : Endpoint C Q L) : Type 0 where
     pub served : IsServed new.submissions
     pub steps : new.submissions.steps.now ≡ old.submissions.steps.now
@@ -62,7 +62,7 @@ module _ {C Q L : Type 0} (clock : ClockMembers C) (quotas : TicketMembers Q) (l
     most = subst (λ n. n ≤ 2 ^ 32) (sym again.buffer) h.most;
   }
 
-  -- how deliveries and the end of the link go together, where nothing was handed over and no ticket drawn
+  -- how deliveries and the end of the link relate, if nothing was sent and no ticket drawn
   pub record HasDelivered (old new : Endpoint C Q L) : Type 0 where
     pub frames : frames new.submissions.conn ≡ frames old.submissions.conn
     pub drawn : (tenant window : ℕ) → tickets_behind tenant window (behind new.submissions.conn)
@@ -93,7 +93,7 @@ module _ {C Q L : Type 0} (clock : ClockMembers C) (quotas : TicketMembers Q) (l
     | inr failed ↦ failed.0
   ]
 
-  -- the link failed in this part where the connection ended in it
+  -- the link failed in this part if the connection ended in it
   fails-here : (old new : Endpoint C Q L) → IsWhole clock quotas link old → HasDelivered old new
       → (old.submissions.conn.ended ≡ false) × (new.submissions.conn.ended ≡ true)
       → (old.deliveries.arrivals.stream ≢ Failed) × (new.deliveries.arrivals.stream ≡ Failed)
@@ -102,7 +102,7 @@ module _ {C Q L : Type 0} (clock : ClockMembers C) (quotas : TicketMembers Q) (l
     | inr failed ↦ ((λ is. absurd (let wrong : true ≡ false = sym (h.failed is) ∙ ends.0 in cc)), failed.1)
   ]
 
-  -- and nowhere else
+  -- and only then
   ends-here : (old new : Endpoint C Q L) → IsWhole clock quotas link old → HasDelivered old new
       → (old.deliveries.arrivals.stream ≢ Failed) × (new.deliveries.arrivals.stream ≡ Failed)
       → (old.submissions.conn.ended ≡ false) × (new.submissions.conn.ended ≡ true)

@@ -1,4 +1,4 @@
--- The calls of a connection, as its history and its heap tell them (this project's own).
+-- The calls of a connection, by its history and its heap (this project's own).
 use Rattle.std.specs.Prelude.{◌≡◌, ℕ, ◌+◌, false, List, [], ◌∷◌, ◌++◌, map, flat_map}
 use Rattle.std.specs.List.{AllZip}
 use Rattle.mrpc_table.specs.declared.table.Table.{Table}
@@ -13,13 +13,12 @@ use Rattle.conn_core.specs.declared.answers.Ask.{Ask}
 
 -- ---- loads
 
--- these are the loads of a call, from a heap of so many words, behind the stores that its submission tells
+-- the loads of a call, from a heap of this many words, after the stores made before its submission
 pub record HasLoads (T : Table) (H limit : ℕ) (call : Taken) (own : CallLoads) : Type 0 where
   pub after : own.after ≡ call.after
   pub loaded : IsLoaded T H limit call own.loads
 
--- all that a reader loaded are the loads of the calls that were accepted, in order, and they are fresh for the stores
--- that it knows
+-- the reader's loads are those of the accepted calls, in order, and fresh for the stores that it knows
 pub record AreReaders (c : Connection) (r : Reading) : Type 0 where
   pub calls : List CallLoads
   pub each : AllZip (HasLoads c.table r.heap.words c.limit) (taken (behind c)) calls
@@ -28,21 +27,20 @@ pub record AreReaders (c : Connection) (r : Reading) : Type 0 where
 
 -- ---- submissions
 
--- what a descriptor asks, and what was asked of a call
+-- the request of a descriptor, and that of a call
 abbrev pub ask_of : Descriptor → Ask
 ask_of d = record { method = d.method; number = d.number; addr = d.addr; after = d.stores }
 
 abbrev pub asked : Taken → Ask
 asked call = record { method = call.method; number = call.number; addr = call.addr; after = call.after }
 
--- how often a call was turned away
+-- how often a submission was rejected
 abbrev pub turned_away : Behind → ℕ
 turned_away [] = 0
 turned_away (Away method number addr ∷ past) = turned_away past + 1
 turned_away (_ ∷ past) = turned_away past
 
--- The calls that were accepted are the submissions that were taken, in order: all of them, or those before the link
--- failed.
+-- The accepted calls are the submissions taken, in order: all of them, or those before the link failed.
 pub record AcceptsAll (c : Connection) (submissions : List Descriptor) : Type 0 where
   pub given_up : List Ask
   pub in_order : map ask_of submissions ≡ map asked (taken (behind c)) ++ given_up
@@ -51,13 +49,13 @@ pub record AcceptsAll (c : Connection) (submissions : List Descriptor) : Type 0 
 
 -- ---- the clock
 
--- the moments that the clock showed, in order
+-- the timestamps of the clock, in order
 abbrev pub moments_in : Behind → List ℕ
 moments_in [] = []
 moments_in (Moment ms ∷ past) = moments_in past ++ ms ∷ []
 moments_in (_ ∷ past) = moments_in past
 
--- the moment at which each call was taken, in order
+-- the timestamp at which each call was taken, in order
 abbrev pub moments_at_calls : Behind → List ℕ
 moments_at_calls [] = []
 moments_at_calls (Took call ∷ past) = moments_at_calls past ++ moment past ∷ []

@@ -14,7 +14,7 @@ use Rattle.deliveries.specs.declared.limits.TheConstants.{MAX_ARRIVALS}
 use Rattle.deliveries.specs.declared.notices.Notices.{Notices}
 use Rattle.service_loop.specs.declared.delivering.Deliveries.{Deliveries}
 
--- the message of a frame that was placed, as its application is told of it
+-- the message of a frame that was placed, as its notice has it
 abbrev pub message_of : Fated → List Delivered
 message_of (was_dropped f policy why) = []
 message_of (was_placed f policy t block placed) =
@@ -31,7 +31,7 @@ held_numbers blocks = map (λ (b : Block). b.number) blocks
 abbrev pub message_blocks : List Delivered → List ℕ
 message_blocks messages = map (λ (d : Delivered). d.block) messages
 
--- nothing more is received: the stream has ended, was cut off or failed, or as many frames as may had their fates
+-- nothing more is received: the stream ended, is malformed or failed, or `MAX_ARRIVALS` frames were handled
 abbrev pub CountsAsEnded : Arrivals → Type 0
 CountsAsEnded a = (a.stream ≢ Open) ⊎ (MAX_ARRIVALS ≤ length a.lines.items)
 
@@ -39,15 +39,15 @@ CountsAsEnded a = (a.stream ≢ Open) ⊎ (MAX_ARRIVALS ≤ length a.lines.items
 abbrev pub IsClosing : Notices → Type 0
 IsClosing n = (n.notices ≡ None) ⊎ (n.blocks ≡ None)
 
--- each message was given as a notice, with its number, and nothing more comes
+-- each message was sent as a notice, with its number, and nothing more follows
 pub record HaveEnded (d : Deliveries) : Type 0 where
   pub all : HasAll d.arrivals
   pub waiting : d.notices.waiting.items ≡ []
   pub owed : d.notices.owed ≡ None
 
--- What was delivered, as far as it has come. The lines are the fates of frames, in order; of the messages that were
--- placed the application was told, or they wait; of their blocks each is held or came back, among the numbers that were
--- judged; and the rings of notices are closed only once all is told and nothing more comes.
+-- The deliveries so far. The lines are the fates of frames, in order. Each placed message was sent as a notice, or
+-- its notice is pending. Each of their blocks is held or came back, among the numbers that were judged. The rings of
+-- notices are closed only once all notices were sent and nothing more follows.
 pub record HaveDelivered (life : Life) (numbers back : List ℕ) (d : Deliveries) : Type 0 where
   pub lived : HaveLived life d.arrivals
   pub told : IsTelling d.arrivals.writer.heap (messages_of life.fates) d.notices
@@ -56,25 +56,25 @@ pub record HaveDelivered (life : Life) (numbers back : List ℕ) (d : Deliveries
   pub programmed : d.reclaims.programmed < 2 ^ 63
   pub closed : IsClosing d.notices → HaveEnded d
 
--- they have delivered in some way
+-- deliveries with some such trace
 abbrev pub AreDelivering : Deliveries → Type 0
 AreDelivering d = (life : Life) × (numbers : List ℕ) × (back : List ℕ) × HaveDelivered life numbers back d
 
--- what deliveries keep
+-- what all deliveries preserve
 pub record AreSameDeliveries (old new : Deliveries) : Type 0 where
   pub arrivals : AreSameArrivals old.arrivals new.arrivals
   pub notices : AreSameRings old.notices new.notices
   pub numbers : new.reclaims.numbers.ring ≡ old.reclaims.numbers.ring
   pub programmed : new.reclaims.programmed ≡ old.reclaims.programmed
 
--- a life later on: a piece of the stream came, and more frames had their fates
+-- a later trace: a piece of the stream arrived, and more frames were handled
 pub record LivesOn (piece : List ℕ) (life later : Life) : Type 0 where
   pub more : List Fated
   pub stream : later.stream ≡ life.stream ++ piece
   pub hello : later.hello ≡ life.hello
   pub fates : later.fates ≡ life.fates ++ more
 
--- deliveries later on, where these bytes had come before and those after: what came is what the link gave
+-- later deliveries, given the bytes received before and after: what arrived is what the link gave
 pub record HaveGoneOn (life : Life) (numbers back : List ℕ) (given given' : Option (List ℕ)) (new : Deliveries)
     : Type 0 where
   pub piece : List ℕ

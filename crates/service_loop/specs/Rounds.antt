@@ -1,4 +1,4 @@
--- What holds of a connection between two rounds, and how it goes on (this project's own).
+-- The invariant of a connection between two rounds, and how it advances (this project's own).
 use Rattle.std.specs.Prelude.{◌≡◌, ℕ, ◌≤◌, ◌<◌, ◌^◌, All, length, Option, None, IfSome, IsTrue, option_map, true, false}
 use Rattle.mrpc_base.specs.Faults.{HasCause}
 use Rattle.mrpc_base.specs.declared.clock.Clock.{Ghosts as ClockMembers}
@@ -23,13 +23,12 @@ use Rattle.service_loop.specs.declared.share.Share.{Share}
 abbrev pub weight_of_share : Option Share → Option ℕ
 weight_of_share share = option_map (λ s. s.weight) share
 
--- a share of which no visit came yet
+-- a visit account without visits
 abbrev pub IsNewShare : Share → Type 0
 IsNewShare share = IsWeight share.weight × (share.account ≡ new_account)
 
--- The share of a connection between two visits, which keeps so many rounds and of which so many calls were accepted. Its
--- account is balanced and keeps these rounds; as long as it counts visits, at least as many rounds were given as calls
--- were accepted.
+-- The visit account of a connection between two visits, with this many kept rounds and accepted calls. It is balanced
+-- and keeps these rounds. While it counts visits, it was given at least as many rounds as calls were accepted.
 pub record IsShareOf (kept accepted : ℕ) (share : Share) : Type 0 where
   pub weight : IsWeight share.weight
   pub balanced : IsBalanced share.weight share.account
@@ -39,18 +38,19 @@ pub record IsShareOf (kept accepted : ℕ) (share : Share) : Type 0 where
 abbrev pub HasShare : {C Q L : Type 0} → Endpoint C Q L → Type 0
 HasShare e = IfSome e.share (IsShareOf e.kept e.submissions.accepted)
 
--- an order grants a connection that has a share as many rounds as its weight says
+-- the order grants a connection with a visit account as many rounds as its weight allows
 abbrev pub GrantsShare : {C Q L : Type 0} → (ℕ → ℕ → ℕ) → Endpoint C Q L → Type 0
 GrantsShare grant_of e = IfSome e.share (λ share. (kept : ℕ)
     → grant_of e.submissions.conn.conn kept ≡ granted share.weight kept)
 
 -- ---- rounds
 
--- The members of traits say what a clock gives, what quotas know and drew, and what a link was handed, gave and counted.
+-- The members of the traits: the timestamps of a clock, the quotas known and the tickets drawn, and a link's frames
+-- sent, bytes received and failures counted.
 module _ {C Q L : Type 0} (of_clock : ClockMembers C) (of_quotas : TicketMembers Q) (of_link : LinkMembers L) where
-  -- What holds of a connection between two rounds. The calls are served as far as they have come, and each moment is the
-  -- clock's; what was delivered is what came. The connection has ended where its stream failed, and where it has ended
-  -- nothing more is received.
+  -- The invariant of a connection between two rounds. The calls are served so far, and each timestamp is the clock's;
+  -- what was delivered is what arrived. If the stream failed, the connection has ended; if it has ended, nothing more
+  -- is received.
   pub record IsWhole (e : Endpoint C Q L) : Type 0 where
     pub served : IsServed e.submissions
     pub known : KnowTenants (of_quotas.knows e.tickets) e.submissions.steps.now
@@ -63,11 +63,11 @@ module _ {C Q L : Type 0} (of_clock : ClockMembers C) (of_quotas : TicketMembers
     pub room : 0 < length e.buffer.items
     pub most : length e.buffer.items ≤ 2 ^ 32
 
-  -- the same, with its share, unless no memory was found
+  -- the invariant with its visit account, unless it ran out of memory
   abbrev pub IsEndpoint : Endpoint C Q L → Type 0
   IsEndpoint e = e.memory ≡ false → IsWhole e × HasShare e
 
-  -- what a connection keeps, whatever becomes of it
+  -- what a connection keeps in every later state
   pub record IsSame (old new : Endpoint C Q L) : Type 0 where
     pub submissions : AreSameSubmissions old.submissions new.submissions
     pub deliveries : AreSameDeliveries old.deliveries new.deliveries
@@ -76,8 +76,8 @@ module _ {C Q L : Type 0} (of_clock : ClockMembers C) (of_quotas : TicketMembers
     pub tickets : (first : Q) → of_quotas.since first old.tickets → of_quotas.since first new.tickets
     pub weight : weight_of_share new.share ≡ weight_of_share old.share
 
-  -- A connection goes on: its link was handed the frames that its history tells, the tickets were drawn that it tells,
-  -- it ended only where the count of the link's faults rose, and what was delivered came from the link.
+  -- A connection advances: its link was handed the frames of its history, the tickets of its history were drawn, it
+  -- ended only if the link's count of failures rose, and what was delivered came from the link.
   pub record GoesOn (old new : Endpoint C Q L) : Type 0 where
     pub handed : Hands old.submissions.conn new.submissions.conn (of_link.handed old.link) (of_link.handed new.link)
     pub draws : DrawsTickets of_quotas.knows of_quotas.drawn of_quotas.since old.submissions.conn new.submissions.conn old.tickets
@@ -87,8 +87,8 @@ module _ {C Q L : Type 0} (of_clock : ClockMembers C) (of_quotas : TicketMembers
     pub stays_ended : old.submissions.conn.ended ≡ true → new.submissions.conn.ended ≡ true
     pub delivers : DeliversOn (of_link.given old.link) (of_link.given new.link) old.deliveries new.deliveries
 
-  -- it is over: its application's rings were taken to their closings, the last drain is done, and the rings of notices
-  -- were closed
+  -- the connection is finished: its application's rings were taken to their closings, the last drain is done, and the
+  -- rings of notices were closed
   pub record IsOver (e : Endpoint C Q L) : Type 0 where
     pub finished : e.submissions.finished ≡ true
     pub reclaims : e.deliveries.reclaims.closed ≡ true

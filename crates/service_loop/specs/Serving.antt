@@ -1,4 +1,4 @@
--- What holds of the submissions of a connection between two rounds (this project's own).
+-- The invariant of a connection's submissions between two rounds (this project's own).
 use Rattle.std.specs.Prelude.{◌≡◌, ℕ, ◌≤◌, true, List, length, map, take, drop}
 use Rattle.mrpc_table.specs.declared.limits.TheConstants.{MAX_HEAP, MIN_HEAP}
 use Rattle.shared_heap.specs.Fresh.{Reading}
@@ -11,9 +11,9 @@ use Rattle.service_loop.specs.Steps.{AreSteps, CountsAscend, HaveCome, all_taken
 use Rattle.service_loop.specs.declared.due_step.DueStep.{DueStep}
 use Rattle.service_loop.specs.declared.submissions.Submissions.{Submissions}
 
--- As far as the calls of a connection have come: their loads are those of the reader, they are the submissions that
--- were taken from the ring, all or, where it has ended, the first ones, and the steps of operators that came are the
--- first ones, each in its place.
+-- The calls of a connection so far: their loads are those of the reader, and they are the submissions taken from the
+-- ring, all of them or, if the connection has ended, a prefix. The operations applied are a prefix of the scheduled
+-- ones, each in its place.
 pub record Serves (conn : Connection) (reader : Reading) (ring : Receiving) (steps : List DueStep)
     (applied accepted : ℕ) : Type 0 where
   pub least_heap : MIN_HEAP ≤ reader.heap.words
@@ -25,21 +25,21 @@ pub record Serves (conn : Connection) (reader : Reading) (ring : Receiving) (ste
   pub count : accepted ≡ length (taken (behind conn))
   pub within : applied ≤ length steps
   pub came : HaveCome (all_taken ring.closed (behind conn)) (behind conn) (take applied steps)
-  -- no step that is left was due before the last call
+  -- no remaining operation was due before the last call
   pub left : CountsAscend accepted (drop applied steps)
 
 abbrev pub IsServing : Submissions → Type 0
 IsServing s = Serves s.conn s.reader s.calls s.steps.now s.applied s.accepted
 
--- Between two rounds no call can go on. Once the closing of the ring was taken, the last drain is done, and every step
--- has come.
+-- Between two rounds no call can advance. Once the closing of the ring was taken, the last drain is done, and every
+-- operation was applied.
 pub record IsServed (s : Submissions) : Type 0 where
   pub serving : IsServing s
   pub settled : IsSettled (under s.conn) (behind s.conn) (map (λ call. call.1) s.conn.chain.row)
   pub finished : s.finished ≡ s.calls.closed
   pub all_came : s.finished ≡ true → s.applied ≡ length s.steps.now
 
--- what stays the same of submissions
+-- what submissions preserve
 pub record AreSameSubmissions (old new : Submissions) : Type 0 where
   pub conn : IsSame old.conn new.conn
   pub heap : new.reader.heap ≡ old.reader.heap

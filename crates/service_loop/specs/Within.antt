@@ -1,4 +1,4 @@
--- The code's own: what the parts of a round leave as it was, and how a visit is counted.
+-- The code's own: what the parts of a round preserve, and how a visit is counted.
 use Rattle.std.specs.Prelude.{◌≡◌, ◌⊎◌, ℕ, ◌+◌, ◌≤◌, Bool, true, false, [], ◌∷◌, ◌++◌, length, drop, Option, None, Some, slice_get}
 use Rattle.call_history.specs.Behind.{moment}
 use Rattle.call_history.specs.Tickets.{tickets_behind}
@@ -13,7 +13,7 @@ use Rattle.service_loop.specs.declared.due_step.DueStep.{DueStep}
 use Rattle.service_loop.specs.declared.share.Share.{Share}
 use Rattle.service_loop.specs.declared.submissions.Submissions.{Submissions}
 
--- a connection went on, but nothing was handed over, no ticket was drawn, and no moment shown
+-- a connection advanced, but nothing was sent, no ticket was drawn, and no timestamp recorded
 pub record StaysBeside (before after : Connection) : Type 0 where
   pub same : IsSame before after
   pub frames : frames after ≡ frames before
@@ -23,23 +23,23 @@ pub record StaysBeside (before after : Connection) : Type 0 where
   pub moments : moments_in (behind after) ≡ moments_in (behind before)
   pub moment : moment (behind after) ≡ moment (behind before)
 
--- a call was taken at the present moment, or none
+-- at most one call was taken, at the current timestamp
 abbrev pub TakesNow : Connection → Connection → Type 0
 TakesNow before after = (moments_at_calls (behind after) ≡ moments_at_calls (behind before))
     ⊎ (moments_at_calls (behind after) ≡ moments_at_calls (behind before) ++ moment (behind before) ∷ [])
 
--- the first step that is left is due: its count is reached, or no more calls come
+-- the first remaining operation is due: its count is reached, or no more calls follow
 pub record IsDue (s : Submissions) : Type 0 where
   pub due : DueStep
   pub first : slice_get s.steps.now s.applied ≡ Some due
   pub reached : (s.calls.closed ≡ true) ⊎ (due.count ≤ s.accepted)
 
--- no step that is left is due; behind the closing none is left
+-- no remaining operation is due; after the closing none remains
 pub record NoneIsDue (closing : Bool) (s : Submissions) : Type 0 where
   pub all : closing ≡ true → s.applied ≡ length s.steps.now
   pub later : closing ≡ false → CountsAscend (s.accepted + 1) (drop s.applied s.steps.now)
 
--- only steps came
+-- only operations were applied
 pub record OnlySteps (old new : Submissions) : Type 0 where
   pub beside : StaysBeside old.conn new.conn
   pub at_calls : moments_at_calls (behind new.conn) ≡ moments_at_calls (behind old.conn)
@@ -49,7 +49,7 @@ pub record OnlySteps (old new : Submissions) : Type 0 where
   pub accepted : new.accepted ≡ old.accepted
   pub finished : new.finished ≡ old.finished
 
--- a moment was shown: it is the latest now, unless it isn't greater than the last one
+-- a timestamp was passed: it is the latest now, unless it isn't greater than the last one
 pub record Shows (now : ℕ) (before after : Connection) : Type 0 where
   pub same : IsSame before after
   pub frames : frames after ≡ frames before
@@ -61,7 +61,7 @@ pub record Shows (now : ℕ) (before after : Connection) : Type 0 where
   pub at_calls : moments_at_calls (behind after) ≡ moments_at_calls (behind before)
   pub latest : now ≤ moment (behind after)
 
--- a descriptor was taken last, and nothing came of it yet
+-- a descriptor was taken last, and isn't handled yet
 pub record HasTaken (call : Descriptor) (s : Submissions) : Type 0 where
   pub earlier : Submissions
   pub serving : IsServing earlier
@@ -76,7 +76,7 @@ pub record HasTaken (call : Descriptor) (s : Submissions) : Type 0 where
   pub applied : s.applied ≡ earlier.applied
   pub accepted : s.accepted ≡ earlier.accepted
 
--- calls went on as far as they could, and no call was taken and no moment shown
+-- calls advanced as far as they could, and no call was taken and no timestamp recorded
 pub record HasDrained (before after : Connection) : Type 0 where
   pub moments : moments_in (behind after) ≡ moments_in (behind before)
   pub at_calls : moments_at_calls (behind after) ≡ moments_at_calls (behind before)
@@ -88,14 +88,14 @@ pub record CanCount (visit : Visit) (share : Share) : Type 0 where
   pub balanced : IsBalanced share.weight share.account
   pub fits : Fits (granted share.weight share.account.kept) visit
 
--- it was counted there
+-- the visit was counted there
 pub record HasCounted (visit : Visit) (old new : Share) : Type 0 where
   pub weight : new.weight ≡ old.weight
   pub account : new.account ≡ visited old.weight old.account visit
   pub balanced : IsBalanced old.weight new.account
 
--- A visit that left so many rounds of its grant was counted in a share, if there is one, and the rounds are kept that the
--- account keeps. Without a share those are kept that the ending keeps of what was left.
+-- A visit that left this many rounds of its grant was counted in the visit account, if there is one, which keeps
+-- these rounds. Without one, the rounds kept are those that the ending keeps.
 abbrev pub Counts : Visit → ℕ → Option Share → Option Share → ℕ → Type 0
 Counts visit left (Some old) (Some new) kept = HasCounted visit old new × (kept ≡ new.account.kept)
 Counts visit left None None kept = kept ≡ kept_of visit.ending left

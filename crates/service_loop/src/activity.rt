@@ -1,12 +1,12 @@
-//! What a round came to.
+//! The outcomes of a round.
 
-/// What a round, or a part of it, came to.
+/// The outcome of a round, or of a part of it.
 #[derive(Clone, Copy, PartialEq, Eq)]
 pub enum Activity {
     /// Something was done, and there may be more to do.
     Busy,
     /// There was nothing to do.
     Idle,
-    /// No memory was found. No further round is made.
+    /// Out of memory. No further round is made.
     Memory,
 }

@@ -1,4 +1,4 @@
-//! What one connection's application is delivered, and gives back.
+//! Deliveries to one connection's application, and blocks that it gives back.
 
 ghost use Rattle.std.specs.Prelude.{◌≡◌, ◌≢◌, ◌<◌, ◌≤◌, ◌^◌, ◌++◌, [], ℕ, List, None, Some, IsTrue, OnOk, length, true, false};
 ghost use Rattle.mrpc_base.specs.Faults.{HasCause};
@@ -15,7 +15,7 @@ use std::alloc::Global;
 use std::collections::VecDeque;
 use std::sync::Wait;
 
-/// What one thread holds to deliver to a connection's application, and to take back what it gives back.
+/// What one thread needs to deliver messages to a connection's application and to reclaim their blocks.
 #[derive(Drop)]
 pub struct Deliveries<'t> {
     pub arrivals: Arrivals<'t>,
@@ -23,7 +23,7 @@ pub struct Deliveries<'t> {
     pub reclaims: Reclaims,
 }
 
-/// The service's ends of the rings on which an application is told of messages, and gives their blocks back.
+/// The service's ends of the rings that carry notices to an application and block numbers back.
 #[derive(Drop)]
 pub struct Rings {
     pub notices: Sender,
@@ -32,8 +32,8 @@ pub struct Rings {
 }
 
 impl<'t> Deliveries<'t> {
-    /// Deliveries of which none has come, where no frame has had its fate yet. The application's program gives back so
-    /// many numbers, whether it has such blocks or not.
+    /// Deliveries that haven't sent a notice yet, with arrivals that haven't handled a frame yet. The application's
+    /// program gives back this many numbers, whether they name blocks that it holds or not.
     pub fn new(
         alloc: Global,
         arrivals: Arrivals<'t>,
@@ -81,10 +81,10 @@ impl<'t> Deliveries<'t> {
         }
     }
 
-    /// Makes the part of a round that concerns deliveries: the blocks whose numbers came back are reclaimed, the link
-    /// is received from once, one frame has its fate, and notices are given while their rings have room. Tells whether
-    /// something was done. The only error is `Memory`, after which they are still of the same heap and rings, and no
-    /// more is said of them.
+    /// Makes the part of a round that concerns deliveries: reclaims the blocks whose numbers came back, receives from
+    /// the link once, handles one frame, and sends notices while their rings have room. Returns whether anything was
+    /// done. The only error is `Memory`; afterwards the heap and the rings are the same ones, and nothing more is
+    /// known of them.
     pub fn round<R: Wait, L: Link>(
         &mut self,
         rt: &R,
@@ -97,8 +97,8 @@ impl<'t> Deliveries<'t> {
         ensures on { OnOk result (DeliversOn (L.given link.old) (L.given link.new) self.old self.new) }
         ensures same { AreSameDeliveries self.old self.new }
 
-        // The link counts as failed where its count of faults rises, and as ended where it told so. What counts as ended
-        // goes on so.
+        // The link counts as failed if its count of failures rises, and as ended if it reported its end. What counts
+        // as ended stays so.
         ensures cause { OnOk result (HasCause
             ((self.old.arrivals.stream ≢ Stream.Failed) × (self.new.arrivals.stream ≡ Stream.Failed))
             (L.faults link.old) (L.faults link.new)) }
@@ -119,7 +119,7 @@ impl<'t> Deliveries<'t> {
         Ok(reclaimed | received | turned | given)
     }
 
-    // Reclaims the blocks whose numbers wait on their ring.
+    // Reclaims the blocks whose numbers are on their ring.
     fn reclaim<R: Wait>(&mut self, rt: &R) -> Result<bool, Memory>
         requires { AreDelivering self.old }
         ensures delivered { (life : TheLife) (numbers back : List ℕ) → HaveDelivered life numbers back self.old
@@ -158,7 +158,7 @@ impl<'t> Deliveries<'t> {
         self.arrivals.receive(link, buffer)
     }
 
-    // Gives one frame its fate, unless no more have theirs.
+    // Handles one frame, unless no further frame can be handled.
     fn turn(&mut self) -> Result<bool, Memory>
         requires { AreDelivering self.old }
         ensures delivered { (life : TheLife) (numbers back : List ℕ) → HaveDelivered life numbers back self.old
@@ -187,7 +187,7 @@ impl<'t> Deliveries<'t> {
         self.notices.notices.is_none() || self.notices.blocks.is_none()
     }
 
-    // Gives notices, and closes their rings once no more come.
+    // Sends notices, and closes their rings once no more follow.
     fn give<R: Wait>(&mut self, rt: &R) -> bool
         requires { AreDelivering self.old }
         ensures delivered { (life : TheLife) (numbers back : List ℕ) → HaveDelivered life numbers back self.old
@@ -200,7 +200,7 @@ impl<'t> Deliveries<'t> {
         given | closed
     }
 
-    // Gives notices while their rings have room.
+    // Sends notices while their rings have room.
     fn give_notices<R: Wait>(&mut self, rt: &R) -> bool
         requires { AreDelivering self.old }
         ensures delivered { (life : TheLife) (numbers back : List ℕ) → HaveDelivered life numbers back self.old
@@ -214,8 +214,8 @@ impl<'t> Deliveries<'t> {
         self.notices.give(rt, &mut self.arrivals.writer)
     }
 
-    // Closes the rings of notices, as far as they have room, once no more frames have their fates and each message was
-    // given.
+    // Closes the rings of notices, as far as they have room, once no further frame can be handled and each message
+    // was sent as a notice.
     fn close<R: Wait>(&mut self, rt: &R) -> bool
         ensures delivered { (life : TheLife) (numbers back : List ℕ) → HaveDelivered life numbers back self.old
             → HaveDelivered life numbers back self.new }
@@ -239,8 +239,8 @@ impl<'t> Deliveries<'t> {
         self.arrivals.stream == Stream::Failed
     }
 
-    /// Has the link count as ended, since it failed at a send. What came before still has its fate where the stream
-    /// had ended by itself.
+    /// Marks the link as ended, because a send on it failed. If the stream had ended by itself, frames that were
+    /// already received are still handled.
     pub fn stop(&mut self)
         ensures delivered { (life : TheLife) (numbers back : List ℕ) → HaveDelivered life numbers back self.old
             → HaveDelivered life numbers back self.new }

@@ -1,4 +1,4 @@
-//! The steps of operators that come to a chain.
+//! The scheduled operations on a chain.
 
 ghost use Rattle.std.specs.Prelude.{◌≡◌, IfOk};
 
@@ -6,7 +6,7 @@ use engine_core::Op;
 use mrpc_table::Memory;
 use std::alloc::Global;
 
-/// A step of an operator, which comes once so many calls were taken, and before another is.
+/// An operation of an operator, due once `count` calls were taken and before another is.
 #[derive(Drop)]
 pub struct DueStep {
     pub count: u64,
@@ -14,7 +14,7 @@ pub struct DueStep {
 }
 
 impl DueStep {
-    // An equal step, for a chain.
+    // A copy of the operation, for a chain.
     pub(crate) fn copied(&self, alloc: Global) -> Result<Op, Memory>
         ensures { IfOk result (λ op. op ≡ self.now.step) }
     {

@@ -22,7 +22,7 @@ use qos_order::Ending;
 use std::alloc::Global;
 use std::sync::Wait;
 
-/// All that belongs to one connection. One thread at a time holds it by value.
+/// All that belongs to one connection. One thread at a time owns it.
 #[derive(Drop)]
 pub struct Endpoint<'t, C, Q, L> {
     pub submissions: Submissions<'t>,
@@ -30,18 +30,18 @@ pub struct Endpoint<'t, C, Q, L> {
     pub link: L,
     pub tickets: Q,
     pub clock: &'t C,
-    /// Where bytes are received.
+    /// The buffer into which bytes are received.
     pub buffer: Vec<u8>,
-    /// The rounds of earlier grants that later visits may still use.
+    /// Rounds of earlier grants that later visits may still use.
     pub kept: u64,
-    /// Its share, where rounds go by weight.
+    /// Its weight and account, if rounds go by weight.
     pub share: Option<Share>,
-    /// Whether no memory was found. Then no further round is made.
+    /// Whether it ran out of memory. Then it makes no further round.
     pub memory: bool,
 }
 
 impl<'t, C: Clock, Q: Tickets, L: Link> Endpoint<'t, C, Q, L> {
-    /// A connection on which nothing was submitted and whose link hasn't failed.
+    /// A connection without submissions, on a link that hasn't failed.
     pub fn new(
         submissions: Submissions<'t>,
         deliveries: Deliveries<'t>,
@@ -85,13 +85,13 @@ impl<'t, C: Clock, Q: Tickets, L: Link> Endpoint<'t, C, Q, L> {
         }
     }
 
-    /// Makes a round: what the application submits is taken, judged and sent, the blocks that it gives back are
-    /// reclaimed, and what the link gives is delivered. A link that fails ends the connection.
+    /// Makes a round: takes, judges and sends submissions, reclaims the blocks that the application gives back, and
+    /// delivers what the link gives. A link that fails ends the connection.
     pub fn round<R: Wait>(&mut self, rt: &R, alloc: Global) -> Activity
         requires whole { IsWhole C.Clock Q.Tickets L.Link self.old }
         requires memory { self.old.memory ≡ false }
 
-        // What holds between two rounds holds behind this one, and the connection has gone on.
+        // The invariant between rounds holds again, and the connection has advanced.
         ensures whole { result ≢ Activity.Memory → IsWhole C.Clock Q.Tickets L.Link self.new }
         ensures goes_on { result ≢ Activity.Memory → GoesOn C.Clock Q.Tickets L.Link self.old self.new }
 
@@ -111,7 +111,7 @@ impl<'t, C: Clock, Q: Tickets, L: Link> Endpoint<'t, C, Q, L> {
         }
     }
 
-    // The same. Tells whether something was done.
+    // Like `round`, but returns whether anything was done.
     fn make_round<R: Wait>(&mut self, rt: &R, alloc: Global) -> Result<bool, Memory>
         requires { IsWhole C.Clock Q.Tickets L.Link self.old }
         ensures whole { OnOk result (IsWhole C.Clock Q.Tickets L.Link self.new) }
@@ -127,7 +127,7 @@ impl<'t, C: Clock, Q: Tickets, L: Link> Endpoint<'t, C, Q, L> {
         Ok(submitted | delivered)
     }
 
-    // Has the calls go on. A link that failed gives nothing more.
+    // Makes the round of the submissions. After the link failed, it delivers nothing more.
     fn submit<R: Wait>(&mut self, rt: &R, alloc: Global) -> Result<bool, Memory>
         requires { IsWhole C.Clock Q.Tickets L.Link self.old }
         ensures whole { OnOk result (IsWhole C.Clock Q.Tickets L.Link self.new) }
@@ -149,7 +149,7 @@ impl<'t, C: Clock, Q: Tickets, L: Link> Endpoint<'t, C, Q, L> {
         Ok(busy)
     }
 
-    // Delivers what comes. Where the link fails, the connection ends.
+    // Makes the round of the deliveries. If the link fails, it ends the connection.
     fn deliver<R: Wait>(&mut self, rt: &R) -> Result<bool, Memory>
         requires { IsWhole C.Clock Q.Tickets L.Link self.old }
         ensures whole { OnOk result (IsWhole C.Clock Q.Tickets L.Link self.new) }
@@ -170,8 +170,8 @@ impl<'t, C: Clock, Q: Tickets, L: Link> Endpoint<'t, C, Q, L> {
         Ok(delivered)
     }
 
-    /// Ends the connection since its link failed, as its writer tells once it was joined: the calls that stand are
-    /// refused. It takes no memory.
+    /// Ends the connection because its link failed, as its joined writer reports: refuses the pending calls. Doesn't
+    /// allocate.
     pub fn fail(&mut self)
         requires { IsWhole C.Clock Q.Tickets L.Link self.old }
         ensures whole { IsWhole C.Clock Q.Tickets L.Link self.new }
@@ -205,7 +205,8 @@ impl<'t, C: Clock, Q: Tickets, L: Link> Endpoint<'t, C, Q, L> {
     }
 
     /// Makes the rounds of a visit: as many as the order grants, while there is something to do and the gate is open.
-    /// What a closed gate leaves of the grant is kept. A connection that has a share counts the visit in its account.
+    /// Rounds of the grant that a closed gate leaves are kept. A connection with a `Share` counts the visit in its
+    /// account.
     pub fn visit<R: Wait, G: Gate, O: ReadyOrder>(
         &mut self,
         rt: &R,
@@ -214,7 +215,7 @@ impl<'t, C: Clock, Q: Tickets, L: Link> Endpoint<'t, C, Q, L> {
         order: &O,
     ) -> Visited
         requires endpoint { IsEndpoint C.Clock Q.Tickets L.Link self.old }
-        // The order grants what a share says.
+        // The order grants rounds by the weight of its visit account.
         requires order { GrantsShare (O.grant_of order.now) self.old }
         ensures endpoint { IsEndpoint C.Clock Q.Tickets L.Link self.new }
         ensures order { GrantsShare (O.grant_of order.now) self.new }
@@ -223,7 +224,8 @@ impl<'t, C: Clock, Q: Tickets, L: Link> Endpoint<'t, C, Q, L> {
         ensures memory { (self.new.memory ≡ true) ↔ (result.outcome ≡ Outcome.Memory) }
         ensures over { result.outcome ≡ Outcome.Over → IsOver C.Clock Q.Tickets L.Link self.new }
 
-        // What was given fits the grant, and the rounds are kept that the ending keeps, unless an account stands still.
+        // The rounds given are within the grant, and the rounds kept are those that the ending keeps, unless the
+        // account no longer changes.
         ensures fits { Fits (O.grant_of order.now self.old.submissions.conn.conn self.old.kept)
             (record { given = result.given; ending = result.ending }) }
         ensures kept { IfSome self.old.share (λ share. share.account.visits < 2 ^ 40) → self.new.kept
@@ -249,7 +251,7 @@ impl<'t, C: Clock, Q: Tickets, L: Link> Endpoint<'t, C, Q, L> {
         visited
     }
 
-    // Makes at most so many rounds.
+    // Makes at most `grant` rounds.
     fn make_rounds<R: Wait, G: Gate>(
         &mut self,
         rt: &R,
@@ -297,7 +299,7 @@ impl<'t, C: Clock, Q: Tickets, L: Link> Endpoint<'t, C, Q, L> {
         }
     }
 
-    // Makes one round, and tells whether the connection is over then.
+    // Makes one round, and returns whether the connection is finished then.
     fn advance<R: Wait>(&mut self, rt: &R, alloc: Global) -> Outcome
         requires whole { IsWhole C.Clock Q.Tickets L.Link self.old }
         requires memory { self.old.memory ≡ false }
@@ -316,7 +318,7 @@ impl<'t, C: Clock, Q: Tickets, L: Link> Endpoint<'t, C, Q, L> {
         }
     }
 
-    // That it is over, or else what its round came to.
+    // `Over` if the connection is finished, else the outcome of its round.
     fn over_or(&self, outcome: Outcome) -> Outcome
         ensures { (result ≡ outcome) ⊎ ((result ≡ Outcome.Over) × IsOver C.Clock Q.Tickets L.Link self.now) }
     {
@@ -327,7 +329,7 @@ impl<'t, C: Clock, Q: Tickets, L: Link> Endpoint<'t, C, Q, L> {
     }
 }
 
-// Whether a round was busy, where memory was found.
+// Whether a round was busy; `Memory` if it ran out of memory.
 fn was_busy(activity: Activity) -> Result<bool, Memory>
     ensures { OnOk result (activity ≢ Activity.Memory) }
 {
@@ -338,7 +340,7 @@ fn was_busy(activity: Activity) -> Result<bool, Memory>
     }
 }
 
-// What a visit came to whose rounds so far were all busy.
+// The outcome of a visit whose rounds so far were all busy.
 fn so_far(given: u64) -> Outcome
     ensures { (result ≡ Outcome.Busy) ⊎ (result ≡ Outcome.Idle) }
 {
@@ -348,7 +350,7 @@ fn so_far(given: u64) -> Outcome
     Outcome::Busy
 }
 
-// How a visit ended behind a round that had nothing to do, or with which the connection was over.
+// The ending of a visit after a round that had nothing to do or that finished the connection.
 fn ending_after(given: u64, grant: u64) -> Ending
     ensures { result ≡ Ending.Given → given ≡ grant }
 {
@@ -358,7 +360,7 @@ fn ending_after(given: u64, grant: u64) -> Ending
     Ending::Idle
 }
 
-// What a visit leaves of its grant for later ones.
+// The rounds of its grant that a visit leaves for later ones.
 fn left_of(visit: Visited, grant: u64) -> u64
     requires { visit.given ≤ grant }
     ensures { result ≡ kept_of visit.ending (grant - visit.given) }
@@ -369,7 +371,7 @@ fn left_of(visit: Visited, grant: u64) -> u64
     }
 }
 
-// Counts a visit in a share, if there is one, and tells the rounds that are kept then.
+// Counts a visit in the visit account, if there is one. Returns the account and the rounds kept then.
 fn count(share: Option<Share>, visit: Visited, grant: u64) -> (Option<Share>, u64)
     requires within { visit.given ≤ grant }
     requires share { IfSome share (CanCount (record { given = visit.given; ending = visit.ending })) }

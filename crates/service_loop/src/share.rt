@@ -1,11 +1,11 @@
-//! The share of a connection whose rounds go by weight.
+//! The account of a connection whose rounds go by weight.
 
 ghost use Rattle.service_loop.specs.Within.{CanCount, HasCounted};
 
 use crate::visited::Visited;
 use qos_order::Account;
 
-/// The weight of a connection, the same in all its visits, and what these came to.
+/// The weight of a connection, the same in all its visits, and the account of these visits.
 #[derive(Clone, Copy)]
 pub struct Share {
     /// 1 to 100.
@@ -14,7 +14,7 @@ pub struct Share {
 }
 
 impl Share {
-    // With one visit more in its account.
+    // The visit account with one more visit.
     pub(crate) fn counted(mut self, visit: Visited) -> Share
         requires { CanCount (record { given = visit.given; ending = visit.ending }) self }
         ensures { HasCounted (record { given = visit.given; ending = visit.ending }) self result }

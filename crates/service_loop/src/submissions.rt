@@ -27,23 +27,23 @@ use std::sync::Wait;
 
 /// The calls of a connection's application, with all that one thread needs to take, judge and send them.
 pub struct Submissions<'t> {
-    /// The connection, with the calls that stand.
+    /// The connection, with its pending calls.
     pub conn: Conn<'t>,
     /// The reader of the application's heap.
     pub reader: Reader,
-    /// The ring on which its calls come.
+    /// The ring that carries its calls.
     pub calls: Receiver,
-    /// The steps of operators that are to come to its chain, in order.
+    /// The operators' operations for its chain, in order.
     pub steps: &'t [DueStep],
-    /// How many of them came.
+    /// How many of them were applied.
     pub applied: usize,
-    /// How many calls were accepted.
+    /// The number of accepted calls.
     pub accepted: u32,
-    /// Whether the last drain is done, behind the closing of the ring.
+    /// Whether the last drain is done, after the closing of the ring.
     pub finished: bool,
 }
 
-// By hand, so that a drop is one call where it is needed, and not a drop of each part.
+// Written by hand so that a drop is one call, not a drop of each field.
 impl<'t> Drop for Submissions<'t> {
     fn drop(self) {
         let Submissions {
@@ -58,25 +58,25 @@ impl<'t> Drop for Submissions<'t> {
     }
 }
 
-// What came from the ring of calls.
+// What was taken from the ring of calls.
 #[derive(Clone, Copy, PartialEq, Eq)]
 enum Next {
-    // Nothing, or there is no room for a call.
+    // Nothing, or there was no room for a call.
     Nothing,
-    // A call, which was accepted, or was given up since the link has failed.
+    // A call, which was accepted, or rejected because the link has failed.
     Call,
     // The closing.
     Closing,
 }
 
-// Whether something was done: something came from the ring, steps came, or calls went.
+// Whether anything was done: something was taken from the ring, operations were applied, or calls advanced.
 fn was_busy(next: Next, stepped: bool, went: bool) -> bool {
     next != Next::Nothing || stepped || went
 }
 
 impl<'t> Submissions<'t> {
-    /// Submissions of which none has come, on a connection of which nothing has happened, and with a heap that nobody
-    /// has loaded from.
+    /// Submissions of which none was taken, on a connection without events, and with a heap from which nothing was
+    /// loaded.
     pub fn new(
         conn: Conn<'t>,
         reader: Reader,
@@ -107,13 +107,13 @@ impl<'t> Submissions<'t> {
         }
     }
 
-    /// Makes the part of a round that concerns calls: the steps of operators that are due come to the chain, the
-    /// clock's moment is shown, at most one call is taken unless as many stand as may, and what can go on is judged and
-    /// sent.
-    /// Behind the closing of the ring all steps that are left come, and the link's sending side is ended; from then on
-    /// there is nothing to do. Where the link has no room for all that could be sent, all this is left to a later round,
-    /// so that no send waits. A link that fails ends the connection, whose further submissions are given up. After
-    /// `Memory` the parts are still of the same heap and ring, and no more is said of them.
+    /// Makes the part of a round that concerns calls: applies the operations that are due, passes the clock's
+    /// timestamp to the connection, takes at most one call if there is room for another pending one, and judges and
+    /// sends what can advance. After the closing of the ring it applies all remaining operations and ends the link's
+    /// sending side; from then on there is nothing to do. If the link has no room for all that could be sent, it does
+    /// nothing until a later round, so that no send blocks. A link that fails ends the connection, and further
+    /// submissions are rejected. After `Memory` the heap and the ring are the same ones, and nothing more is known of
+    /// them.
     pub fn round<R: Wait, C: Clock, Q: Tickets, L: Link>(
         &mut self,
         rt: &R,
@@ -125,24 +125,24 @@ impl<'t> Submissions<'t> {
         requires served { IsServed self.old }
         requires known { KnowTenants (Q.knows tickets.old) self.old.steps.now }
 
-        // What holds between two rounds holds behind this one.
+        // The invariant between rounds holds again.
         ensures served { result ≢ Activity.Memory → IsServed self.new }
         ensures same { AreSameSubmissions self.old self.new }
 
-        // Its moment is the clock's, and no call is taken before the clock's least one.
+        // Its timestamps are the clock's, and no call is taken before the clock's least one.
         ensures moments { result ≢ Activity.Memory → All (C.gives clock.now) (moments_in (behind self.old.conn))
             → All (C.gives clock.now) (moments_in (behind self.new.conn)) }
         ensures least { result ≢ Activity.Memory
             → All (λ ms. C.least clock.now ≤ ms) (moments_at_calls (behind self.old.conn))
             → All (λ ms. C.least clock.now ≤ ms) (moments_at_calls (behind self.new.conn)) }
 
-        // The link was handed the frames that the history tells, and the tickets were drawn that it tells.
+        // The link was handed the frames of the history, and the tickets of the history were drawn.
         ensures handed { result ≢ Activity.Memory
             → Hands self.old.conn self.new.conn (L.handed link.old) (L.handed link.new) }
         ensures draws { result ≢ Activity.Memory
             → DrawsTickets Q.knows Q.drawn Q.since self.old.conn self.new.conn tickets.old tickets.new }
 
-        // The connection ends where the link's count of faults rises, and only there.
+        // The connection ends exactly if the link's count of failures rises.
         ensures cause { result ≢ Activity.Memory
             → HasCause ((self.old.conn.ended ≡ false) × (self.new.conn.ended ≡ true)) (L.faults link.old)
             (L.faults link.new) }
@@ -154,10 +154,10 @@ impl<'t> Submissions<'t> {
         ensures same_quotas { (first : Q) → Q.since first tickets.old → Q.since first tickets.new }
         ensures knows { (tenant : ℕ) → Q.knows tickets.old tenant → Q.knows tickets.new tenant }
 
-        // A round accepts one call at most.
+        // A round accepts at most one call.
         ensures one { result ≢ Activity.Memory → self.new.accepted ≤ self.old.accepted + 1 }
 
-        // Behind the last drain nothing changes.
+        // After the last drain nothing changes.
         ensures idle { self.old.finished ≡ true → (result ≡ Activity.Idle) × (self.new ≡ self.old)
             × (link.new ≡ link.old) × (tickets.new ≡ tickets.old) }
     {
@@ -171,7 +171,7 @@ impl<'t> Submissions<'t> {
         }
     }
 
-    // Whether the link has room for all that a round can send: the calls that stand, and the one that it takes.
+    // Whether the link has room for all that a round can send: the pending calls, and the one that it takes.
     fn has_room<L: Link>(&self, link: &mut L) -> bool
         ensures { link.new ≡ link.old }
     {
@@ -179,7 +179,7 @@ impl<'t> Submissions<'t> {
         link.has_room(stand.min(MAX_CALLS - 1) + 1)
     }
 
-    // The same while the last drain isn't done. Tells whether something was done.
+    // Like `round`, while the last drain isn't done. Returns whether anything was done.
     fn take_and_send<R: Wait, C: Clock, Q: Tickets, L: Link>(
         &mut self,
         rt: &R,
@@ -220,7 +220,7 @@ impl<'t> Submissions<'t> {
         Ok(was_busy(next, self.applied != applied, stood != stands))
     }
 
-    // Applies the steps that are due: those whose count of calls is reached, and behind the closing all.
+    // Applies the operations that are due: those whose count of calls is reached, or all after the closing.
     fn apply_due(&mut self, alloc: Global, closing: bool) -> Result<(), Memory>
         requires serving { IsServing self.old }
         requires closing { closing ≡ self.old.calls.closed }
@@ -235,7 +235,7 @@ impl<'t> Submissions<'t> {
         Ok(())
     }
 
-    // Whether the first step that is left is due.
+    // Whether the first remaining operation is due.
     fn is_due(&self, closing: bool) -> bool
         requires serving { IsServing self.now }
         requires closing { closing ≡ self.now.calls.closed }
@@ -246,7 +246,7 @@ impl<'t> Submissions<'t> {
             && (closing || self.steps[self.applied].count <= u64::from(self.accepted))
     }
 
-    // Applies the first step that is left.
+    // Applies the first remaining operation.
     fn apply(&mut self, alloc: Global) -> Result<(), Memory>
         requires serving { IsServing self.old }
         requires due { IsDue self.old }
@@ -268,7 +268,7 @@ impl<'t> Submissions<'t> {
         Ok(())
     }
 
-    // Shows the connection a moment.
+    // Passes a timestamp to the connection.
     fn show(&mut self, now: u64) -> Result<(), Memory>
         requires serving { IsServing self.old }
         ensures serving { OnOk result (IsServing self.new) }
@@ -282,7 +282,7 @@ impl<'t> Submissions<'t> {
         self.conn.clock(now)
     }
 
-    // Takes the next call from the ring, unless as many stand as may.
+    // Takes the next call from the ring, unless the maximum number of calls is pending.
     fn take_call<R: Wait>(&mut self, rt: &R, alloc: Global) -> Result<Next, Memory>
         requires serving { IsServing self.old }
         requires open { self.old.calls.closed ≡ false }
@@ -308,7 +308,7 @@ impl<'t> Submissions<'t> {
         }
     }
 
-    // Accepts a call that was taken, or gives it up where the link has failed.
+    // Accepts a call that was taken, or rejects it if the link has failed.
     fn accept(&mut self, alloc: Global, call: Descriptor) -> Result<(), Memory>
         requires taken { HasTaken call self.old }
         requires open { self.old.calls.closed ≡ false }
@@ -352,7 +352,7 @@ impl<'t> Submissions<'t> {
         }
     }
 
-    // Has the calls that stand go on as far as they can; behind the closing of the ring for the last time.
+    // Advances the pending calls as far as possible; for the last time after the closing of the ring.
     fn go_on<Q: Tickets, L: Link>(
         &mut self,
         alloc: Global,
@@ -386,7 +386,7 @@ impl<'t> Submissions<'t> {
         }
     }
 
-    // Behind the closing of the ring: applies the steps that are left, has the calls go on for the last time, and ends
+    // After the closing of the ring: applies the remaining operations, advances the calls for the last time, and ends
     // the link's sending side.
     fn finish<Q: Tickets, L: Link>(
         &mut self,
@@ -419,7 +419,7 @@ impl<'t> Submissions<'t> {
         Ok(())
     }
 
-    // Has the calls that stand go on as far as they can.
+    // Advances the pending calls as far as possible.
     fn drain<Q: Tickets, L: Link>(&mut self, tickets: &mut Q, link: &mut L) -> Result<(), Memory>
         requires serving { IsServing self.old }
         requires known { KnowTenants (Q.knows tickets.old) self.old.steps.now }
@@ -455,8 +455,8 @@ impl<'t> Submissions<'t> {
         }
     }
 
-    /// Ends the connection since its link failed, unless it has ended: the calls that stand are refused, and what is
-    /// submitted from now on is given up. It takes no memory.
+    /// Ends the connection because its link failed, unless it has ended: refuses the pending calls, and rejects all
+    /// later submissions. Doesn't allocate.
     pub fn fail(&mut self)
         requires served { IsServed self.old }
         ensures served { IsServed self.new }

@@ -1,25 +1,25 @@
-//! What a visit of a connection came to.
+//! The summary of a visit of a connection.
 
 use qos_order::Ending;
 
-/// What the rounds of a visit came to.
+/// The outcome of the rounds of a visit.
 #[derive(Clone, Copy, PartialEq, Eq)]
 pub enum Outcome {
     /// Something was done, and there may be more to do.
     Busy,
     /// There was nothing to do.
     Idle,
-    /// The connection is over. It gets no further visit.
+    /// The connection is finished. It gets no further visit.
     Over,
-    /// No memory was found. The connection gets no further round.
+    /// Out of memory. The connection gets no further round.
     Memory,
 }
 
-/// A visit.
+/// The summary of a visit.
 #[derive(Clone, Copy)]
 pub struct Visited {
     pub outcome: Outcome,
-    /// How many rounds were given.
+    /// The number of rounds given.
     pub given: u64,
     pub ending: Ending,
 }

@@ -1,4 +1,4 @@
--- The account of a connection's visits behind a run.
+-- The account of a connection's visits after a run.
 use Rattle.std.proofs.Common.{◌≡◌, ℕ, true, false, Option, None, Some, length, refl, subst, ◌∙◌, arith}
 use Rattle.std.specs.Prelude.{IfSome}
 use Rattle.call_history.specs.Behind.{taken}
@@ -13,7 +13,7 @@ use Rattle.service_run.specs.Closings.{Item}
 use Rattle.service_run.specs.Served.{HasAccount, WasVisited}
 use Rattle.service_run.specs.declared.served.BoundConn.{BoundConn}
 
--- ---- with what share a connection begins
+-- ---- the initial visit account of a connection
 
 weighed-in : (plan : Plan) (app : Application) → plan.weighted ≡ true
     → weight_of_share (share_in plan app) ≡ Some app.weight
@@ -31,7 +31,7 @@ its-share : (s : Option Share) (weight : ℕ) → weight_of_share s ≡ Some wei
 its-share None weight is = absurd (let wrong : None ≡ Some weight = is in cc)
 its-share (Some share) weight is = (share, refl, (let same : Some share.weight ≡ Some weight = is in cc))
 
--- ---- what it has behind the run
+-- ---- its visit account after the run
 
 module _ {C : Type 0} (plan : Plan) (app : Application) (last : Item C) (b : BoundConn) where
   was-visited : (weight : ℕ) (share : Share) → share.weight ≡ weight

@@ -1,4 +1,4 @@
--- What is known of the parts that were left of a connection, before they are put together.
+-- What is known of the parts of a connection before they are reconciled.
 use Rattle.std.proofs.Common.{◌≡◌, false, List, Option, Some, sym, ap, subst, ◌∙◌}
 use Rattle.std.specs.Prelude.{IfSome}
 use Rattle.mrpc_base.specs.declared.clock.Clock.{Ghosts as ClockMembers}
@@ -36,7 +36,7 @@ reclaims-ring (role.Client program) T port end sent did = did.sent.reclaims_ring
 reclaims-ring (role.Server program) T port end sent did = did.sent.reclaims_ring
 reclaims-ring role.Echo T port end sent did = did.sent.reclaims_ring
 
--- the rest of a fact on what there is
+-- the remaining part of a fact about a present option
 pub on-some : {T : Type 0} (P : T → Type 0) (o : Option T) (x : T) → o ≡ Some x → IfSome o P → P x
 on-some P o x is h = subst (λ o. IfSome o P) is h
 

@@ -1,4 +1,4 @@
--- What was left of several connections, one behind the other.
+-- What was left of several connections, one after another.
 use Rattle.std.proofs.Common.{◌≡◌, List, [], ◌∷◌, ◌++◌, length, Option, None, Some, arith, refl, sym, ap, subst, ◌∙◌, append_assoc, append-nil}
 use Rattle.std.specs.Prelude.{MatchOption}
 use Rattle.std.specs.List.{AllZip}
@@ -12,7 +12,7 @@ use Rattle.link_queue.specs.declared.writer_end.WriterEnd.{WriterEnd}
 use Rattle.service_wiring.specs.declared.closed.Closed.{Closed}
 use Rattle.service_run.specs.Closings.{AreLeft, IsLeft, Opening}
 
--- the first of some openings were met, and what is left of the others is left
+-- the first of some openings were reconciled, and what is left of the others remains
 pub record MeetSome {O X : Type 0} (Left : List O → Type 0) (Served : O → X → Type 0) (openings : List O)
     (met : List X) : Type 0 where
   pub past : List O
@@ -21,7 +21,7 @@ pub record MeetSome {O X : Type 0} (Left : List O → Type 0) (Served : O → X 
   pub served : AllZip Served past met
   pub left : Left rest
 
--- what holds of an iterator that gives nothing more
+-- what holds of an iterator that returns no more items
 pub at-end : {X : Type 0} (o : Option X) (P : Type 0) (Q : X → Type 0) → ((x : X) → o ≡ Some x → ⊥)
     → MatchOption o P Q → P
 at-end None P Q never cases = cases
@@ -40,7 +40,7 @@ zip-push Served (p ∷ os) (y ∷ xs) o x zip here = (zip.0, zip-push Served os 
 
 module _ {C L : Type 0} (of_clock : ClockMembers C) (of_quotas : TicketMembers (List Drawing))
     (of_link : LinkMembers Queueing) {g : LinkMembers L} where
-  -- what is left of the next connection, and of those behind it
+  -- what is left of the next connection, and of the later ones
   pub record Next (openings : List (Opening C L)) (closed : Closed) (end : AppEnd) (writer : WriterEnd L g)
       (more : List Closed) (ends : List AppEnd) (writers : List (WriterEnd L g)) : Type 0 where
     pub o : Opening C L
@@ -57,7 +57,7 @@ module _ {C L : Type 0} (of_clock : ClockMembers C) (of_quotas : TicketMembers (
   next-left (o ∷ openings) closed end writer more ends writers left =
       record { o = o; later = openings; are = refl; is_left = left.0; are_left = left.1 }
 
-  -- where a connection is left, an end and a writer are left with it
+  -- if a connection is left, an end and a writer are left with it
   no-end : (openings : List (Opening C L)) (closed : Closed) (more : List Closed) (writers : List (WriterEnd L g))
       → AreLeft of_clock of_quotas of_link openings (closed ∷ more) [] writers → ⊥
   no-end [] closed more writers left = left
@@ -76,7 +76,7 @@ module _ {C L : Type 0} (of_clock : ClockMembers C) (of_quotas : TicketMembers (
   no-more [] ends writers left = refl
   no-more (o ∷ openings) ends writers left = absurd left
 
-  -- the next connection is met behind those before it
+  -- the next connection is reconciled after the earlier ones
   module _ {X : Type 0} (Served : Opening C L → X → Type 0) where
     abbrev pub SoFar : List (Opening C L) → List X → List Closed → List AppEnd → List (WriterEnd L g) → Type 0
     SoFar openings met closed ends writers =

@@ -1,4 +1,4 @@
--- The calls of a connection stay served where the service learns more of the application's stores.
+-- The calls of a connection stay served if the service learns more of the application's stores.
 use Rattle.std.proofs.Common.{◌≡◌, ◌≤◌, ℕ, List, map, take, sym, ap, subst, ◌∙◌}
 use Rattle.std.specs.List.{AllZip}
 use Rattle.mrpc_table.specs.declared.limits.TheConstants.{MAX_HEAP, MIN_HEAP}

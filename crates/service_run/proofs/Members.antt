@@ -1,4 +1,4 @@
--- What the members of a queue's link and of seats are.
+-- The members of a queue's link and of seats.
 use Rattle.std.proofs.Common.{◌≡◌, ℕ, ◌<◌, List, [], ◌∷◌, length, Option, Some, None, refl, sym, append-nil}
 use Rattle.std.specs.Prelude.{IsSomeAnd, MatchOption, slice_get}
 use Rattle.std.proofs.lemmas.Slice.Zip.{AllZip-left}
@@ -7,7 +7,7 @@ use Rattle.mrpc_base.specs.declared.tickets.Tickets.{Ghosts as TicketMembers}
 use Rattle.tenant_quota.specs.Drawing.{AreLater, Drawing, IsLater, drawn_by, told_in}
 use Rattle.link_queue.specs.Queueing.{Queueing}
 
--- the members are those of a link whose frames a writer passes on
+-- the members are those of a link whose frames a writer sends on
 pub record IsQueue (of_link : LinkMembers Queueing) : Type 0 where
   pub handed : (l : Queueing) → of_link.handed l ≡ l.handed
   pub given : (l : Queueing) → of_link.given l ≡ Some l.given
@@ -25,13 +25,13 @@ pub record AreSeats (of_quotas : TicketMembers (List Drawing)) : Type 0 where
   pub itself : (seats : List Drawing) → of_quotas.since seats seats
   pub later : (old new : List Drawing) → of_quotas.since old new → AreLater old new
 
--- seats are themselves, later on
+-- seats are a later state of themselves
 pub seats-stay : (seats : List Drawing) → AreLater seats seats
 seats-stay [] = tt
 seats-stay (seat ∷ seats) =
     (record { quota = refl; share = refl; draws = ([], sym (append-nil seat.draws)) }, seats-stay seats)
 
--- a seat that stands beside one that tells its tickets tells its own
+-- a seat beside one with known tickets has known tickets too
 tells-too : (old new : Option Drawing) (window : ℕ) (before : List ℕ) → told_in window old ≡ Some before
     → MatchOption old (Unit {0}) (λ seat. IsSomeAnd new (IsLater seat))
     → (now : List ℕ) × (told_in window new ≡ Some now)
@@ -39,7 +39,7 @@ tells-too None new window before told beside = absurd cc
 tells-too (Some seat) None window before told beside = absurd beside
 tells-too (Some seat) (Some later) window before told beside = (_, refl)
 
--- seats later on are of as many tenants, so they tell their tickets
+-- later seats belong to as many tenants, so their tickets are known
 pub told-later : (old new : List Drawing) (tenant window : ℕ) (before : List ℕ) → AreLater old new
     → drawn_by old tenant window ≡ Some before → (now : List ℕ) × (drawn_by new tenant window ≡ Some now)
 told-later old new tenant window before later told =

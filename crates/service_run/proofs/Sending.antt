@@ -137,7 +137,7 @@ history-send = view_send HistoryInside.the_row _ _ _ _ (declared_send HistoryIns
   (Vec-send Record.the_row record-send, tt),
 ))
 
--- ---- what arrived
+-- ---- arrivals
 opened-send : IsSend Opened.the_row
 opened-send = declared_send Opened.the_type (call-send, (word w64, tt))
 

@@ -1,4 +1,4 @@
--- Seats that were split among others, and take them in again.
+-- Seats that were split among others, and joined again.
 use Rattle.std.proofs.Common.{◌≡◌, ℕ, List, [], ◌∷◌, ◌++◌, Some, map, refl, ap, subst, ◌∙◌, arith, length-append}
 use Rattle.std.specs.Prelude.{All}
 use Rattle.std.proofs.lemmas.List.{get_or_append_left}
@@ -6,14 +6,14 @@ use Rattle.std.specs.List.{AllZip}
 use Rattle.tenant_quota.specs.Drawing.{AreLater, Drawing, all_together, drawn_by, kept_half, new_half, shares_of}
 use Rattle.service_run.specs.Joining.{SplitInto, all_joined, all_told}
 
--- what holds of each of some seats holds of those in front of the last ones
+-- what holds of each of some seats holds of those before the last
 pub all-front : (P : List Drawing → Type 0) (front : List (List Drawing)) (last : List Drawing)
     (whole : List (List Drawing)) → whole ≡ front ++ last ∷ [] → All P whole → All P front
 all-front P front last whole same all = λ k d less.
     subst P (get_or_append_left front (last ∷ []) d k less)
     (subst (λ xs. All P xs) same all k d (omega (arith, less, length-append front (last ∷ []))))
 
--- the last one is taken in first
+-- the last one is joined first
 pub joined-last : (seats : List Drawing) (others : List (List Drawing)) (last : List Drawing)
     → all_joined seats (others ++ last ∷ []) ≡ all_joined (all_together seats last) others
 joined-last seats [] last = refl

@@ -1,4 +1,4 @@
--- What was put together of a connection is what a run did on it.
+-- A reconciled connection is what a run did on it.
 use Rattle.std.proofs.Common.{◌≡◌, ◌≤◌, ◌<◌, inl, inr, ℕ, Bool, true, false, List, [], ◌++◌, length, map, reverse}
 use Rattle.std.proofs.Common.{Option, Some, None, refl, sym, ap, subst, ◌∙◌, append-nil, arith}
 use Rattle.std.specs.Io.KnownBytes.{Appends}
@@ -49,7 +49,7 @@ use Rattle.service_run.proofs.Members.{AreSeats, IsQueue, told-later}
 
 -- ---- lists
 
--- a list that begins with another is it and a rest
+-- a list with a prefix is the prefix and a suffix
 prefix-rest : {A : Type 0} (front whole : List A) → IsPrefix front whole → (rest : List A) × (whole ≡ front ++ rest)
 prefix-rest front whole p = (p.0, sym p.1)
 
@@ -79,7 +79,7 @@ did-as role.Echo T port end sent e b did note reader notices blocks calls return
 
 -- ---- notices
 
--- where nothing waits and no number is owed, each message was told, with its number
+-- if nothing is pending and no number is owed, each message was sent, with its number
 all-told : (heap : HeapId) (placed : List Delivered) (n : Notices) → IsTelling heap placed n → n.waiting.items ≡ []
     → n.owed ≡ None → AllZip TellsOf placed (notices_of n) × (numbers_of n ≡ message_blocks placed)
 all-told heap placed n h waiting owed =
@@ -131,7 +131,7 @@ works-if : (failed ended : Bool) → (failed ≡ true → ended ≡ true) → en
 works-if true ended ends is = absurd (let wrong : true ≡ false = sym (ends refl) ∙ is in cc)
 works-if false ended ends is = refl
 
--- ---- all of it
+-- ---- everything together
 
 module _ {C L : Type 0} {of_clock : ClockMembers C} {of_quotas : TicketMembers (List Drawing)}
     {of_link : LinkMembers Queueing} {g : LinkMembers L} (o : Opening C L) (closed : Closed) (end : AppEnd)
@@ -195,7 +195,7 @@ module _ {C L : Type 0} {of_clock : ClockMembers C} {of_quotas : TicketMembers (
   working-when : b.submissions.conn.ended ≡ false → failed ≡ false
   working-when = works-if failed b.submissions.conn.ended ended-when
 
-  -- ---- what was handed over
+  -- ---- what was sent
 
   all-handed : closed.passed.handed ≡ frames b.submissions.conn
   all-handed =
@@ -213,7 +213,7 @@ module _ {C L : Type 0} {of_clock : ClockMembers C} {of_quotas : TicketMembers (
     all = λ works. passed.all_handed (working-when works) ∙ all-handed;
   }
 
-  -- ---- what arrived
+  -- ---- arrivals
 
   gone : HaveGoneOn o.begun.life [] [] (of_link.given left.first.link) (of_link.given left.closed_of.last.link)
       left.closed_of.last.deliveries

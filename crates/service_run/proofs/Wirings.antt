@@ -18,7 +18,7 @@ use Rattle.service_wiring.specs.declared.closed.Closed.{Closed}
 use Rattle.service_run.specs.Closings.{AreLeft, AreWired, IsClosedOf, IsLeft, IsWrittenBy, Item, Opening}
 
 module _ {C R L : Type 0} {g : LinkMembers L} where
-  -- the jobs of wired applications may be run
+  -- the tasks of wired applications may run
   pub jobs-of : (openings : List (Opening C L)) (items : List (Item C)) (jobs : List Job)
       (writers : List (QueueWriter R L g)) → AreWired openings items jobs writers → All IsJob jobs
   jobs-of [] [] [] [] wired = All-nil IsJob

@@ -20,17 +20,17 @@ use Rattle.service_wiring.specs.Wired.{Beginning, IsWired, IsWiredConn, IsWiredJ
 use Rattle.service_wiring.specs.declared.applications.Job.{Job}
 use Rattle.service_wiring.specs.declared.closed.Closed.{Closed}
 
--- a connection of a run: its numbers in the plan, its clock, its quotas, and a link whose frames a writer passes on
+-- a connection of a run: its numbers in the plan, its clock, its quotas, and a link whose frames a writer sends on
 abbrev pub Item : Type 0 → Type 0
 Item C = Endpoint C (List Drawing) Queueing
 
--- how a bound connection began: by the plan, for one of its applications, with what there was behind the hellos
+-- the initial state of a bound connection: by the plan, for one of its applications, after the handshake
 pub record Opening (C L : Type 0) : Type 0 where
   pub plan : Plan
   pub app : Application
   pub begun : Beginning C L
 
--- connections, the jobs of their applications and the writers of their links were wired as some openings say, in their
+-- connections, the tasks of their applications and the writers of their links were wired from these openings, in
 -- order
 abbrev pub AreWired : {C R L : Type 0} {g : LinkMembers L} → List (Opening C L) → List (Item C) → List Job
     → List (QueueWriter R L g) → Type 0
@@ -48,8 +48,8 @@ pub record IsWrittenBy {R L : Type 0} {g : LinkMembers L} (writer : QueueWriter 
 
 module _ {C : Type 0} (of_clock : ClockMembers C) (of_quotas : TicketMembers (List Drawing))
     (of_link : LinkMembers Queueing) where
-  -- These are the parts of a connection that is the first one, later on, and is over. Where no memory was found, no
-  -- more is said.
+  -- These are the parts of a finished, later state of the first connection. Nothing is known of them if it ran out of
+  -- memory.
   pub record IsClosedOf (first : Item C) (closed : Closed) : Type 0 where
     pub last : Item C
     pub turned : HasTurned of_clock of_quotas of_link first last
@@ -57,7 +57,7 @@ module _ {C : Type 0} (of_clock : ClockMembers C) (of_quotas : TicketMembers (Li
     pub done : IsDone of_clock of_quotas of_link last
     pub parts : IsLeftOf last closed
 
-  -- What is left of a connection that was opened so: of its own part, of its application, and of the writer of its
+  -- What is left of a connection with this opening: of its own part, of its application, and of the writer of its
   -- link.
   pub record IsLeft {L : Type 0} {g : LinkMembers L} (opening : Opening C L) (closed : Closed) (end : AppEnd)
       (writer : WriterEnd L g) : Type 0 where
@@ -74,7 +74,7 @@ module _ {C : Type 0} (of_clock : ClockMembers C) (of_quotas : TicketMembers (Li
     pub forward : end_forward writer ≡ first.link.forward
     pub backward : end_backward writer ≡ first.link.backward
 
-  -- what is left of each of some connections, in the order in which they were opened
+  -- what is left of each connection, in the order of their openings
   abbrev pub AreLeft : {L : Type 0} {g : LinkMembers L} → List (Opening C L) → List Closed → List AppEnd
       → List (WriterEnd L g) → Type 0
   AreLeft [] [] [] [] = Unit {0}

@@ -1,4 +1,4 @@
--- The code's own: what the parts of a connection come to when they are put together.
+-- The code's own: the parts of a connection after they were reconciled.
 use Rattle.std.specs.Prelude.{◌≡◌, ◌++◌, ℕ, Bool, List, Option, Some, None, true, false}
 use mathlib.Core.List.{IsPrefix}
 use Rattle.mrpc_base.specs.Faults.{Rose}
@@ -27,7 +27,7 @@ use Rattle.service_run.specs.Closings.{Item}
 use Rattle.service_run.specs.declared.served.BoundConn.{BoundConn}
 use Rattle.shared_heap.specs.Fresh.{Noting}
 
--- What an inner link has to do with the closed link of its queue, and whether it failed.
+-- Relates an inner link to the closed link of its queue, and whether it failed.
 pub record HasPassed {L : Type 0} (g : LinkMembers L) (start : L) (passed : PassedOn) (failed : Bool) (now : L)
     : Type 0 where
   pub sent : List (List ℕ)
@@ -54,7 +54,7 @@ pub record KnowsAll (note : Noting) (sent : AllSent) (old new : Submissions) : T
   pub finished : new.finished ≡ old.finished
   pub accepted : new.accepted ≡ old.accepted
 
--- The calls of a connection whose link failed, or didn't.
+-- The calls of a connection, given whether its link failed.
 pub record FailsWith (failed : Bool) (old new : Submissions) : Type 0 where
   pub served : IsServed new
   pub same : AreSameSubmissions old new
@@ -69,7 +69,7 @@ pub record FailsWith (failed : Bool) (old new : Submissions) : Type 0 where
   pub ends : failed ≡ true → new.conn.ended ≡ true
   pub works : failed ≡ false → new.conn ≡ old.conn
 
--- What was left of a connection and of its application, before it is put together: the rings are theirs, and were
+-- What was left of a connection and of its application, before it is reconciled: the rings are theirs, and were
 -- closed and taken to their ends.
 pub record MayMeet (submissions : Submissions) (deliveries : Deliveries) (end : AppEnd) (sent : AppSent) : Type 0 where
   pub served : IsServed submissions
@@ -85,7 +85,7 @@ pub record MayMeet (submissions : Submissions) (deliveries : Deliveries) (end : 
   pub reclaims : sent.reclaims.ring ≡ deliveries.reclaims.numbers.ring
   pub reclaims_closed : deliveries.reclaims.numbers.closed ≡ true
 
--- What they are, once they were put together.
+-- The same parts after they were reconciled.
 pub record HasMet (submissions : Submissions) (deliveries : Deliveries) (began : Option Share) (end : AppEnd)
     (sent : AppSent) (failed : Bool) (b : BoundConn) : Type 0 where
   pub mid : Submissions
@@ -103,7 +103,7 @@ pub record HasMet (submissions : Submissions) (deliveries : Deliveries) (began :
   pub reclaiming : (numbers back : List ℕ) → IsReclaiming numbers back deliveries.reclaims
       → IsReclaiming numbers back b.reclaims
 
--- These are the parts of a connection that holds.
+-- These are the parts of a connection whose invariant holds.
 pub record WasClosed {C : Type 0} (of_clock : ClockMembers C) (of_quotas : TicketMembers (List Drawing))
     (of_link : LinkMembers Queueing) (last : Item C) (closed : Closed) : Type 0 where
   pub whole : IsEndpoint of_clock of_quotas of_link last

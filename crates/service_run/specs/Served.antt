@@ -33,7 +33,7 @@ use Rattle.service_run.specs.declared.served.BoundConn.{BoundConn}
 
 -- ---- the application
 
--- these stores were made, these calls submitted, of which the service took all, and these numbers of blocks came back
+-- these stores were made, these calls submitted and all taken by the service, and these block numbers came back
 pub record HasMade (stores : List (ℕ × ℕ)) (calls : List Submission) (blocks : List ℕ) (b : BoundConn) : Type 0 where
   pub stored : b.note.stores ≡ stores
   pub submitted : map submission_of b.submissions.calls.taken ≡ calls
@@ -48,9 +48,9 @@ echo_on o = record {
   ring = o.app.ring;
 }
 
--- what the application of a role did: the stores and calls of a client are those of its program, those of a server are
--- its program's for each request that it was told of, and those of an echo its copies'; each gave back the block of
--- each notice, and a client those of its program before
+-- what the application of a role did: the stores and calls of a client are those of its program, those of a server
+-- are its program's for each request that it was notified of, and those of an echo its copies'; each gave back the
+-- block of each notice, and a client those of its program before
 abbrev pub DidAs : Role → Echo → BoundConn → Type 0
 DidAs (role.Client program) e b = HasMade (stores_of program) (submits_of 0 program)
     (reclaims_of program ++ blocks_of b.notices.taken b.blocks.taken) b
@@ -62,24 +62,24 @@ DidAs role.Echo e b =
 
 -- ---- its rounds
 
--- What the visits of a connection of some weight came to: the rounds of all visits were given, kept or dropped, and as
--- long as visits are counted, at least as many rounds were given as calls were taken.
+-- The account of a connection with this weight: the rounds of all visits were given, kept or dropped. While visits
+-- are counted, at least as many rounds were given as calls were taken.
 pub record WasVisited (weight : ℕ) (b : BoundConn) (share : Share) : Type 0 where
   pub weight_is : share.weight ≡ weight
   pub balanced : IsBalanced weight share.account
   pub rounds : share.account.visits < 2 ^ 40 → length (taken (behind b.submissions.conn)) ≤ share.account.rounds
 
--- where the connections of the plan are weighed, a connection has an account of its visits, and else none
+-- if the plan's connections are weighted, the connection has an account of its visits, else none
 pub record HasAccount (plan : Plan) (app : Application) (b : BoundConn) : Type 0 where
   pub weighed : plan.weighted ≡ true → (share : Share) × (b.share ≡ Some share) × WasVisited app.weight b share
   pub plain : plan.weighted ≡ false → b.share ≡ None
 
 -- ---- what arrived
 
--- What was delivered to an application, to the end. Its receiver lived on from the life that it began with; each frame
--- that may have its fate had it, each line is the fate of a frame, in order, and each message that was placed was told
--- to the application, with the number of its block. Each of these blocks is held or came back, among the numbers that
--- were judged.
+-- All that was delivered to an application. Its receiver's trace extends the initial one. Each frame that can be
+-- handled was handled, and each line is the fate of a frame, in order. Each placed message was sent to the
+-- application as a notice, with the number of its block. Each of these blocks is held or came back, among the numbers
+-- that were judged.
 pub record WasDelivered (life : Life) (piece : List ℕ) (b : BoundConn) : Type 0 where
   pub later : Life
   pub lives : LivesOn piece life later
@@ -93,8 +93,8 @@ pub record WasDelivered (life : Life) (piece : List ℕ) (b : BoundConn) : Type 
   pub held : IsPermutation (message_blocks (messages_of later.fates)) (held_numbers b.arrivals.inbound.heap.held ++ back)
 
 module _ {C L : Type 0} (of_link : LinkMembers L) where
-  -- What came of a link and was delivered: a first piece of what the link gave since, and all of it where the stream
-  -- has ended, which the link answered.
+  -- What was received from a link and delivered: a prefix of what the link gave since, and all of it if the stream
+  -- has ended, as the link reported.
   pub record Arrived (opening : Opening C L) (now : L) (b : BoundConn) : Type 0 where
     pub piece : List ℕ
     pub rest : List ℕ
@@ -104,8 +104,7 @@ module _ {C L : Type 0} (of_link : LinkMembers L) where
     pub ended : b.arrivals.stream ≡ Ended → IsTrue (of_link.ended now)
     pub failed : b.arrivals.stream ≡ Failed → b.submissions.conn.ended ≡ true
 
-  -- What a link was handed: a first piece of the frames that the history tells, and all of them unless the connection
-  -- has ended.
+  -- What a link was handed: a prefix of the frames of the history, and all of them unless the connection has ended.
   pub record WasHanded (opening : Opening C L) (now : L) (b : BoundConn) : Type 0 where
     pub passed : List (List ℕ)
     pub handed : of_link.handed now ≡ of_link.handed opening.begun.link ++ passed
@@ -113,31 +112,32 @@ module _ {C L : Type 0} (of_link : LinkMembers L) where
     pub all : b.submissions.conn.ended ≡ false → passed ≡ frames b.submissions.conn
 
 module _ {C L : Type 0} (of_clock : ClockMembers C) (of_link : LinkMembers L) where
-  -- What a run did on a connection that was opened so, what is left of it, its seats and its link behind the run.
+  -- What a run did on a connection with this opening, and what is left of it, of its seats and of its link after the
+  -- run.
   pub record HasServed (opening : Opening C L) (b : BoundConn) (seats : List Drawing) (now : L) : Type 0 where
     pub number : b.submissions.conn.conn ≡ opening.app.conn
     pub table : b.submissions.conn.table ≡ table_of opening.plan opening.app
     pub limit : b.submissions.conn.limit ≡ opening.plan.loads
     pub steps : b.submissions.steps.now ≡ opening.begun.steps
-    -- its calls are those that its application submitted, in order, all of them or, where it has ended, the first ones;
-    -- its loads are fresh, and the steps of operators came where they were due, all of them
+    -- its calls are those that its application submitted, in order, all of them or, if the connection has ended, a
+    -- prefix; its loads are fresh, and all scheduled operations were applied where they were due
     pub served : IsServed b.submissions
     pub finished : b.submissions.finished ≡ true
     pub known : b.submissions.reader.known ≡ b.note.stores
     pub did : DidAs opening.app.role (echo_on opening) b
     pub account : HasAccount opening.plan opening.app b
-    -- each moment is the clock's
+    -- each timestamp is the clock's
     pub moments : All (of_clock.gives opening.begun.clock) (moments_in (behind b.submissions.conn))
     pub least : All (λ ms. of_clock.least opening.begun.clock ≤ ms) (moments_at_calls (behind b.submissions.conn))
     pub arrived : Arrived of_link opening now b
-    -- by the table, the policy and the heap that it began with
+    -- under the initial table, policy and heap
     pub same_arrivals : AreSame opening.begun.arrivals b.arrivals
     pub handed : WasHanded of_link opening now b
-    -- the connection has ended where the count of its link's faults rose, and only there
+    -- the connection has ended exactly if the count of its link's failures rose
     pub rose : b.submissions.conn.ended ≡ true → Rose (of_link.faults opening.begun.link) (of_link.faults now)
     pub stays : b.submissions.conn.ended ≡ false → of_link.faults now ≡ of_link.faults opening.begun.link
     pub same_link : (first : L) → of_link.since first opening.begun.link → of_link.since first now
-    -- its seats drew the tickets that its history tells, and no others
+    -- its seats drew exactly the tickets of its history
     pub same_seats : AreLater opening.begun.seats seats
     pub drawn : (tenant window : ℕ) (earlier : List ℕ) → tenant < length opening.begun.seats → window < WINDOWS
         → drawn_by opening.begun.seats tenant window ≡ Some earlier

@@ -1,4 +1,4 @@
-//! The seats of connections come together again.
+//! Seats of connections, joined again.
 
 ghost use Rattle.std.specs.Prelude.{◌≡◌, ℕ, List, All, Some};
 ghost use Rattle.std.specs.List.{AllZip};
@@ -7,8 +7,7 @@ ghost use Rattle.service_run.specs.Joining.{SplitInto, all_joined, all_told};
 
 use tenant_quota::{Seats, seats_come_together};
 
-/// Takes in other seats of the same quotas, each with its draws and its shares. It waits for nobody and takes no
-/// memory.
+/// Joins other seats of the same quotas, each with its draws and its shares. Never blocks or allocates.
 pub fn join_all(seats: &mut Seats, mut others: Vec<Seats>)
     requires { All (λ own. quotas_of own ≡ quotas_of seats.old) others.items }
     ensures joined { seats.new ≡ all_joined seats.old others.items }
@@ -20,8 +19,8 @@ pub fn join_all(seats: &mut Seats, mut others: Vec<Seats>)
     }
 }
 
-/// Seats that were split among others, and took them in again, have all shares that there were, also where these drew
-/// meanwhile. Of each window they then tell the tickets of all. The function does nothing.
+/// Seats that were split and joined again have all shares that there were, even if others drew meanwhile. For each
+/// window they then know the tickets of all. The function does nothing.
 pub fn seats_join_again()
     ensures shares { (whole rest : List Drawing) (owns laters : List (List Drawing)) → SplitInto whole owns rest
         → AllZip AreLater owns laters → shares_of (all_joined rest laters) ≡ shares_of whole }

@@ -1,4 +1,4 @@
-//! What the threads left of one connection is put together.
+//! Reconciles what the threads left of one connection.
 
 ghost use Rattle.std.specs.Prelude.{◌≡◌, ℕ, List, None, Some, IfOk, IsTrue, true, false};
 ghost use Rattle.std.specs.List.{AllZip};
@@ -24,7 +24,7 @@ use std::alloc::Global;
 use std::sync::Wait;
 use tenant_quota::Seats;
 
-/// What was put together of one connection: the connection, its seats, and its link.
+/// One connection after its parts were reconciled: the connection, its seats, and its link.
 #[derive(Drop)]
 pub struct Met<'t, L> {
     pub bound: BoundConn<'t>,
@@ -32,8 +32,8 @@ pub struct Met<'t, L> {
     pub link: L,
 }
 
-/// Puts together what was left of each connection, in their order. `Memory` also where memory was wanting in one of
-/// their threads.
+/// Reconciles what was left of each connection, in their order. `Memory` also if one of their threads ran out of
+/// memory.
 pub fn meet_each<'t, R: Wait + 't, C: Clock, L: Link + Drop>(
     rt: &R,
     alloc: Global,
@@ -66,10 +66,9 @@ pub fn meet_each<'t, R: Wait + 't, C: Clock, L: Link + Drop>(
     Ok(all)
 }
 
-/// Puts together what was left of one connection behind the joins of its threads: the rings are met by what their
-/// senders left, the heap's reader by the application's last note, and the writer of the link by the queue's link. The
-/// connection ends where only its writer learnt that the link failed. `Memory` where memory was wanting in one of the
-/// threads.
+/// Reconciles the parts of one connection after its threads were joined: each ring with what its sender left, the
+/// heap reader with the application's last note, and the link writer with its queue. The connection ends if only its
+/// writer knew that the link failed. `Memory` if one of the threads ran out of memory.
 pub fn meet<'t, R: Wait + 't, C: Clock, L: Link + Drop>(
     _rt: &R,
     _clock: &C,
@@ -84,7 +83,7 @@ pub fn meet<'t, R: Wait + 't, C: Clock, L: Link + Drop>(
         → IfOk result (λ met. HasServed C.Clock L.Link o met.bound met.seats met.link) }
 {
     if closed.memory || end.sent.is_none() {
-        // Both have many parts, each of which would be dropped here by itself.
+        // Both have many fields, each of which would be dropped here separately.
         drop(closed);
         drop(end);
         return Err(Memory);
@@ -109,17 +108,17 @@ pub fn meet<'t, R: Wait + 't, C: Clock, L: Link + Drop>(
     })
 }
 
-// An inner link whose writer met what is left of the link of its queue.
+// An inner link whose writer was reconciled with its queue.
 #[derive(Drop)]
 struct MetLink<L> {
     link: L,
     // Whether it failed.
     failed: bool,
-    // Whether its writer found no memory.
+    // Whether its writer ran out of memory.
     memory: bool,
 }
 
-// Has the writer of a link meet what is left of the link of its queue.
+// Reconciles the writer of a link with what is left of its queue.
 fn meet_link<L: Link + Drop>(mut writer: WriterEnd<L>, passed: Passed) -> MetLink<L>
     requires forward { passed.forward ≡ end_forward writer }
     requires backward { passed.backward ≡ end_backward writer }
@@ -136,8 +135,8 @@ fn meet_link<L: Link + Drop>(mut writer: WriterEnd<L>, passed: Passed) -> MetLin
     }
 }
 
-// Puts together what was left of a connection and of its application, which both came to their ends. The link failed, or
-// it didn't.
+// Reconciles what is left of a connection and of its application, which both came to their ends, given whether the
+// link failed.
 fn put_together<'t>(
     failed: bool,
     mut submissions: Submissions<'t>,
@@ -184,7 +183,7 @@ fn put_together<'t>(
     }
 }
 
-// Ends a connection whose link failed.
+// Ends a connection if its link failed.
 fn fail_with(failed: bool, submissions: &mut Submissions)
     requires { IsServed submissions.old }
     ensures { FailsWith failed submissions.old submissions.new }
@@ -194,7 +193,7 @@ fn fail_with(failed: bool, submissions: &mut Submissions)
     }
 }
 
-// Has the service know all stores of the application's heap, and meet what was left of the ring of its calls.
+// Gives the service all stores of the application's heap, and what its sender left of the ring of calls.
 fn meet_calls(submissions: &mut Submissions, note: &mut Note, sent: Sent)
     requires served { IsServed submissions.old }
     requires heap { note.old.heap ≡ submissions.old.reader.heap }
@@ -209,7 +208,7 @@ fn meet_calls(submissions: &mut Submissions, note: &mut Note, sent: Sent)
     submissions.calls.meet(sent);
 }
 
-// Has an application's ends of the rings of its notices meet what was left of them.
+// Gives an application's ends of its notice rings what their senders left.
 fn meet_notices(notices: &mut Receiver, blocks: &mut NumberReceiver, told: Notices)
     requires none { (told.notices ≡ None) × (told.blocks ≡ None) }
     requires notices_ring { ring_of told.notices told.noticed ≡ Some notices.old.ring }
@@ -233,7 +232,7 @@ fn meet_notices(notices: &mut Receiver, blocks: &mut NumberReceiver, told: Notic
     blocks.meet(numbered);
 }
 
-// Has the ring on which blocks come back meet what was left of it.
+// Gives the ring of returned blocks what its sender left.
 fn meet_reclaims(reclaims: &mut Reclaims, returned: NumbersSent)
     requires ring { returned.ring ≡ reclaims.old.numbers.ring }
     requires closed { reclaims.old.numbers.closed ≡ true }

@@ -16,9 +16,8 @@ use std::sync::Wait;
 use std::thread::Threads;
 use tenant_quota::Seats;
 
-/// Runs the threads of connections that were wired, by so many workers, up to the end of each, and puts together what
-/// they leave, in the order of the connections. `Memory` where memory was wanting in one of the threads, or the stop
-/// flag was set.
+/// Runs the threads of wired connections with `workers` workers, to the end of each, and reconciles what they leave,
+/// in the order of the connections. `Memory` if one of the threads ran out of memory, or the stop flag was set.
 pub fn run_wired<
     't,
     R: Threads + Wait + Sync + 't,

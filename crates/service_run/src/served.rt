@@ -1,4 +1,4 @@
-//! What a run gives back.
+//! The results of a run.
 
 use deliveries::{Arrivals, Reclaims};
 use descriptor_ring::{NumberReceiver, Receiver};
@@ -7,25 +7,25 @@ use shared_heap::{Note, Reader};
 
 /// A connection that was bound, and served its application to the end.
 pub struct BoundConn<'t> {
-    /// Its calls: the connection with its history, the reader of the application's heap, and the ring on which they
-    /// came.
+    /// Its calls: the connection with its history, the reader of the application's heap, and the ring that carried
+    /// them.
     pub submissions: Submissions<'t>,
-    /// What arrived, with a line for each frame that had its fate.
+    /// What arrived, with a line for each handled frame.
     pub arrivals: Arrivals<'t>,
-    /// The numbers of blocks that came back, with those that named no held block.
+    /// The block numbers that came back, including those that named no held block.
     pub reclaims: Reclaims,
-    /// Its share of the rounds, where they go by weight.
+    /// Its weight and account, if rounds go by weight.
     pub share: Option<Share>,
-    /// The last note of the application's heap, which knows all its stores.
+    /// The last note of the application's heap, which has all its stores.
     pub note: Note,
     /// The application's reader of the heap of its messages.
     pub reader: Reader,
-    /// The application's ends of the rings on which it was told of its messages.
+    /// The application's ends of the notice rings.
     pub notices: Receiver,
     pub blocks: NumberReceiver,
 }
 
-// By hand, so that a drop is one call where it is needed, and not a drop of each part.
+// Written by hand so that a drop is one call, not a drop of each field.
 impl<'t> Drop for BoundConn<'t> {
     fn drop(self) {
         let BoundConn {

@@ -19,8 +19,8 @@ use std::thread::Threads;
 use stop_flag::StopFlag;
 use tenant_quota::Seats;
 
-/// Runs applications beside each other, up to the end of each, and gives what they leave in their order. Where no
-/// memory is found for a thread, the flag is set.
+/// Runs applications in parallel, each to its end, and returns what they leave, in their order. If starting a thread
+/// runs out of memory, the flag is set.
 pub fn run_applications<R: Threads + Wait + Sync, S: StopFlag>(
     rt: &R,
     alloc: Global,
@@ -47,8 +47,8 @@ pub fn run_applications<R: Threads + Wait + Sync, S: StopFlag>(
     }
 }
 
-/// Runs the writers of links beside each other, up to the end of each, and gives what they leave in their order. Where
-/// no memory is found for a thread, the flag is set.
+/// Runs the writers of links in parallel, each to its end, and returns what they leave, in their order. If starting a
+/// thread runs out of memory, the flag is set.
 pub fn run_writers<'t, R: Threads + Wait + Sync, L: Link + Send + Drop, S: StopFlag>(
     rt: &'t R,
     stop: &S,
@@ -72,7 +72,7 @@ pub fn run_writers<'t, R: Threads + Wait + Sync, L: Link + Send + Drop, S: StopF
     }
 }
 
-/// What the threads of a run left, each in the order in which it was handed in.
+/// What the threads of a run left, each in the order of its inputs.
 #[derive(Drop)]
 pub struct Left<'t, L: Link> {
     pub ends: Vec<AppEnd>,
@@ -80,9 +80,10 @@ pub struct Left<'t, L: Link> {
     pub writers: Vec<WriterEnd<L>>,
 }
 
-/// Runs applications, the writers of links and so many workers beside each other, up to the end of each, and gives what
-/// they leave. One that finds no memory sets the stop flag, so that all end. `Memory` where the workers saw the flag, or
-/// where no memory was found for a thread or for what is left; what an application left tells of its own.
+/// Runs applications, the writers of links and `workers` workers in parallel, each to its end, and returns what they
+/// leave. A thread that runs out of memory sets the stop flag, so that all end. `Memory` if the workers saw the flag,
+/// or if starting a thread or storing a result ran out of memory; an application's own result records whether it ran
+/// out of memory.
 pub fn run_threads<
     't,
     R: Threads + Wait + Sync + 't,
@@ -129,7 +130,7 @@ pub fn run_threads<
     })
 }
 
-// Runs three functions beside each other.
+// Runs three functions in parallel.
 fn beside<
     R: Threads,
     F: FnOnce() -> A + Send,

@@ -18,12 +18,13 @@ use stop_flag::StopFlag;
 use tenant_quota::Seats;
 use worker_pool::Visit;
 
-// The connections that workers visit, as one value: a closure that captures it keeps what it borrows for one lifetime.
+// The connections that workers visit, as one value: a closure that captures it keeps what it borrows for one
+// lifetime.
 pub(crate) struct Connections<'t, R: Wait, C: Clock, G, O: ReadyOrder> {
     pub items: Vec<Turned<'t, R, C, Seats, QueueLink<'t, R>, G, O>>,
 }
 
-// By hand, since what is only shared needn't be dropped.
+// Written by hand, since shared references needn't be dropped.
 impl<'t, R: Wait, C: Clock, G, O: ReadyOrder> Drop for Connections<'t, R, C, G, O> {
     fn drop(self) {
         let Connections { items: _items } = self;
@@ -39,9 +40,9 @@ impl<'t, R: Wait, C: Clock, G, O: ReadyOrder> Connections<'t, R, C, G, O> {
     }
 }
 
-// Has so many workers visit connections, until each is over, and then closes each, and gives what they leave in their
-// order. Where the stop flag was seen, or no memory is found, the connections are dropped, which closes their links, and
-// the flag is set for the other threads.
+// Visits connections by `workers` workers until each is finished, then closes each, and returns what they leave, in
+// their order. If the stop flag was seen, or memory runs out, it drops the connections, which closes their links, and
+// sets the flag for the other threads.
 pub(crate) fn run_workers<
     't,
     R: Threads + Wait + Sync,
@@ -72,7 +73,7 @@ pub(crate) fn run_workers<
     }
 }
 
-// Visits connections until each is over, and then closes each.
+// Visits connections until each is finished, then closes each.
 fn visit_and_close<'t, R: Threads + Wait + Sync, C: Clock, G: Gate, O: ReadyOrder, S: StopFlag>(
     rt: &R,
     alloc: Global,
@@ -90,7 +91,7 @@ fn visit_and_close<'t, R: Threads + Wait + Sync, C: Clock, G: Gate, O: ReadyOrde
     close_all(alloc, over)
 }
 
-// Visits connections until each is over.
+// Visits connections until each is finished.
 fn visit_all<
     't,
     R: Threads + Wait + Sync,
@@ -131,8 +132,8 @@ fn visit_all<
     Ok(ran.items)
 }
 
-/// Closes connections that get no further visit, and gives what they leave in their order. Of the connections that they
-/// were first, later on, these are what is left.
+/// Closes connections that get no further visit, and returns what they leave, in their order. Each result belongs to
+/// a later state of the connection at its index.
 pub fn close_all<'t, R: Wait, C: Clock, G, O: ReadyOrder>(
     alloc: Global,
     over: Vec<Turned<'t, R, C, Seats, QueueLink<'t, R>, G, O>>,

@@ -1,4 +1,4 @@
--- A connection that goes on, turn by turn.
+-- A connection that advances, turn by turn.
 use Rattle.std.proofs.Common.{◌≡◌, ℕ, ◌≤◌, inl, inr, Bool, true, false, List, [], ◌++◌, Option, Some, None, refl, sym}
 use Rattle.std.proofs.Common.{ap, subst, ◌∙◌, arith, append_assoc, append-nil}
 use Rattle.std.specs.Io.KnownBytes.{Appends}
@@ -18,7 +18,7 @@ use Rattle.service_loop.specs.declared.endpoint.Endpoint.{Endpoint}
 use Rattle.service_loop.specs.declared.submissions.Submissions.{Submissions}
 use Rattle.service_wiring.specs.Turning.{HasTurned}
 
--- ---- bytes that come piece by piece
+-- ---- bytes that arrive piece by piece
 
 pub appends-then : (a b c : Option (List ℕ)) (p q : List ℕ) → Appends a b p → Appends b c q → Appends a c (p ++ q)
 appends-then None b c p q first second = tt
@@ -27,7 +27,7 @@ appends-then (Some xs) (Some ys) None p q first second = absurd second
 appends-then (Some xs) (Some ys) (Some zs) p q first second =
     second ∙ ap (λ ws. ws ++ q) first ∙ append_assoc xs p q
 
--- ---- frames, tickets and faults, step by step
+-- ---- frames, tickets and failures, step by step
 
 pub hands-then : (a b c : Connection) (x y z : List (List ℕ)) → Hands a b x y → Hands b c y z → Hands a c x z
 hands-then a b c x y z first second = (
@@ -125,9 +125,9 @@ calls-then a b c ab bc = record {
   steps = bc.steps ∙ ab.steps;
 }
 
--- ---- what is delivered
+-- ---- deliveries
 
--- nothing came, and no number
+-- nothing arrived, and no number came back
 pub same-numbers : (life : Life) (numbers back : List ℕ) (d : Deliveries) → HaveDelivered life numbers back d
     → HaveDelivered life (numbers ++ []) (back ++ []) d
 same-numbers life numbers back d h = subst (λ xs. HaveDelivered life xs (back ++ []) d) (sym (append-nil numbers))
@@ -179,7 +179,7 @@ deliveries-then a b c ab bc = record {
   programmed = bc.programmed ∙ ab.programmed;
 }
 
--- what was delivered stays, and the link gave nothing
+-- the deliveries stay, and the link gave nothing
 pub delivers-same : (given given' : Option (List ℕ)) (old new : Deliveries) → given' ≡ given
     → ((life : Life) (numbers back : List ℕ) → HaveDelivered life numbers back old → HaveDelivered life numbers back new)
     → DeliversOn given given' old new

@@ -1,4 +1,4 @@
--- The parts of what is wired.
+-- The parts of wired connections.
 use Rattle.std.proofs.Common.{Option, Some, None}
 use Rattle.std.specs.Prelude.{Contains, IfSome}
 use Rattle.std.proofs.lemmas.List.Elements.{All-contains}

@@ -1,4 +1,4 @@
--- The steps on a connection: what lines stand for, and what follows from the plan.
+-- The operations for a connection: what lines mean, and what follows from the plan.
 use Rattle.std.proofs.Common.{◌≡◌, ℕ, suc, ◌+◌, ◌<◌, ◌≤◌, ◌^◌, Bool, true, false, List, [], ◌∷◌, ◌++◌, map, length}
 use Rattle.std.proofs.Common.{drop, get_or, add-one, Option, Some, None, cond, refl, sym, ap, subst, ◌∙◌, arith}
 use Rattle.std.proofs.Common.{append_assoc, append-nil, length-append}
@@ -37,7 +37,7 @@ use Rattle.service_loop.specs.declared.due_step.DueStep.{DueStep}
 use Rattle.service_wiring.specs.Listing.{AreListed, counts_of, lines_of}
 use Rattle.service_wiring.specs.Stepping.{IsStepsOf, zero_each}
 
--- ---- what lines stand for
+-- ---- what lines mean
 
 attached-as : (at : ℕ) (label : Option (List ℕ)) (policy : Option Policy)
     → with_policy (op.Attach at (unwrap_or label [])) label policy ≡ with_policy (attaching at) label policy
@@ -46,7 +46,7 @@ attached-as at (Some l) None = refl
 attached-as at None (Some p) = refl
 attached-as at None None = refl
 
--- the attachment at a place is what its line stands for
+-- the attachment at a position is what its line means
 pub attachment-is : (plan : Plan) (app : Application) (at place : ℕ) → slice_get app.chain at ≡ Some place
     → attachment_of plan app at
     ≡ op_of plan app (line.Attach at (unwrap_or (label_at plan.declared.policies place) []) place)
@@ -55,7 +55,7 @@ attachment-is plan app at place is =
     (λ (p : ℕ). with_policy (attaching at) (label_at plan.declared.policies p) (policy_of plan app p)) x) is
     ∙ sym (attached-as at (label_at plan.declared.policies place) (policy_of plan app place))
 
--- what is behind the options that are there, is there
+-- if all options of a list are present, so is each in its suffix
 pub some-there : {X : Type 0} (xs : List X) (front rest : List (Option X)) (o : Option X)
     → map Some xs ≡ front ++ o ∷ rest → IsSome o
 some-there [] [] rest o e = absurd cc
@@ -89,7 +89,7 @@ listed-all plan app steps h = record {
   counts = sym (append-nil (map (λ (due : DueStep). due.count) steps)) ∙ sym h.in_order;
 }
 
--- behind the last step all are listed
+-- after the last step all are listed
 pub listed-past : (plan : Plan) (app : Application) (steps : List DueStep) (later : List Step) (i : ℕ)
     → length later ≤ i → AreListed plan app steps (lines_of (drop i later)) (counts_of (drop i later))
     → IsStepsOf plan app steps
@@ -97,10 +97,10 @@ listed-past plan app steps later i past h =
     listed-all plan app steps (subst (λ (xs : List Step). AreListed plan app steps (lines_of xs) (counts_of xs))
     (drop_all i later past) h)
 
--- ---- listing, place by place and step by step
+-- ---- listing, position by position and step by step
 
 module _ (plan : Plan) (app : Application) where
-  -- the first of the places that are left
+  -- the first of the remaining positions
   next-place : (at : ℕ) → at < length app.chain → drop at app.chain ≡ get_or app.chain at 0 ∷ drop (at + 1) app.chain
   next-place at within = rw add-one (drop-cons app.chain at 0 within)
 
@@ -158,7 +158,7 @@ module _ (plan : Plan) (app : Application) where
       (map (op_of plan app) (lines_of (drop (i + 1) later))) (op_of plan app step.line)
       (sym a.chain.stand_for ∙ left.stand_for)
 
--- ---- the steps that lines stand for
+-- ---- the operations that lines mean
 
 with-cases : (f : List ℕ → Policy → Op) (label : Option (List ℕ)) (policy : Option Policy) (step : Op)
     → with_policy f label policy ≡ Some step
@@ -168,7 +168,7 @@ with-cases f (Some l) None step is = absurd cc
 with-cases f None (Some p) step is = absurd cc
 with-cases f None None step is = absurd cc
 
--- what holds of all policies of the connection holds of those of its steps
+-- what holds of all policies of the connection holds of those of its operations
 module _ (plan : Plan) (app : Application) (P : Policy → Type 0)
     (all : (place : ℕ) (p : Policy) → policy_of plan app place ≡ Some p → P p) where
   step-policy : (first : StepLine) (step : Op) → op_of plan app first ≡ Some step → IfPolicy step P
@@ -183,7 +183,7 @@ module _ (plan : Plan) (app : Application) (P : Policy → Type 0)
 
 -- ---- chains
 
--- the steps are refused by none
+-- none of the operations is refused
 pub changing-none : ((before after : Chain) (step : Op) → IsChain before → Changes before step after → IsChain after)
     → ((before after : Chain) (step : Op) → IsChain before → Changes before step after → after ≡ changed step before)
     → (before : Chain) (ops : List Op) (after : Chain) → IsChain before → Changing before ops after
@@ -207,7 +207,7 @@ same-ops (s ∷ steps) (o ∷ ops) e =
     let rest = same-ops steps ops tail in
     ap (λ (x : Op). x ∷ ops) head ∙ ap (λ (xs : List Op). s.step ∷ xs) rest
 
--- what a chain has of entries, where the first lines attach their policies
+-- the entries of a chain after the first lines attach their policies
 attach-more : (before after : Chain) (at : ℕ) (name label : List ℕ) (policy : Policy) (step : Op)
     → step ≡ op.Attach at name label policy → Makes before step after
     → length after.entries ≡ suc (length before.entries)
@@ -222,7 +222,7 @@ attach-more before after at name label policy step is (detaches name' e front ba
 attach-more before after at name label policy step is (upgrades name' label' policy' e front back made_by parts named made) =
     let wrong : op.Attach at name label policy ≡ op.Upgrade name' label' policy' = sym is ∙ made_by in absurd cc
 
--- a chain begins with at most eight
+-- an initial chain has at most eight entries
 pub few-attached : ((before after : Chain) (step : Op) → IsChain before → Changes before step after → IsChain after)
     → (plan : Plan) (app : Application) (places : List ℕ) (at : ℕ) (lines : List StepLine) (before : Chain)
     (ops : List Op) (after : Chain) → IsChain before
@@ -276,7 +276,7 @@ all-got : {X : Type 0} (P : X → Type 0) (xs : List X) (i : ℕ) (x : X) → Al
 all-got P xs i x all is =
     All-contains P xs x all (i, slice_get_within xs i x is, get_or_from_slice_get xs i x x is)
 
--- what holds of all that may be found holds of what is found
+-- what holds of all that can be found holds of what is found
 found-cases : {X : Type 0} (P : X → Type 0) (b : Bool) (y : X) (rest : Option X) (x : X) → P y
     → (rest ≡ Some x → P x) → cond b (Some y) rest ≡ Some x → P x
 found-cases P true y rest x here there is = let same : y ≡ x = cc in subst P same here
@@ -307,7 +307,7 @@ listed-on plan conn all = listed-in plan (operator_in plan.operators conn)
 abbrev pub IsKnown : Plan → Policy → Type 0
 IsKnown plan p = IsPolicy p × KnowsTenantOf (λ place. place < length plan.declared.tenants) p
 
--- policies that say the same are known together
+-- policies with the same meaning are known together
 says-known : (plan : Plan) (T : Table) (p : Policy) (U : Table) (q : Policy) → SaysTheSame T p U q → IsKnown plan p
     → IsKnown plan q
 says-known plan T (Access a) U (Access b) same h = (tt, tt)
@@ -336,7 +336,7 @@ pub all-known : (plan : Plan) (app : Application) → IsPlan plan → IsApplicat
     → policy_of plan app place ≡ Some p → IsKnown plan p
 all-known plan app h a place p is = known-by plan app.own place p h.declared a.own is
 
--- ---- all together
+-- ---- everything together
 
 steps-known : (plan : Plan) (app : Application) (P : Policy → Type 0)
     → ((place : ℕ) (p : Policy) → policy_of plan app place ≡ Some p → P p) → (lines : List StepLine)

@@ -1,4 +1,4 @@
--- What an order grants a connection that has a share.
+-- The grant of an order for a connection with a visit account.
 use Rattle.std.proofs.Common.{◌≡◌, ◌⊎◌, inl, inr, ℕ, Bool, true, false, Option, refl, sym, subst}
 use Rattle.std.specs.Prelude.{Contains, IfSome}
 use Rattle.qos_order.specs.Account.{IsWeight, granted}
@@ -13,7 +13,7 @@ either : (b : Bool) → (b ≡ true) ⊎ (b ≡ false)
 either true = inl refl
 either false = inr refl
 
--- what an order grants connection `conn`, if it has a share
+-- the grant of an order for connection `conn`, if it has a visit account
 abbrev Grants : (ℕ → ℕ → ℕ) → ℕ → Option Share → Type 0
 Grants grant_of conn share = IfSome share (λ s. (kept : ℕ) → grant_of conn kept ≡ granted s.weight kept)
 
@@ -25,7 +25,7 @@ module _ (plan : Plan) (app : Application) where
     | inr is ↦ rw is tt
   ]
 
-  -- an order that goes by a plan grants what the share of a connection that begins says
+  -- an order that follows a plan grants a new connection by the weight of its visit account
   pub grants-first : {C Q L : Type 0} (grant_of : ℕ → ℕ → ℕ) (e : Endpoint C Q L) → e.share ≡ share_in plan app
       → e.submissions.conn.conn ≡ app.conn → Contains plan.applications app → GoesBy plan grant_of
       → GrantsShare grant_of e

@@ -1,4 +1,4 @@
--- What an application of a run is given, and what it does with it (this project's own).
+-- What an application of a run is given, and what it does (this project's own).
 use Rattle.std.specs.Prelude.{◌≡◌, ◌≤◌, ◌++◌, false, List, map, IfSome}
 use Rattle.mrpc_table.specs.Lines.{IsIn}
 use Rattle.mrpc_table.specs.Valid.{IsValid}
@@ -20,8 +20,8 @@ use Rattle.service_wiring.specs.declared.applications.Job.{Job}
 
 -- ---- what it is given
 
--- An application can be run: nothing has happened at its port, its program is one of its role for its heap, its table
--- is valid, and heaps and rings are of sizes that there may be.
+-- An application can be run: its port is new, its program suits its role and its heap, its table is valid, and the
+-- sizes of heaps and rings are in range.
 pub record IsJob (job : Job) : Type 0 where
   pub port : IsNew job.port
   pub program : HasProgram job.port.writer.heap.words job.role.now
@@ -33,22 +33,22 @@ pub record IsJob (job : Job) : Type 0 where
 -- ---- what it does
 
 module _ {F : Type 0} (port : AppPort F) (end : AppEnd) (left : AppSent) where
-  -- A client makes the stores of its program, submits the calls of its program, and gives the blocks back that its
-  -- program names, and behind them those of its notices. It reads nothing.
+  -- A client makes the stores of its program and submits the calls of its program. It gives back the blocks that its
+  -- program names, then those of its notices. It reads nothing.
   pub record DidClient (program : List ProgramLine) : Type 0 where
     pub stores : end.note.stores ≡ stores_of program
     pub sent : HasSent port.sender.ring port.reclaims.ring (submits_of 0 program)
         (reclaims_of program ++ blocks_of end.notices.taken end.blocks.taken) left
     pub reader : end.reader ≡ port.reader
 
-  -- A server does so for each request that it is told of.
+  -- A server does so for each request that it is notified of.
   pub record DidServer (program : List ProgramLine) : Type 0 where
     pub stores : end.note.stores ≡ all_served_stores program end.notices.taken
     pub sent : HasSent port.sender.ring port.reclaims.ring (all_served_replies program 0 end.notices.taken)
         (blocks_of end.notices.taken end.blocks.taken) left
     pub reader : end.reader ≡ port.reader
 
-  -- An echo replies to requests that it is told of with their own messages, where they have a reply.
+  -- An echo replies to each request that it is notified of with the request's own message, if its method has a reply.
   pub record DidEcho (T : Table) : Type 0 where
     pub echoed : Echoed (record {
       table = T;
@@ -67,13 +67,13 @@ Did role.Echo T port end left = DidEcho port end left T
 
 -- ---- what it leaves
 
--- it came to its end: memory sufficed, and it took all that it was told
+-- it came to its end: it didn't run out of memory, and took all that it was notified of
 pub record HasDone (job : Job) (end : AppEnd) (left : AppSent) : Type 0 where
   pub memory : end.memory ≡ false
   pub all : TookAll end
   pub did : Did job.role.now job.table.now job.port end left
 
--- what it left, of its port's heaps and rings; unless it found no memory or the run was stopped, it came to its end
+-- what it left of its port's heaps and rings; it came to its end unless it ran out of memory or the run was stopped
 pub record IsEndOf (job : Job) (end : AppEnd) : Type 0 where
   pub of_port : IsOfPort job.port end
   pub done : IfSome end.sent (HasDone job end)

@@ -1,4 +1,4 @@
--- What is left of a connection once its link was closed (this project's own).
+-- The parts of a connection after its link was closed (this project's own).
 use Rattle.std.specs.Prelude.{◌≡◌, ◌↔◌, ◌<◌, List, true}
 use Rattle.tenant_quota.specs.Drawing.{Drawing}
 use Rattle.link_queue.specs.Queueing.{Queueing}
@@ -6,8 +6,8 @@ use Rattle.link_queue.specs.declared.marks.Health.TheVariants.{Failed}
 use Rattle.service_loop.specs.declared.endpoint.Endpoint.{Endpoint}
 use Rattle.service_wiring.specs.declared.closed.Closed.{Closed}
 
--- The parts are those of the connection. Its link left the frames that were handed over and the bytes that were given,
--- whether these had ended, and whether it had learnt of a failure, as it has where it counted a fault of its own.
+-- The parts are those of the connection. Its link left the frames sent and the bytes received, whether these had
+-- ended, and whether the link knew of a failure, as it does if it counted one of its own.
 pub record IsLeftOf {C : Type 0} (e : Endpoint C (List Drawing) Queueing) (left : Closed) : Type 0 where
   pub submissions : left.submissions ≡ e.submissions
   pub deliveries : left.deliveries ≡ e.deliveries

@@ -1,4 +1,4 @@
--- The code's own: the ends of the rings between an application and the service, as they were opened.
+-- The code's own: the ends of the rings between an application and the service, as opened.
 use Rattle.std.specs.Prelude.{◌≡◌, ℕ, [], false}
 use Rattle.app_stub.specs.Ports.{IsNew}
 use Rattle.run_plan.specs.declared.application.Application.{Application}
@@ -6,7 +6,8 @@ use Rattle.shared_heap.specs.Fresh.{HeapId, Reading}
 use Rattle.service_wiring.specs.declared.ends.Ends.{Ends}
 use Rattle.service_wiring.specs.declared.ported.Ported.{Ported}
 
--- Nothing was sent or taken. Calls are of the heap that the application writes, and notices of the one that it reads.
+-- Nothing was sent or taken. Calls belong to the heap that the application writes, and notices to the one that it
+-- reads.
 pub record AreEnds (cap : ℕ) (sent received : HeapId) (ends : Ends) : Type 0 where
   pub calls_ring : ends.calls.ring ≡ ends.sender.ring
   pub calls_heap : ends.calls.heap ≡ sent
@@ -28,8 +29,7 @@ pub record AreEnds (cap : ℕ) (sent received : HeapId) (ends : Ends) : Type 0 w
   pub none_back : ends.rings.reclaims.taken ≡ []
   pub reclaims_open : ends.rings.reclaims.closed ≡ false
 
--- The port of an application as it was opened, with a new heap and new rings. By it the application reads what the
--- reader does.
+-- The port of an application as opened, with a new heap and new rings. The application reads what `reader` does.
 pub record IsPorted (app : Application) (reader : Reading) (p : Ported) : Type 0 where
   pub words : p.port.writer.heap.words ≡ app.heap
   pub capacity : p.port.capacity ≡ app.ring

@@ -1,4 +1,4 @@
--- The code's own: how far the steps on a connection have been listed.
+-- The code's own: how many operations for a connection have been listed.
 use Rattle.std.specs.Prelude.{◌≡◌, ℕ, List, ◌++◌, map, Some}
 use Rattle.run_plan.specs.Chains.{lines_on, op_of, steps_on}
 use Rattle.run_plan.specs.declared.application.Application.{Application}
@@ -14,7 +14,7 @@ lines_of steps = map (λ (step : Step). step.line) steps
 abbrev pub counts_of : List Step → List ℕ
 counts_of steps = map (λ (step : Step). step.count) steps
 
--- these steps were listed, and those lines are left, with their counts
+-- these operations were listed, and these lines remain, with their counts
 pub record AreListed (plan : Plan) (app : Application) (steps : List DueStep) (lines : List StepLine) (counts : List ℕ)
     : Type 0 where
   pub stand_for : map (op_of plan app) (lines_on plan app)

@@ -1,17 +1,17 @@
--- Which steps of operators come to the chain of a connection, and when (this project's own).
+-- Which operations are scheduled for the chain of a connection, and when (this project's own).
 use Rattle.std.specs.Prelude.{◌≡◌, ℕ, List, ◌++◌, map, Some}
 use Rattle.run_plan.specs.Chains.{lines_on, op_of, steps_on}
 use Rattle.run_plan.specs.declared.application.Application.{Application}
 use Rattle.run_plan.specs.declared.plan.Plan.{Plan}
 use Rattle.service_loop.specs.declared.due_step.DueStep.{DueStep}
 
--- so many zeros, one for each element of a list
+-- as many zeros as a list has items
 abbrev pub zero_each : {A : Type 0} → List A → List ℕ
 zero_each xs = map (λ x. 0) xs
 
--- The steps on an application's connection, in order: the lines that come to its chain, each with the step that it
--- stands for. Its own attachments come before its first call, and each step of an operator once so many calls were
--- taken as it says.
+-- The operations for an application's connection, in order: each line for its chain with the operation that it means.
+-- Its own attachments come before its first call, and each operation of an operator once as many calls were taken as
+-- its count.
 pub record IsStepsOf (plan : Plan) (app : Application) (steps : List DueStep) : Type 0 where
   pub stand_for : map (op_of plan app) (lines_on plan app) ≡ map (λ due. Some due.step) steps
   pub counts : map (λ due. due.count) steps

@@ -1,4 +1,4 @@
--- What the threads get that serve one connection (this project's own).
+-- What the threads that serve one connection get (this project's own).
 use Rattle.std.specs.Prelude.{◌≡◌, ℕ, List, [], length, Some, false}
 use Rattle.mrpc_base.specs.declared.link.Link.{Ghosts as LinkMembers}
 use Rattle.app_program.specs.Programs.{reclaims_of}
@@ -23,13 +23,13 @@ use Rattle.service_wiring.specs.Applications.{IsJob}
 use Rattle.service_wiring.specs.Weighing.{share_in}
 use Rattle.service_wiring.specs.declared.applications.Job.{Job}
 
--- how many blocks an application gives back by its program, whether it has such blocks or not
+-- the number of blocks that an application's program gives back, whether the application holds such blocks or not
 abbrev pub programmed_by : Role → ℕ
 programmed_by (role.Client program) = length (reclaims_of program)
 programmed_by _ = 0
 
--- with what a connection begins: what arrived with its hello, and the reader of the heap of its messages; its seats at
--- the quotas of tenants, its steps of operators, its clock, and its link
+-- the initial state of a connection: what arrived with its hello, and the reader of the heap of its messages; its
+-- seats at the quotas of tenants, its scheduled operations, its clock, and its link
 pub record Beginning (C L : Type 0) : Type 0 where
   pub arrivals : Arrivals
   pub life : Life
@@ -40,7 +40,7 @@ pub record Beginning (C L : Type 0) : Type 0 where
   pub link : L
 
 module _ {C L : Type 0} (plan : Plan) (app : Application) (first : Beginning C L) where
-  -- Nothing has happened on the connection, which has the number, the table and the limit of loads of the plan.
+  -- The connection has no events, and has the number, the table and the limit of loads of the plan.
   pub record IsWiredConn (item : Endpoint C (List Drawing) Queueing) : Type 0 where
     pub number : item.submissions.conn.conn ≡ app.conn
     pub table : item.submissions.conn.table ≡ table_of plan app
@@ -57,7 +57,7 @@ module _ {C L : Type 0} (plan : Plan) (app : Application) (first : Beginning C L
     pub same : AreSame first.arrivals item.deliveries.arrivals
     pub delivered : HaveDelivered first.life [] [] item.deliveries
 
-  -- The application's job is of its role and its table, and its heaps and its rings are those of the connection.
+  -- The application's task has its role and its table, and its heaps and rings are those of the connection.
   pub record IsWiredJob (item : Endpoint C (List Drawing) Queueing) (job : Job) : Type 0 where
     pub is_job : IsJob job
     pub its_role : job.role.now ≡ app.role
@@ -74,7 +74,7 @@ module _ {C L : Type 0} (plan : Plan) (app : Application) (first : Beginning C L
         ≡ Some job.port.blocks.ring
     pub reclaims_ring : item.deliveries.reclaims.numbers.ring ≡ job.port.reclaims.ring
 
--- Its link is a queue of which nothing was put or taken, and whose other end is the writer's, before the link.
+-- Its link is a queue without pushes or pops, and whose other end is the writer's, before the link.
 pub record IsWiredLink {R L : Type 0} {g : LinkMembers L} (link : L) (queue : Queueing) (writer : QueueWriter R L g)
     : Type 0 where
   pub handed : queue.handed ≡ []
@@ -85,8 +85,8 @@ pub record IsWiredLink {R L : Type 0} {g : LinkMembers L} (link : L) (queue : Qu
   pub forward : queue.forward ≡ writer_forward writer
   pub backward : queue.backward ≡ writer_backward writer
 
--- The connection, its application's job and the writer of its link are those of an application of the plan and of what
--- the connection began with.
+-- The connection, its application's task and the writer of its link belong to an application of the plan and to the
+-- connection's initial state.
 pub record IsWired {C R L : Type 0} {g : LinkMembers L} (plan : Plan) (app : Application) (first : Beginning C L)
     (item : Endpoint C (List Drawing) Queueing) (job : Job) (writer : QueueWriter R L g) : Type 0 where
   pub conn : IsWiredConn plan app first item

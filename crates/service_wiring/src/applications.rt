@@ -9,7 +9,7 @@ use std::alloc::Global;
 use std::sync::Wait;
 use stop_flag::RunFlag;
 
-/// An application that is to be run.
+/// An application that is ready to run.
 #[derive(Drop)]
 pub struct Job<'t> {
     pub role: &'t Role,

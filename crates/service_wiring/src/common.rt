@@ -1,4 +1,4 @@
-//! What is the same for all connections of a run.
+//! What all connections of a run share.
 
 use run_plan::Plan;
 use std::alloc::Global;
@@ -11,9 +11,9 @@ pub struct Common<'t, R, C, G, O> {
     pub alloc: Global,
     pub plan: &'t Plan,
     pub clock: &'t C,
-    /// What may shut connections for a while.
+    /// The gate that may shut connections for a while.
     pub gate: &'t G,
-    /// How many rounds a visit gets.
+    /// The order that grants rounds to visits.
     pub order: &'t O,
     pub stop: &'t RunFlag,
 }

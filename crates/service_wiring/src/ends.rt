@@ -10,7 +10,7 @@ use service_loop::Rings;
 use shared_heap::Reader;
 use std::alloc::Global;
 
-// The ends that the application has, and those of the service.
+// The application's ends, and the service's ends.
 #[derive(Drop)]
 pub(crate) struct Ends {
     pub sender: Sender,
@@ -21,7 +21,7 @@ pub(crate) struct Ends {
     pub rings: Rings,
 }
 
-// Opens the rings. Calls are of the heap of the one reader, and notices of that of the other.
+// Opens the rings. Calls belong to the heap that `sent` reads, notices to the heap that `received` reads.
 pub(crate) fn open_ends(
     alloc: Global,
     cap: u64,

@@ -1,11 +1,11 @@
-//! Laws of connections that go on. The function does nothing; its clauses hold.
+//! Laws of later states of connections. The function does nothing; its contract is the law.
 
 ghost use Rattle.service_loop.specs.declared.endpoint.Endpoint.{Endpoint};
 ghost use Rattle.service_wiring.specs.Turning.{HasTurned};
 
 use mrpc_base::{Clock, Link, Tickets};
 
-/// A connection is itself, later on, and what is later than a later one is later.
+/// The relation between a connection and its later state is reflexive and transitive.
 pub fn connections_go_on<C: Clock, Q: Tickets, L: Link>()
     ensures itself { (e : Endpoint C Q L) → HasTurned C.Clock Q.Tickets L.Link e e }
     ensures later { (first next last : Endpoint C Q L) → HasTurned C.Clock Q.Tickets L.Link first next

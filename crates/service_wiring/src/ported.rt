@@ -23,7 +23,7 @@ pub(crate) struct Ported {
     pub rings: Rings,
 }
 
-// Opens the heap that an application writes, and its rings. It reads its messages by the reader.
+// Opens the heap that an application writes, and its rings. The application reads its messages by `reader`.
 pub(crate) fn open_port(
     alloc: Global,
     app: &Application,

@@ -1,4 +1,4 @@
-//! How many blocks an application gives back by its program.
+//! The number of blocks that an application's program gives back.
 
 ghost use Rattle.std.specs.Prelude.{◌≡◌, ◌<◌, ◌≤◌, ◌^◌, ℕ, length};
 ghost use Rattle.app_program.specs.Programs.{line_reclaims, reclaims_of};
@@ -8,7 +8,8 @@ ghost use Rattle.service_wiring.specs.Wired.{programmed_by};
 use app_program::{Program, ProgramLine};
 use run_plan::Role;
 
-// The count, whether the application has such blocks or not.
+// The number of block numbers that the program gives back, whether they name blocks that the application holds or
+// not.
 pub(crate) fn programmed(role: &Role) -> u64
     requires { (words : ℕ) × HasProgram words role.now }
     ensures count { result ≡ programmed_by role.now }
@@ -20,7 +21,7 @@ pub(crate) fn programmed(role: &Role) -> u64
     }
 }
 
-// The lines of a program that give a block back.
+// The number of lines of a program that give a block back.
 fn reclaims_in(program: &Program) -> u64
     requires { length program.now < 2 ^ 63 }
     ensures count { result ≡ length (reclaims_of program.now) }
@@ -34,7 +35,7 @@ fn reclaims_in(program: &Program) -> u64
     count
 }
 
-// One where the line gives a block back.
+// 1 if the line gives a block back, else 0.
 fn given_back_by(line: &ProgramLine) -> u64
     ensures count { result ≡ length (line_reclaims line.now) }
     ensures few { result ≤ 1 }

@@ -1,4 +1,4 @@
-//! The steps of operators on a connection.
+//! The operations scheduled for a connection.
 
 ghost use Rattle.std.specs.Prelude.{◌≡◌, ◌<◌, ◌≤◌, Contains, IfOk, IsSome, Some, length};
 ghost use Rattle.run_plan.specs.Chains.{attachment_of, op_of, steps_on};
@@ -13,8 +13,8 @@ use run_plan::{Application, Plan, Step};
 use service_loop::DueStep;
 use std::alloc::Global;
 
-/// The steps of operators on the connection of an application of a plan, in order: its attachments, and then those of
-/// its operator. Nothing is refused of them, and they name no tenant that the plan doesn't declare.
+/// The operations scheduled for the connection of an application of a plan, in order: its attachments, then those of
+/// its operator. The chain refuses none of them, and they name no tenant that the plan doesn't declare.
 pub fn due_steps(alloc: Global, plan: &Plan, app: &Application) -> Result<Vec<DueStep>, Memory>
     requires plan { IsPlan plan.now }
     requires app { Contains plan.now.applications app.now }
@@ -53,7 +53,7 @@ fn attachments(alloc: Global, plan: &Plan, app: &Application) -> Result<Vec<DueS
     Ok(steps)
 }
 
-// The attachment at a place of the chain, before the first call.
+// The attachment at a position of the chain, before the first call.
 fn attached(alloc: Global, plan: &Plan, app: &Application, at: u32) -> Result<DueStep, Memory>
     requires { IsSome (attachment_of plan.now app.now at) }
     ensures count { IfOk result (λ due. due.count ≡ 0) }
@@ -63,7 +63,7 @@ fn attached(alloc: Global, plan: &Plan, app: &Application, at: u32) -> Result<Du
     Ok(DueStep { count: 0, step })
 }
 
-// The step that a line of an operator stands for, at its count.
+// The operation that a line of an operator means, at its count.
 fn due_step(alloc: Global, plan: &Plan, app: &Application, step: &Step) -> Result<DueStep, Memory>
     requires { IsSome (op_of plan.now app.now step.now.line) }
     ensures count { IfOk result (λ due. due.count ≡ step.now.count) }

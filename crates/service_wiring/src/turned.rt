@@ -1,4 +1,4 @@
-//! A connection that workers visit in turn with others.
+//! A connection that workers visit among others.
 
 ghost use Rattle.std.specs.Prelude.{◌≡◌};
 ghost use Rattle.service_loop.specs.Rounds.{GrantsShare, IsEndpoint};
@@ -19,8 +19,8 @@ use stop_flag::{RunFlag, StopFlag};
 use tenant_quota::Seats;
 use worker_pool::{Visit, Visited};
 
-/// A connection with what a visit needs. Contracts see it as its `Endpoint`, which holds between two rounds unless no
-/// memory was found (`IsEndpoint`). The order grants what its share says.
+/// A connection with what a visit needs. Contracts see it as its `Endpoint`, whose invariant holds between two rounds
+/// unless it ran out of memory (`IsEndpoint`). The order grants rounds by the weight of its visit account.
 pub struct Turned<'t, R, C: Clock, Q: Tickets, L: Link, G, O: ReadyOrder> {
     endpoint: Endpoint<'t, C, Q, L>,
     rt: &'t R,
@@ -30,7 +30,7 @@ pub struct Turned<'t, R, C: Clock, Q: Tickets, L: Link, G, O: ReadyOrder> {
     stop: &'t RunFlag,
 }
 
-// By hand, since what is only shared needn't be dropped.
+// Written by hand, since shared references needn't be dropped.
 impl<'t, R, C: Clock, Q: Tickets + Drop, L: Link + Drop, G, O: ReadyOrder> Drop
     for Turned<'t, R, C, Q, L, G, O> {
     fn drop(self) {
@@ -59,7 +59,7 @@ impl<'t, R, C: Clock, Q: Tickets, L: Link, G, O: ReadyOrder> Model
 
     ghost view = { λ t. t.endpoint };
 
-    // The order grants what the connection's share says.
+    // The order grants rounds by the weight of the connection's visit account.
     ghost invariant = { λ t. IsEndpoint C.Clock Q.Tickets L.Link t.endpoint
         × GrantsShare (O.grant_of t.order.now) t.endpoint };
 }
@@ -74,7 +74,7 @@ impl<'t, R, C: Clock, Q: Tickets, L: Link, G, O: ReadyOrder> Visited
 }
 
 impl<'t, R: Wait, C: Clock, Q: Tickets, L: Link, G, O: ReadyOrder> Turned<'t, R, C, Q, L, G, O> {
-    /// A connection that is to be visited.
+    /// A connection that is ready to be visited.
     pub fn new(
         common: &Common<'t, R, C, G, O>,
         endpoint: Endpoint<'t, C, Q, L>,
@@ -103,7 +103,7 @@ impl<'t, R: Wait, C: Clock, Q: Tickets, L: Link, G: Gate, O: ReadyOrder> Turned<
     G,
     O,
 > {
-    /// Makes a visit. Where no memory is found it sets the stop flag, so that the run ends, and gets no further visit.
+    /// Makes one visit. If it runs out of memory, it sets the stop flag, which ends the run, and isn't visited again.
     pub fn visit(&mut self) -> Visit
         ensures { Leaves (HasTurned C.Clock Q.Tickets L.Link) (IsDone C.Clock Q.Tickets L.Link)
             self.old result self.new }
@@ -120,7 +120,7 @@ impl<'t, R: Wait, C: Clock, Q: Tickets, L: Link, G: Gate, O: ReadyOrder> Turned<
     }
 }
 
-// A visit of the connection itself.
+// Visits the connection itself.
 fn turn<R: Wait, C: Clock, Q: Tickets, L: Link, G: Gate, O: ReadyOrder>(
     endpoint: &mut Endpoint<C, Q, L>,
     rt: &R,
@@ -154,7 +154,7 @@ fn turn<R: Wait, C: Clock, Q: Tickets, L: Link, G: Gate, O: ReadyOrder>(
 }
 
 impl<'t, R: Wait, C: Clock, G, O: ReadyOrder> Turned<'t, R, C, Seats, QueueLink<'t, R>, G, O> {
-    /// Closes the link of the connection, and leaves its parts.
+    /// Closes the link of the connection, and returns its parts.
     pub fn close(self) -> Closed<'t>
         ensures endpoint { IsEndpoint C.Clock ⟦<Seats as Tickets>⟧ ⟦<QueueLink<'t, R> as Link>⟧ self.entry }
         ensures parts { IsLeftOf self.entry result }

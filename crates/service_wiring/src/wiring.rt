@@ -1,4 +1,4 @@
-//! How a connection, its application and its link are put together.
+//! How a connection, its application and its link are wired.
 
 ghost use Rattle.std.specs.Prelude.{◌≡◌, ◌≢◌, ◌<◌, ◌≤◌, [], Contains, IfOk, length};
 ghost use Rattle.mrpc_table.specs.declared.limits.TheConstants.{MIN_HEAP};
@@ -27,10 +27,10 @@ use std::alloc::Global;
 use std::sync::Wait;
 use tenant_quota::Seats;
 
-/// How many frames wait before a link at most.
+/// The maximum number of frames queued for a link.
 pub const QUEUE: u64 = 64;
 
-/// How many bytes are received at once, at the most.
+/// The maximum number of bytes received at once.
 pub const MOST_BYTES: usize = 65536;
 
 /// A connection that workers visit, its application, and the writer of its link.
@@ -40,8 +40,8 @@ pub type Wired<'t, R, L, C, G, O> = (
     QueueWriter<'t, R, L>,
 );
 
-/// Wires the connection of an application with its application and its link, behind the hello by which the connection
-/// was bound. A stream that has ended there is open again, since the queue before the link hasn't told its end yet.
+/// Wires the connection of an application with its application and its link, after the handshake that bound the
+/// connection. A stream that has ended by then is opened again, since the queue hasn't reported its end yet.
 pub fn wire<'t, R: Wait, L: Link + Drop, C: Clock, G, O: ReadyOrder>(
     common: &Common<'t, R, C, G, O>,
     app: &'t Application,
@@ -104,7 +104,7 @@ pub fn wire<'t, R: Wait, L: Link + Drop, C: Clock, G, O: ReadyOrder>(
     Ok((Turned::new(common, endpoint), job, passing))
 }
 
-// The share with which the connection of an application begins.
+// The initial visit account of an application's connection.
 fn share_of(plan: &Plan, app: &Application) -> Option<Share>
     ensures { result ≡ share_in plan.now app.now }
 {
@@ -117,7 +117,7 @@ fn share_of(plan: &Plan, app: &Application) -> Option<Share>
     None
 }
 
-// The arrivals with their stream open, if it has ended.
+// The arrivals, with their stream opened again if it has ended.
 fn opened_again(mut arrivals: Arrivals) -> Arrivals
     requires { arrivals.stream ≢ Stream.Failed }
     ensures lived { (life : TheLife) → HaveLived life arrivals.entry → HaveLived life result }

@@ -1,4 +1,4 @@
--- Loads stay fresh when more stores are known, and when one more load comes.
+-- Loads stay fresh when more stores are known, and after one more load.
 use Rattle.std.proofs.Common.{◌≡◌, ℕ, zero, suc, ◌-◌, ◌<◌, ◌≤◌, List, [], ◌∷◌, ◌++◌, length, take, drop, get_or, ◌≢◌}
 use Rattle.std.proofs.Common.{All, sym, ap, ◌∙◌, subst, arith, length-append}
 use Rattle.std.specs.List.{AllZip}
@@ -83,7 +83,7 @@ All-front : {X : Type 0} (P : X → Type 0) (xs ys : List X) → All P (xs ++ ys
 All-front P [] ys a = All-nil P
 All-front P (x ∷ xs) ys a = All-cons P x xs (All-head P x (xs ++ ys) a) (All-front P xs ys (All-tail P x (xs ++ ys) a))
 
--- a place to which no store goes after so many keeps the word that those gave it
+-- if no store after the first `after` ones goes to a place, it keeps the word that those gave it
 pub untouched : (old new all : List (ℕ × ℕ)) (place after : ℕ) → BeginsWith new old → BeginsWith all new
     → after ≤ length old → NoneTo place (drop after all) → word_after new place ≡ word_after (take after all) place
 untouched old new all place after grew goes_on known none =

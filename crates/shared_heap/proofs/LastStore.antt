@@ -1,4 +1,4 @@
--- The word at a place after a list of stores: what one more store does, and what stores elsewhere leave.
+-- The word at a place after a list of stores: the effect of one more store, and of stores elsewhere.
 use Rattle.std.proofs.Common.{◌≡◌, ◌≢◌, ◌<◌, ℕ, nat_eq, true, false, List, [], ◌∷◌, ◌++◌, length, filter, map, All}
 use Rattle.std.proofs.Common.{replicate, set, get_or, arith, refl, sym, ap, ◌∙◌, subst, get_or-set_same}
 use Rattle.std.proofs.Common.{get_or-set_other, ⊎_elim}
@@ -32,20 +32,20 @@ pub word_after-nil : (place : ℕ) → word_after [] place ≡ 0
 unfolding word_after
 word_after-nil place = refl
 
--- stores behind others: the last of their values at the place, if they have one
+-- further stores: the last of their values at the place, if there is one
 pub word_after-append : (stores more : List (ℕ × ℕ)) (place : ℕ) → word_after (stores ++ more) place ≡ last_or (word_after stores place) (values_at place more)
 unfolding word_after
 word_after-append stores more place =
     ap (last_or 0) (values_at-append place stores more) ∙ last_or-append 0 (values_at place stores) (values_at place more)
 
--- one more store is the place's word
+-- after one more store to the place, its value is the place's word
 pub word_after-same : (stores : List (ℕ × ℕ)) (place value : ℕ) → word_after (stores ++ (place, value) ∷ []) place ≡ value
 word_after-same stores place value =
     word_after-append stores ((place, value) ∷ []) place
     ∙ ap (λ kept. last_or (word_after stores place) (map (λ s. s.1) kept)) (let test : nat_eq place place ≡ true =
     grind (arith, nat_tests) in cond-true (nat_eq place place) ((place, value) ∷ []) [] test)
 
--- stores elsewhere leave a word as it was
+-- stores elsewhere leave a word unchanged
 pub word_after-elsewhere : (stores more : List (ℕ × ℕ)) (place : ℕ) → All (λ store. store.0 ≢ place) more → word_after (stores ++ more) place ≡ word_after stores place
 word_after-elsewhere stores more place apart =
     word_after-append stores more place ∙ ap (last_or (word_after stores place)) (values_at-elsewhere place more apart)
@@ -56,7 +56,7 @@ word_after-other stores place value other apart =
     ∙ ap (λ kept. last_or (word_after stores other) (map (λ s. s.1) kept)) (let test : nat_eq place other ≡ false =
     grind (arith, nat_tests) in cond-false (nat_eq place other) ((place, value) ∷ []) [] test)
 
--- ---- the words that stand
+-- ---- the present words
 
 abbrev pub StandsAfter : List (ℕ × ℕ) → ℕ → List ℕ → Type 0
 StandsAfter stores size words = (place : ℕ) → place < size → get_or words place 0 ≡ word_after stores place

@@ -10,7 +10,7 @@ two_stores = (2, 150) ∷ (2, 9) ∷ []
 abbrev call_of : ℕ → List (ℕ × ℕ) → CallLoads
 call_of after loads = record { after = after; loads = loads }
 
--- a call of a message that was stored before either, and one of a reader who was told of the first
+-- a call of a message that was stored before both stores, and one of a reader that knew of the first
 one_early_one_late : Fresh (call_of 0 ((2, 0) ∷ []) ∷ call_of 1 ((2, 9) ∷ (3, 0) ∷ []) ∷ []) two_stores
 unfolding word_after
 one_early_one_late = (
@@ -31,7 +31,7 @@ one_early_one_late = (
     of_third : IsNumberOf two_stores (load_of 3 0 1) 2
     of_third = record { after = omega arith; made = omega arith; value = refl }
 
--- who knows the one store does not load what stood before it
+-- a reader that knows the one store never loads the word from before it
 load_of_the_opening : (number : ℕ) → IsNumberOf ((2, 150) ∷ []) (load_of 2 0 1) number → ⊥
 unfolding word_after
 load_of_the_opening zero f = absurd (omega (arith, f.after))

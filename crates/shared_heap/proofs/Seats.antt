@@ -1,4 +1,4 @@
--- A fact of every seat's view, after one view has changed or a seat has come.
+-- A fact of every seat's view, after one view has changed or a seat was added.
 use Rattle.std.proofs.Common.{◌≡◌, ◌≢◌, ℕ, List, [], ◌∷◌, ◌++◌, set, sym, subst, ⊎_elim}
 use mathlib.Core.Option.{some}
 use lib.ListN.{get_elem?}
@@ -16,7 +16,7 @@ module _ {V : Type 0} where
   pub each_snoc : (F : ℕ → V → Type 0) (views : List V) (w : V) → ((j : ℕ) → F j w) → AtEach F views → AtEach F (views ++ w ∷ [])
   each_snoc F views w new others j u e = ⊎_elim (λ (x : get_elem? views j ≡ some u). others j u x) (λ (same : w ≡ u). subst (F j) same (new j)) (at_snoc views w u j e)
 
-  -- of two seats with different numbers, a write to one leaves the other
+  -- a write to one seat leaves each other one unchanged
   pub other_seat : (views : List V) (seat other : ℕ) (w u : V) → (other ≡ seat → ⊥) → get_elem? (set views seat w) other ≡ some u → get_elem? views other ≡ some u
   other_seat views seat other w u apart e = ⊎_elim (λ (x : (other ≡ seat) × (w ≡ u)). absurd (apart x.0))
       (λ (x : (other ≢ seat) × (get_elem? views other ≡ some u)). x.1) (at_set views seat other w u e)

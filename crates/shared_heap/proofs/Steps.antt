@@ -1,4 +1,4 @@
--- Each step keeps the rule of a heap.
+-- Each access preserves the rule of a heap.
 use Rattle.std.proofs.Common.{◌≡◌, ◌≢◌, ℕ, zero, suc, ◌<◌, List, [], ◌∷◌, ◌++◌, length, set, get_or, replicate, Bool}
 use Rattle.std.proofs.Common.{true, false, ◌||◌, refl, sym, ap, ◌∙◌, subst, append_assoc, append-nil, length-set}
 use mathlib.Core.Option.{some, none, some-injective, some-ne-none}
@@ -22,7 +22,7 @@ longer whole front more h = (h.0 ++ more, ap (λ l. l ++ more) h.1 ∙ append_as
 pub from_nothing : {X : Type 0} (whole : List X) → BeginsWith whole []
 from_nothing whole = (whole, refl)
 
--- a view that claims nothing but a front of the stores
+-- a view that claims nothing but a prefix of the stores
 front_fits : (holder : ℕ) (stores front : Stores) (over : Bool) (j : ℕ) → BeginsWith stores front
     → Fits holder stores over j (record {
       known = front;
@@ -51,7 +51,7 @@ begins words n zeros = record {
     one zero v e = subst (Fits 0 [] false 0) (some-injective _ _ e) (keeper_fits 0 [])
     one (suc seat) v e = absurd (some-ne-none v (sym e))
 
--- what one more store does to what other seats know
+-- the effect of one more store on what other seats know
 later_fits : (holder : ℕ) (stores : Stores) (x : ℕ × ℕ) (j : ℕ) (u : View) → j ≢ holder → Fits holder stores false j u → Fits holder (stores ++ x ∷ []) false j u
 later_fits holder stores x j u apart f = record {
   known = longer stores u.known (x ∷ []) f.known;
@@ -95,7 +95,7 @@ set_own [] i = refl
 set_own (x ∷ xs) zero = refl
 set_own (x ∷ xs) (suc i) = ap (λ l. x ∷ l) (set_own xs i)
 
--- a view that has seen all stores fits, and has learnt
+-- a view that has seen all stores fits, and has learned
 abbrev seen : View → Bool → Bool → Stores → List Load → View
 seen v last told_last stores loads = record { known = stores; told = stores; writes = v.writes; last = last; told_last = told_last; loads = loads }
 
@@ -113,13 +113,13 @@ seen_fits holder stores over j v last told_last loads f is told_is = record {
   told_last = λ e. (told_is e, refl);
 }
 
--- one of two, where a fact follows from each
+-- a fact that follows from either of two
 either_one : (a b : Bool) (F : Type 0) → (a ≡ true → F) → (b ≡ true → F) → (a || b) ≡ true → F
 either_one true b F f g is = f refl
 either_one false b F f g is = g is
 
 module _ (size slots id : ℕ) (me : Seated) (i : ℕ) where
-  -- a load leaves the rule, where the seat then fits
+  -- a load preserves the rule, if the seat then fits
   stays : (s : State (Unit {0}) View) (h : IsHeap size s) (w : View) → Fits h.holder h.stores h.ended id w → IsHeap size (stepped s i (get_or s.words i 0) id me.1 w keeps)
   stays s h w f = record {
     holder = h.holder;
@@ -156,7 +156,7 @@ module _ (size slots id : ℕ) (me : Seated) (i : ℕ) where
         record { learns = seen_learns h.holder h.stores h.ended id me.0 last false me.0.loads f; loads = refl; last = refl; slots = refl },
       )
 
--- a seat that knows what another does
+-- a seat with the knowledge of another one
 knowing_fits : (holder : ℕ) (stores : Stores) (over : Bool) (j k : ℕ) (v : View) → Fits holder stores over j v → Fits holder stores over k (knowing v)
 knowing_fits holder stores over j k v f = record { known = f.known; told = f.known; writes = λ e. absurd (cc); last = f.last; told_last = λ e. absurd (cc) }
 
@@ -171,7 +171,7 @@ splits_it size id v s h at = record {
       (subst (λ vs. AllFit h.holder h.stores h.ended vs) (sym (set_again s.views id v at)) h.views);
 }
 
--- the holder knows all stores, and where it ends, it knows that they are
+-- the holder knows all stores, and when it ends, it knows that they are all
 ended_fits : (holder : ℕ) (stores : Stores) (j k : ℕ) (v : View) → v.known ≡ stores → Fits holder stores true k (ended v)
 ended_fits holder stores j k v all = record {
   known = subst (λ l. BeginsWith stores l) (sym all) (itself stores);
@@ -181,7 +181,7 @@ ended_fits holder stores j k v all = record {
   told_last = λ e. absurd (cc);
 }
 
--- another seat, while the holder stores, claims nothing that the end could hurt
+-- another seat, while the holder stores, claims nothing that the end would contradict
 other_ends : (holder : ℕ) (stores : Stores) (j : ℕ) (u : View) → j ≢ holder → Fits holder stores false j u → Fits holder stores true j u
 other_ends holder stores j u apart f = record {
   known = f.known;
@@ -207,7 +207,7 @@ ends_it size id v may s h at =
 nobody_fits : (holder : ℕ) (stores : Stores) (over : Bool) (j : ℕ) → Fits holder stores over j nobody
 nobody_fits holder stores over j = front_fits holder stores [] over j (from_nothing stores)
 
--- the seat that takes in what another knows
+-- a seat that learns what another one knows
 taken_in : (holder : ℕ) (stores : Stores) (over : Bool) (id other : ℕ) (v u : View) → Fits holder stores over id v
     → Fits holder stores over other u → Fits holder stores over id (informed v u)
 taken_in holder stores over id other v u mine theirs = record {

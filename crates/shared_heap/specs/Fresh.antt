@@ -1,4 +1,4 @@
--- What a reader knows of the stores to a heap, and what its loads say of them.
+-- What a reader knows of the stores to a heap, and what its loads mean for them.
 use Rattle.std.specs.Prelude.{◌≡◌, ◌≢◌, ◌≤◌, ℕ, Bool, IsTrue, List, [], ◌∷◌, ◌++◌, All, length, take, drop, map, flat_map}
 use Rattle.std.specs.List.{AllZip}
 use Rattle.std.specs.List.Sorted.{IsNonDecreasing}
@@ -6,15 +6,15 @@ use Rattle.mrpc_base.specs.Heap.{word_after}
 use Rattle.atomic_table.specs.Seated.{TableId}
 use Rattle.shared_heap.specs.declared.view.Load.{Load}
 
--- which heap it is, with how many words it has
+-- the identity of a heap, with its number of words
 abbrev pub HeapId : Type 0
 HeapId = TableId
 
--- a list begins with another
+-- a list starts with another one
 abbrev pub BeginsWith : {X : Type 0} → List X → List X → Type 0
 BeginsWith {X} whole front = (rest : List X) × (whole ≡ front ++ rest)
 
--- the loads of one call, each a place and a value, and how many stores its message is known to stand behind
+-- the loads of one call, each a place and a value, and the number of stores that are known to precede its message
 pub record CallLoads : Type 0 where
   pub after : ℕ
   pub loads : List (ℕ × ℕ)
@@ -30,8 +30,7 @@ word_of load = (load.place, load.value)
 abbrev pub loads_of : List CallLoads → List Load
 loads_of calls = flat_map (λ call. map (λ word. load_of word.0 word.1 call.after) call.loads) calls
 
--- a load's number: so many first stores gave its place the value that was loaded; they are no fewer than those that it
--- is after
+-- a load's number: after that many first stores its place has the loaded value; it is at least the load's `after`
 pub record IsNumberOf (stores : List (ℕ × ℕ)) (load : Load) (number : ℕ) : Type 0 where
   pub after : load.after ≤ number
   pub made : number ≤ length stores
@@ -41,9 +40,9 @@ pub record IsNumberOf (stores : List (ℕ × ℕ)) (load : Load) (number : ℕ) 
 abbrev pub AreNumbered : List Load → List (ℕ × ℕ) → Type 0
 AreNumbered loads stores = (numbers : List ℕ) × IsNonDecreasing numbers × AllZip (IsNumberOf stores) loads numbers
 
--- the loads of some calls are fresh for a list of stores: there is a number for each load, never falling along all of
--- them, at least the `after` of the load's call and at most the number of stores, and the loaded value is that of its
--- place after so many first stores
+-- The loads of some calls are fresh for a list of stores. There is a number for each load; the numbers never fall
+-- along all loads. Each is at least the `after` of the load's call and at most the number of stores, and the loaded
+-- value is that of its place after that many first stores.
 abbrev pub Fresh : List CallLoads → List (ℕ × ℕ) → Type 0
 Fresh calls stores = AreNumbered (loads_of calls) stores
 
@@ -64,10 +63,10 @@ NoneTo place stores = All (λ store. store.0 ≢ place) stores
 -- the writing end of a heap
 pub record Writing : Type 0 where
   pub heap : HeapId
-  -- every store so far, a place and a value, in order
+  -- all stores so far, each a place and a value, in order
   pub stores : List (ℕ × ℕ)
 
--- the second is the first, later on
+-- `new` is a later state of `old`
 pub record GoesOn (old new : Writing) : Type 0 where
   pub heap : new.heap ≡ old.heap
   pub stores : BeginsWith new.stores old.stores
@@ -75,36 +74,37 @@ pub record GoesOn (old new : Writing) : Type 0 where
 -- a note
 pub record Noting : Type 0 where
   pub heap : HeapId
-  -- the stores that it knows, the first that there were
+  -- the stores that it knows, a prefix of all stores
   pub stores : List (ℕ × ℕ)
-  -- whether they are all that there will ever be
+  -- whether no more stores will follow
   pub last : Bool
 
 -- the reading end of a heap
 pub record Reading : Type 0 where
   pub heap : HeapId
-  -- the stores that it knows, the first that there were
+  -- the stores that it knows, a prefix of all stores
   pub known : List (ℕ × ℕ)
-  -- whether they are all that there will ever be
+  -- whether no more stores will follow
   pub whole : Bool
-  -- every load so far, in order, each after as many stores as the reader knew right before it
+  -- all loads so far, in order, each after as many stores as the reader knew right before it
   pub loads : List Load
 
--- one load of a place was made, which gave this value
+-- one load of a place was made and returned this value
 pub record AfterLoad (old : Reading) (place value : ℕ) (new : Reading) : Type 0 where
   pub loads : new.loads ≡ old.loads ++ load_of place value (length old.known) ∷ []
-  -- the reader then knows all stores that there were at the load, and the word is that of all of them
+  -- the reader then knows all stores made before the load, and the value is that of the word after them
   pub grows : BeginsWith new.known old.known
   pub last : value ≡ word_after new.known place
-  -- a word to which no store went after so many that the reader knew is the one that those made, whatever list of
-  -- stores goes on from what is known
+  -- `after` is a number of first stores, all of which the reader knew before the load. If no later store goes to the
+  -- word, the value is that of the word after these first ones. `all` is any list of stores that extends what the
+  -- reader knows after the load.
   pub untouched : (all : List (ℕ × ℕ)) (after : ℕ) → BeginsWith all new.known → after ≤ length old.known
       → NoneTo place (drop after all) → value ≡ word_after (take after all) place
   pub heap : new.heap ≡ old.heap
   pub whole : new.whole ≡ old.whole
   pub none_left : IsTrue old.whole → new.known ≡ old.known
 
--- some loads were made one after the other, and nothing else
+-- some loads were made one after the other, and nothing else changed
 pub record HasLoaded (old : Reading) (own : List (ℕ × ℕ)) (new : Reading) : Type 0 where
   pub heap : new.heap ≡ old.heap
   pub loads : map word_of new.loads ≡ map word_of old.loads ++ own

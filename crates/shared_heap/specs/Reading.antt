@@ -1,4 +1,4 @@
--- The code's own: what the fields of a heap's ends keep.
+-- The code's own: the invariants of a heap's ends.
 use Rattle.std.specs.Prelude.{◌≡◌, ℕ, ◌≤◌, [], length}
 use Rattle.atomic_table.specs.Seated.{TableId}
 use Rattle.mrpc_table.specs.declared.limits.TheConstants.{MIN_HEAP}
@@ -13,7 +13,7 @@ pub record IsReading (of table : TableId) (size : ℕ) (me : Seated) : Type 0 wh
   pub empty : me.1 ≡ []
   pub numbered : AreNumbered me.0.loads me.0.known
 
--- the seat of the writer of this table, after so many stores
+-- the seat of the writer of this table, after `made` stores
 pub record IsWriting (of table : TableId) (size made : ℕ) (me : Seated) : Type 0 where
   pub of_table : of ≡ table
   pub sized : size ≡ of.words
@@ -21,7 +21,7 @@ pub record IsWriting (of table : TableId) (size made : ℕ) (me : Seated) : Type
   pub keeps : me ≡ (keeper me.0.known, [])
   pub counted : made ≡ length me.0.known
 
--- the seat of a note, which knows so many stores
+-- the seat of a note that knows `count` stores
 pub record IsNote (count : ℕ) (me : Seated) : Type 0 where
   pub empty : me.1 ≡ []
   pub counted : count ≡ length me.0.known

@@ -1,5 +1,5 @@
--- The code's own: the rule of a heap's table, and what each step tells. The words are those of one list of stores, of
--- which each seat knows a front.
+-- The code's own: the rule of a heap's table, and what each access reveals. The words are those after one list of
+-- stores, of which each seat knows a prefix.
 use Rattle.std.specs.Prelude.{◌≡◌, ◌<◌, ◌||◌, ℕ, Bool, true, false, List, [], ◌∷◌, ◌++◌, length, slice_index}
 use mathlib.Core.Option.{some}
 use lib.ListN.{get_elem?}
@@ -15,8 +15,8 @@ Stores = List (ℕ × ℕ)
 abbrev pub keeper : Stores → View
 keeper stores = record { known = stores; told = stores; writes = true; last = false; told_last = false; loads = [] }
 
--- a seat knows and was told of a front of the stores; one seat alone, the holder, may store, until the stores have ended,
--- and it knows all of them; who knows that they have ended knows all of them too
+-- A seat knows a prefix of the stores, and its note brought a prefix. Only one seat, the holder, may store, until the
+-- stores have ended, and it knows all of them. A seat that knows that they have ended knows all of them too.
 pub record Fits (holder : ℕ) (stores : Stores) (ended : Bool) (seat : ℕ) (v : View) : Type 0 where
   pub known : BeginsWith stores v.known
   pub told : BeginsWith stores v.told
@@ -27,7 +27,7 @@ pub record Fits (holder : ℕ) (stores : Stores) (ended : Bool) (seat : ℕ) (v 
 abbrev pub AllFit : ℕ → Stores → Bool → List View → Type 0
 AllFit holder stores ended views = (seat : ℕ) (v : View) → get_elem? views seat ≡ some v → Fits holder stores ended seat v
 
--- each of so many words is that of its place after all stores
+-- each of `size` words is that of its place after all stores
 pub record IsHeap (size : ℕ) (s : State (Unit {0}) View) : Type 0 where
   pub holder : ℕ
   pub stores : Stores
@@ -39,18 +39,19 @@ pub record IsHeap (size : ℕ) (s : State (Unit {0}) View) : Type 0 where
 abbrev pub Seated : Type 0
 Seated = Me (Unit {0}) View
 
--- the store of the value n at the step's word
+-- the store of the value n at the accessed word
 abbrev pub Stored : Step (Unit {0}) → Seated → ℕ → Seated → Type 0
 Stored st m n m' = (m'.0 ≡ keeper (m.0.known ++ (st.word, n) ∷ [])) × (m'.1 ≡ m.1)
 
--- nothing is known less, and what was told is known; where there are no more than are known, or told, none comes
+-- Nothing known is lost, and the stores of the note become known. If no more stores follow the known ones, or those
+-- of the note, none is added.
 pub record Learns (v w : View) : Type 0 where
   pub known : BeginsWith w.known v.known
   pub told : BeginsWith w.known v.told
   pub last : v.last ≡ true → w.known ≡ v.known
   pub told_last : v.told_last ≡ true → w.known ≡ v.told
 
--- the load of the value n from the step's word
+-- the load of the value n from the accessed word
 pub record Loaded (st : Step (Unit {0})) (m : Seated) (n : ℕ) (m' : Seated) : Type 0 where
   pub learns : Learns m.0 m'.0
   pub value : n ≡ word_after m'.0.known st.word
@@ -58,22 +59,22 @@ pub record Loaded (st : Step (Unit {0})) (m : Seated) (n : ℕ) (m' : Seated) : 
   pub last : m'.0.last ≡ m.0.last
   pub slots : m'.1 ≡ m.1
 
--- a load that tells the seat what the stores are that it was told of
+-- a load by which the seat learns the stores that a note brought
 pub record Settled (st : Step (Unit {0})) (m : Seated) (n : ℕ) (m' : Seated) : Type 0 where
   pub learns : Learns m.0 m'.0
   pub loads : m'.0.loads ≡ m.0.loads
   pub last : m'.0.last ≡ (m.0.last || m.0.told_last)
   pub slots : m'.1 ≡ m.1
 
--- a new seat that knows what this one knows
+-- a new seat with the knowledge of this one
 abbrev pub knowing : View → View
 knowing v = record { known = v.known; told = v.known; writes = false; last = v.last; told_last = false; loads = [] }
 
--- a seat that knows all stores, after which there are no more
+-- a seat that knows all stores, after which no more follow
 abbrev pub ended : View → View
 ended v = record { known = v.known; told = v.known; writes = false; last = true; told_last = false; loads = [] }
 
--- a seat that was told what another knew
+-- a seat with a note of what another one knew
 abbrev pub informed : View → View → View
 informed v u = record {
   known = v.known;

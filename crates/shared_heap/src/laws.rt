@@ -1,18 +1,19 @@
-//! The laws of fresh loads. The functions do nothing; their clauses hold.
+//! Laws of fresh loads. The functions have no effect: each clause is a law.
 
 ghost use Rattle.std.specs.Prelude.{◌≤◌, ℕ, List, [], ◌∷◌, ◌++◌, length};
 ghost use Rattle.mrpc_base.specs.Heap.{AfterLoads};
 ghost use Rattle.shared_heap.specs.Fresh.{AfterLoad, BeginsWith, CallLoads, Fresh, GoesOn, HasLoaded, Reading, Writing};
 
-/// Where a reader made some loads, one after the other, it is of the same heap, knows no less, and made these loads.
+/// If a reader made some loads, one after the other, it is of the same heap, still knows all stores that it knew, and
+/// made these loads.
 pub fn loads_change_no_more()
     ensures { (old new : Reading) (loads : List (ℕ × ℕ)) → AfterLoads AfterLoad old loads new → HasLoaded old loads new }
 {}
 
-/// How the loads of calls are fresh, call by call. Where nothing was loaded they are. Where those of some calls are
-/// fresh for what a reader knows, which is at least the stores that one more call is after, such as those of a note that
-/// it met, and the reader makes the loads of this call, those of all are fresh for what it then knows. They stay so for any
-/// stores that go on from these.
+/// How the loads of calls are fresh, call by call. If nothing was loaded, they are. Now let the loads of some calls
+/// be fresh for what a reader knows, and let the reader make the loads of one more call. That call is after at most
+/// the stores that the reader knows, such as those of a note that it met. Then the loads of all calls are fresh for
+/// what the reader then knows. They stay fresh for each longer list of stores.
 pub fn calls_are_fresh()
     ensures none { (stores : List (ℕ × ℕ)) → Fresh [] stores }
     ensures one_more { (calls : List CallLoads) (after : ℕ) (loads : List (ℕ × ℕ)) (old new : Reading)
@@ -25,7 +26,7 @@ pub fn calls_are_fresh()
         → Fresh calls all }
 {}
 
-/// A writer is itself, later on, and what goes on from it later goes on from it.
+/// `GoesOn` is reflexive and transitive.
 pub fn writers_go_on()
     ensures itself { (writer : Writing) → GoesOn writer writer }
     ensures later { (first next last : Writing) → GoesOn first next → GoesOn next last → GoesOn first last }

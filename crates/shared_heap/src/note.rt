@@ -1,4 +1,4 @@
-//! Notes of what a writer had stored.
+//! Notes of the stores that a writer had made.
 
 ghost use Rattle.std.specs.Prelude.{◌≡◌, length};
 
@@ -6,15 +6,15 @@ use crate::view::View;
 use atomic_table::Seat;
 use std::marker::Model;
 
-/// What a writer had stored when it made the note, which a reader can be told. It has no lifetime and may go to any
-/// thread. Contracts see it as a `Noting`: of which heap it is, the stores that it knows, and whether they are all
-/// that there will ever be.
+/// The stores that a writer had made when it made the note, for a reader to learn. It has no lifetime and may go to
+/// any thread. Contracts see it as a `Noting`: its heap, the stores that it knows, and whether no more stores will
+/// follow.
 pub struct Note {
     pub(crate) seat: Seat<(), View>,
     pub(crate) stores: u64,
 }
 
-// By hand, so that a drop is one call where it is needed, and not a drop of each part.
+// Written by hand, so that a drop is one call instead of one for each field.
 impl Drop for Note {
     fn drop(self) {
         let Note {
@@ -37,7 +37,7 @@ impl Model for Note {
 }
 
 impl Note {
-    /// How many stores it knows.
+    /// The number of stores that it knows.
     pub fn stores(&self) -> u64
         ensures { result ≡ length self.now.stores }
     {

@@ -1,4 +1,4 @@
-//! The end of a heap that loads.
+//! The reading end of a heap.
 
 ghost use Rattle.std.specs.Prelude.{◌≡◌, ◌<◌, ◌≤◌, ℕ, List, [], ◌∷◌, ◌++◌, length, take, drop, ◌||◌, IsTrue};
 ghost use Rattle.mrpc_base.specs.Heap.{word_after};
@@ -12,14 +12,14 @@ use std::alloc::Global;
 use std::marker::Model;
 use std::sync::Arc;
 
-/// The reading end of a heap. No call of it waits, and none takes memory. Contracts see it as a `Reading`: of which
-/// heap it is, the stores that it knows, whether they are all that there will ever be, and every load so far.
+/// The reading end of a heap. Its calls never block or allocate. Contracts see it as a `Reading`: its heap, the
+/// stores that it knows, whether no more stores will follow, and all loads so far.
 pub struct Reader {
     pub(crate) words: Arc<Table, Global>,
     pub(crate) seat: Seat<(), View>,
 }
 
-// By hand, so that a drop is one call where it is needed, and not a drop of each part.
+// Written by hand, so that a drop is one call instead of one for each field.
 impl Drop for Reader {
     fn drop(self) {
         let Reader {
@@ -84,16 +84,17 @@ impl Words for Reader {
         Room::Made
     }
 
-    /// Loads the word at `place`, which is counted from 0. It waits for nobody.
+    /// Loads the word at `place`, counted from 0. Never blocks.
     fn load(&mut self, place: u64) -> u64
         requires in_heap { place < self.old.heap.words }
 
         ensures loaded { self.new.loads ≡ self.old.loads ++ load_of place result (length self.old.known) ∷ [] }
-        // The reader then knows all stores that there were at the load, and the word is that of all of them.
+        // The reader then knows all stores made before the load, and the value is that of the word after them.
         ensures grows { BeginsWith self.new.known self.old.known }
         ensures last { result ≡ word_after self.new.known place }
-        // A word to which no store went after so many that the reader knew is the one that those made, whatever
-        // list of stores goes on from what is known.
+        // `after` is a number of first stores, all of which the reader knew before the load. If no later store goes
+        // to the word, the result is the word after these first ones. `all` is any list of stores that extends what
+        // the reader knows after the load.
         ensures untouched { (all : List (ℕ × ℕ)) (after : ℕ) → BeginsWith all self.new.known
             → after ≤ length self.old.known → NoneTo place (drop after all)
             → result ≡ word_after (take after all) place }
@@ -109,7 +110,7 @@ impl Words for Reader {
 }
 
 impl Reader {
-    /// Learns what a note of the same heap knows. It waits for nobody and takes no memory.
+    /// Learns what a note of the same heap knows. Never blocks or allocates.
     pub fn meet(&mut self, mut note: Note)
         requires { note.heap ≡ self.old.heap }
 
@@ -124,8 +125,7 @@ impl Reader {
         self.hear(&mut note);
     }
 
-    /// Learns what a note of the same heap knows, as `meet` does, and leaves the note as it is. It waits for nobody and
-    /// takes no memory.
+    /// Like `meet`, but keeps the note. Never blocks or allocates.
     pub fn hear(&mut self, note: &mut Note)
         requires { note.old.heap ≡ self.old.heap }
 
@@ -141,13 +141,13 @@ impl Reader {
         let words = &self.words.shared;
         let theirs = words.split_seat::<Knowing>(&mut note.seat);
         words.join_seat::<Knowing>(&mut self.seat, theirs);
-        // The join leaves what was told beside what is known; this load makes one list of both.
+        // The join keeps the note's stores apart from the known ones; this load merges both lists.
         words.load::<Settle>(&mut self.seat, 0);
     }
 
-    /// The law of loads: those of a reader are fresh for the stores that it knows, as the loads of any calls of which
-    /// none says to be after more stores than the reader knew. Where the writer's last note was met, these are all
-    /// stores that there will ever be.
+    /// The law of loads. They are fresh for the stores that the reader knows, as the loads of any calls that are each
+    /// after no more stores than the reader knew. Once the writer's last note was met, these are all stores that will
+    /// ever be made.
     pub fn loads_are_fresh(&self)
         ensures { (calls : List CallLoads) → AreMade calls self.now.loads → Fresh calls self.now.known }
     {

@@ -1,24 +1,25 @@
-//! What each seat of a heap's table knows, and what its steps tell. No value of these types but the table is made.
+//! The knowledge of each seat of a heap's table, and what its accesses reveal. No value of these types but the table
+//! is ever made.
 
 use atomic_table::{Join, Play, Split, TableRule};
 use std::alloc::Global;
 use std::collections::LinkedList;
 
-/// A load as contracts see it: its place and its value, and how many stores are known to have been made before it.
+/// A load as contracts see it: its place, its value, and the number of stores known to precede it.
 pub struct Load {
     pub place: u64,
     pub value: u64,
     pub after: u64,
 }
 
-// What one seat knows.
+// The knowledge of one seat.
 pub(crate) struct View {
-    // The first stores, as far as the seat has seen them, and as far as it was told of them.
+    // The first stores: those that the seat has seen, and those that a note brought.
     pub known: LinkedList<(u64, u64)>,
     pub told: LinkedList<(u64, u64)>,
-    // Whether it may store: it then knows all stores so far, and no other seat may.
+    // Whether it may store. Then it knows all stores so far, and no other seat may store.
     pub writes: bool,
-    // Whether there will never be more stores than it has seen, and than it was told of.
+    // Whether no more stores will follow those that it has seen, and those that a note brought.
     pub last: bool,
     pub told_last: bool,
     pub loads: LinkedList<Load>,
@@ -54,7 +55,7 @@ impl Play<(), View> for LoadOne {
     ghost then = { Loaded };
 }
 
-// A load that settles what the reader was told.
+// A load that merges the stores that a note brought.
 pub(crate) struct Settle;
 
 impl Play<(), View> for Settle {
@@ -63,7 +64,7 @@ impl Play<(), View> for Settle {
     ghost then = { Settled };
 }
 
-// A new seat, which knows what this one knows.
+// A new seat with the knowledge of this one.
 pub(crate) struct Knowing;
 
 impl Split<View> for Knowing {
@@ -74,7 +75,7 @@ impl Split<View> for Knowing {
     ghost right = { knowing };
 }
 
-// A new seat that knows what this one knows, after which nobody stores any more.
+// A new seat with the knowledge of this one; afterwards nobody stores any more.
 pub(crate) struct Ending;
 
 impl Split<View> for Ending {

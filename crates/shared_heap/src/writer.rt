@@ -1,4 +1,4 @@
-//! The end of a heap that stores.
+//! The writing end of a heap.
 
 ghost use Rattle.std.specs.Prelude.{◌≡◌, ◌<◌, ◌≤◌, ◌+◌, ◌^◌, true, false, [], ◌∷◌, ◌++◌, length};
 
@@ -10,15 +10,15 @@ use std::alloc::Global;
 use std::marker::Model;
 use std::sync::Arc;
 
-/// The writing end of a heap. No call of it waits, and none takes memory. Contracts see it as a `Writing`: of which
-/// heap it is, and every store so far.
+/// The writing end of a heap. Its calls never block or allocate. Contracts see it as a `Writing`: its heap, and all
+/// stores so far.
 pub struct Writer {
     pub(crate) words: Arc<Table, Global>,
     pub(crate) seat: Seat<(), View>,
     pub(crate) made: u64,
 }
 
-// By hand, so that a drop is one call where it is needed, and not a drop of each part.
+// Written by hand, so that a drop is one call instead of one for each field.
 impl Drop for Writer {
     fn drop(self) {
         let Writer {
@@ -77,8 +77,7 @@ impl Stores for Writer {
         Room::Made
     }
 
-    /// Stores `value` at `place`, which is counted from 0. Place 0 is never stored. It waits for nobody and takes no
-    /// memory.
+    /// Stores `value` at `place`, counted from 0. Place 0 is never stored. Never blocks or allocates.
     fn store(&mut self, place: u64, value: u64)
         requires not_first { 1 ≤ place }
         requires in_heap { place < self.old.heap.words }
@@ -94,14 +93,14 @@ impl Stores for Writer {
 }
 
 impl Writer {
-    /// How many stores there were.
+    /// The number of stores so far.
     pub fn stores(&self) -> u64
         ensures { result ≡ length self.now.stores }
     {
         self.made
     }
 
-    /// A note that knows all stores so far. It waits for nobody and takes no memory.
+    /// A note that knows all stores so far. Never blocks or allocates.
     pub fn note(&mut self) -> Note
         ensures stores { result.stores ≡ self.old.stores }
         ensures heap { result.heap ≡ self.old.heap }
@@ -115,7 +114,7 @@ impl Writer {
         }
     }
 
-    /// The last note, which knows all stores that there will ever be. It waits for nobody and takes no memory.
+    /// The last note: it knows all stores that will ever be made. Never blocks or allocates.
     pub fn finish(self) -> Note
         ensures stores { result.stores ≡ self.stores }
         ensures heap { result.heap ≡ self.heap }

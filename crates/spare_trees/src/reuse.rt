@@ -1,4 +1,4 @@
-//! The vectors of trees that are no longer needed, for trees that are read later.
+//! The pool of vectors from trees that are no longer needed.
 
 ghost use Rattle.std.specs.Prelude.{◌≡◌, ℕ, [], IfSome};
 ghost use Rattle.spare_trees.specs.Kept.{IsBounded, AreFew, nothing_kept, rooms};
@@ -7,21 +7,21 @@ use mrpc_table::{Bytes, Entries, FieldValue, Numbered, Tree, Value, Values};
 use std::alloc::Global;
 use std::marker::Model;
 
-// How many vectors of each sort are kept at most.
+// The most vectors of each kind that are kept.
 const MAX_KEPT: usize = 512;
 
-// For how many fields, elements or entries a vector that is kept has room at most.
+// The most capacity of a kept vector of fields, elements or entries, in items.
 const MAX_ROOM: usize = 256;
 
-// For how many bytes a run that is kept has room at most.
+// The most capacity of a kept run, in bytes.
 const MAX_RUN_ROOM: usize = 4096;
 
-/// Vectors of trees that are no longer needed, which later trees use again in place of new memory. What is decoded
-/// doesn't depend on it. Clauses see how much room each of them has.
+/// A free list of vectors from trees that are no longer needed, which later trees reuse. The decoded trees don't depend
+/// on it. Contracts see the capacity of each vector.
 ///
-/// At most 512 vectors of each sort are kept: those of a message's fields, of a list's elements and of a map's entries
-/// with room for 256 of them at most, and those of a run's bytes with room for 4,096. So no more than about 20 MiB are
-/// held, whatever trees are taken back.
+/// At most 512 vectors of each kind are kept. The vectors of a message's fields, a list's elements and a map's entries
+/// have a capacity of at most 256, and those of a run's bytes of at most 4,096. So no more than about 20 MiB are held,
+/// whatever trees are taken back.
 #[derive(Drop)]
 pub struct Spare {
     fields: Vec<Numbered>,
@@ -41,7 +41,7 @@ impl Model for Spare {
 }
 
 impl Spare {
-    /// No vector yet. It takes no memory.
+    /// An empty pool. It allocates nothing.
     pub fn new(alloc: Global) -> Spare
         ensures { result ≡ nothing_kept }
     {
@@ -53,10 +53,10 @@ impl Spare {
         }
     }
 
-    /// Takes a tree that is no longer needed, and keeps its vectors: those of its fields, lists and maps, emptied,
-    /// those of its runs, whose bytes stay until one is used again, and those of the messages in it. A vector beyond
-    /// what is kept at most, or one that no memory is found to note, is dropped. It takes time in proportion to the
-    /// tree's parts.
+    /// Recycles a tree that is no longer needed: keeps the vectors of its fields, lists and maps, emptied, those of its
+    /// runs, whose bytes stay until they are reused, and those of the messages in it. A vector above the limits is
+    /// dropped, and so is one that can't be kept because it is out of memory. Takes time linear in the parts of the
+    /// tree.
     #[cycle(take_back)]
     pub fn take_back(&mut self, tree: Tree)
         ensures { IsBounded self.new }
@@ -103,8 +103,8 @@ impl Spare {
         }
     }
 
-    /// An empty vector for the fields of a message: a new one with room for `most` of them, or one that was kept, which
-    /// grows as it needs to.
+    /// An empty vector for the fields of a message: a new one with capacity for `most` fields, or a kept one, which
+    /// grows as needed.
     pub fn fields(&mut self, alloc: Global, most: usize) -> Option<Numbered>
         ensures { IfSome result (λ fields. fields.items ≡ []) }
     {
@@ -129,7 +129,7 @@ impl Spare {
         empty(alloc, &mut self.entries)
     }
 
-    /// The bytes of a slice.
+    /// The bytes of a slice, in a kept or new run.
     pub fn run(&mut self, alloc: Global, bytes: &[u8]) -> Option<Bytes>
         ensures { IfSome result (λ s. s ≡ bytes.now) }
     {
@@ -139,7 +139,7 @@ impl Spare {
     }
 }
 
-// Keeps a vector, unless there are enough of them or it has more room than `most`.
+// Keeps a vector, unless there are enough of them or its capacity is above `most`.
 fn keep<T: Drop>(kept: &mut Vec<Vec<T>>, vector: Vec<T>, most: usize)
     requires { AreFew (rooms kept.old.items) most }
     ensures { AreFew (rooms kept.new.items) most }

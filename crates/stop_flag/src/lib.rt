@@ -1,9 +1,9 @@
 //! The stop flag of a run.
 //!
-//! The threads of a run share one flag. Once one of them has found no memory it sets the flag, and all others end where
-//! they wait. [`StopFlag`] is what they see of it, [`RunFlag`] a flag of a run, and [`NeverStops`] one that is never
-//! found set. It stands on the standard library alone. The layers above use one contract: a flag is found set only
-//! where it may be.
+//! The threads of a run share one flag. A thread that is out of memory sets it, and all others then end at their next
+//! wait. [`StopFlag`] is the trait that the threads use, [`RunFlag`] the flag of a run, and [`NeverStops`] a flag that
+//! is never set. It depends on the standard library alone. The layers above use one contract: a flag is found set only
+//! if it may be.
 #![tactic(auto)]
 
 ghost use Rattle.std.specs.Prelude.{IsTrue};
@@ -14,18 +14,18 @@ use std::sync::atomic::{AtomicBool, Ordering};
 
 /// A flag that the threads of a run share.
 pub trait StopFlag: Sync {
-    /// That it may be found set.
+    /// The flag may be found set.
     ghost may_be_set: { Self → Type 0 };
 
-    /// Whether it was set. It waits for nobody.
+    /// Whether the flag was set. Never blocks.
     fn is_set(&self) -> bool
         ensures { IsTrue result → may_be_set self.now };
 
-    /// Sets it. It waits for nobody.
+    /// Sets the flag. Never blocks.
     fn set(&self);
 }
 
-/// The flag of a run, over a bit that threads share. It may be set at any time.
+/// The flag of a run, over an atomic bit that threads share. It may be found set at any time.
 #[derive(Drop)]
 pub struct RunFlag {
     bit: Arc<AtomicBool, Global>,
@@ -39,7 +39,7 @@ impl RunFlag {
         })
     }
 
-    /// The same flag, for a further thread.
+    /// Another handle to the same flag, for another thread.
     pub fn try_clone(&self) -> Result<RunFlag, AllocError> {
         Ok(RunFlag {
             bit: Arc::try_clone(&self.bit)?,

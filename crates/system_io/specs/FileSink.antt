@@ -1,20 +1,20 @@
--- What a file that may not be there yet holds.
+-- The contents of a file that may not exist yet.
 use Rattle.std.specs.Prelude.{ℕ, List, Option, None, Some}
 use Rattle.std.specs.Io.KnownBytes.{Appends}
 
--- a file that is written, of the files F
+-- a sink over a file that is opened at the first write; F is the type of files
 pub record Filed (F : Type 0) : Type 0 where
-  -- the file, once it was made
+  -- the file, once it was opened
   pub file : Option F
-  -- how many writes failed; it stands still at 2^64 - 1
+  -- how many writes failed; it saturates at 2^64 - 1
   pub faults : ℕ
 
--- what the file holds, where there is one and it tells
+-- the contents of the file, if there is one and it reveals them
 abbrev pub contents_of : {F : Type 0} → (F → Option (List ℕ)) → Option F → Option (List ℕ)
 contents_of contents None = None
 contents_of contents (Some file) = contents file
 
--- the code's own: the file is one that was made or was there, is locked, and had these bytes written to it since
+-- the code's own: the file was created or existed, is locked, and these bytes were written to it since
 abbrev pub HoldsFirst : {F : Type 0} → (F → Option (List ℕ)) → (F → Type 0) → Option F → List ℕ → Type 0
 HoldsFirst contents is_locked None bytes = ⊥
 HoldsFirst {F = F} contents is_locked (Some file) bytes =

@@ -2,13 +2,13 @@
 use Rattle.std.specs.Prelude.{ℕ, List, Option}
 
 pub record Input : Type 0 where
-  -- the bytes that are left to read, where the reader tells them
+  -- the bytes that remain to be read; `None` if the reader doesn't reveal them
   pub left : Option (List ℕ)
-  -- how many reads failed; it stands still at 2^64 - 1
+  -- how many reads failed; it saturates at 2^64 - 1
   pub faults : ℕ
 
 pub record Output : Type 0 where
-  -- the bytes that were written, where the writer tells them
+  -- the bytes that were written; `None` if the writer doesn't reveal them
   pub written : Option (List ℕ)
-  -- how many writes failed; it stands still at 2^64 - 1
+  -- how many writes failed; it saturates at 2^64 - 1
   pub faults : ℕ

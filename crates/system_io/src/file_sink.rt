@@ -14,14 +14,15 @@ use std::io;
 use std::marker::Model;
 use std::rt::Files;
 
-// The file's name, in the current folder.
+// The file's name, in the current directory.
 const WIRE: &str = "mrpc.wire";
 
-/// The file `mrpc.wire` of the current folder as a sink. It is made, or emptied, at the first write; where nothing
-/// is written it isn't touched. From then on the sink has it locked, until it is dropped. A file that can't be made,
-/// locked or emptied is a fault of that write, and the next tries again.
-/// It is generic over the system's files; where an open file tells what it holds, so does the sink. The system's
-/// tells nothing. Contracts see a `Filed`.
+/// The file `mrpc.wire` of the current directory as a sink.
+///
+/// The first write creates or empties the file; without a write it isn't touched. The sink then holds its lock until it
+/// is dropped. If the file can't be created, locked or emptied, that write fails, and the next one tries again. The
+/// sink is generic over the system's files: it reveals the contents if an open file does, and the system's files reveal
+/// nothing. Contracts see a `Filed`.
 #[derive(Drop)]
 pub struct FileSink<R: Files + Drop> {
     files: R,
@@ -37,7 +38,7 @@ impl<R: Files + Drop> Model for FileSink<R> {
     ghost view = { λ s. record { file = s.file; faults = s.faults } };
 }
 
-// Opens the file, made where it isn't there. It isn't emptied by that, since another sink may hold it.
+// Opens the file, and creates it if it doesn't exist. This doesn't empty it, since another sink may hold it.
 fn open_alone<R: Files>(files: &R) -> io::Result<R::File>
 where
     R::File: Lock,
@@ -55,7 +56,7 @@ impl<R: Files + Drop> FileSink<R>
 where
     R::File: Lock,
 {
-    /// No write yet, and no file.
+    /// A sink without a write, and without a file.
     pub fn new(files: R) -> Self
         ensures no_file { IsNone result.file }
         ensures faults { result.faults ≡ 0 }
@@ -67,7 +68,7 @@ where
         }
     }
 
-    // Writes once, to the file that is opened where none is yet.
+    // Writes once to the file, and opens it first if it isn't open.
     fn write_to_file(&mut self, piece: &[u8]) -> Put
         requires some { 0 < length piece.now }
 
@@ -107,7 +108,7 @@ where
     fn write(&mut self, piece: &[u8]) -> Put
         requires some { 0 < length piece.now }
 
-        // What was written.
+        // The bytes written.
         ensures count { OnTook result (λ n. (0 < n) × (n ≤ length piece.now)) }
         ensures appended { OnTook result (λ n.
             Appends (contents_of R.File.contents self.old.file) (contents_of R.File.contents self.new.file)
@@ -115,11 +116,11 @@ where
         ensures kept { result ≡ Put.Failed
             → Keeps (contents_of R.File.contents self.old.file) (contents_of R.File.contents self.new.file) }
         ensures made { OnTook result (λ _. IsSome self.new.file) }
-        // The file that was made or emptied at the first write is locked, and holds what was taken of it, too.
+        // The file that the first write created or emptied is locked, and holds what was taken of that write.
         ensures first { IsNone self.old.file
             → OnTook result (λ n. HoldsFirst R.File.contents R.File.is_locked self.new.file (take n piece.now)) }
 
-        // What is counted.
+        // The counts.
         ensures faults { result ≡ Put.Failed → self.new.faults ≡ raised self.old.faults }
         ensures cause { HasCause (result ≡ Put.Failed) self.old.faults self.new.faults }
     {

@@ -1,9 +1,8 @@
-//! Readers, writers, a file and the clock of the system, as a source, as sinks and as a clock.
+//! The system's readers, writers, files and clock, as a source, as sinks and as a clock.
 //!
-//! It stands on `mrpc_base`, whose traits they meet. They are generic over the system's objects: which bytes the
-//! system really gives and takes is its own word, and trusted; over objects that tell their bytes, the contracts say
-//! which bytes move. The layer above uses the contracts of the traits: what is read stood next, what is written stands
-//! behind what was written before, and each failure is counted.
+//! This crate implements traits of `mrpc_base`. Its types are generic over the system's objects: which bytes the system
+//! really moves is trusted. Over objects that reveal their bytes, the contracts state which bytes move. The layer above
+//! uses the contracts of the traits: a read gives the next bytes, a write appends, and each failure is counted.
 #![tactic(auto)]
 
 mod file_sink;

@@ -1,16 +1,17 @@
-//! Having an open file alone.
+//! Exclusive use of an open file.
 
 ghost use Rattle.std.specs.Prelude.{OnOk};
 
 use std::fs::File;
 use std::io;
 
-/// An open file that can be locked. The member is what is known of one that was: of the system's, nothing.
+/// An open file that can be locked. `is_locked` is what is known of a locked one; of the system's files, that is
+/// nothing.
 pub trait Lock {
     ghost is_locked: { Self → Type 0 };
 
-    /// Locks the file until it is dropped, and then empties it. It doesn't wait: where another opening of the file has
-    /// the lock, that is an error, and the file stays as it was.
+    /// Locks the file until it is dropped, and then empties it. It never blocks: if another handle holds the lock, it
+    /// returns an error and leaves the file as it was.
     fn lock_and_empty(&self) -> io::Result<()>
         ensures { OnOk result (is_locked self.now) };
 }
@@ -20,7 +21,7 @@ impl Lock for File {
 
     fn lock_and_empty(&self) -> io::Result<()> {
         self.try_lock()?;
-        // A pipe and a device have no length, and none can be set.
+        // A pipe or a device has length 0, and its length can't be set.
         if self.metadata()?.len() > 0 {
             self.set_len(0)?;
         }

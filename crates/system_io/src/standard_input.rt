@@ -9,8 +9,8 @@ use mrpc_base::{Got, Source};
 use std::io::Read;
 use std::marker::Model;
 
-/// Standard input, or another reader, as a source. Where the reader tells what it has left, so does the source; the
-/// system's tells nothing. Contracts see an `Input`.
+/// Standard input, or another reader, as a source. It reveals the remaining bytes if the reader does; the system's
+/// reader reveals nothing. Contracts see an `Input`.
 #[derive(Drop)]
 pub struct StandardInput<R: Read + Drop> {
     reader: R,
@@ -26,7 +26,7 @@ impl<R: Read + Drop> Model for StandardInput<R> {
 }
 
 impl<R: Read + Drop> StandardInput<R> {
-    /// No read yet.
+    /// A source without a read.
     pub fn new(reader: R) -> Self
         ensures left { result.left ≡ R.remaining reader }
         ensures faults { result.faults ≡ 0 }
@@ -43,13 +43,13 @@ impl<R: Read + Drop> Source for StandardInput<R> {
     fn read(&mut self, buf: &mut [u8]) -> Got
         requires room { 0 < length buf.old }
 
-        // What was read.
+        // The bytes read.
         ensures count { OnBytes result (λ n. (0 < n) × (n ≤ length buf.old)) }
         ensures next { OnBytes result (λ n. Consumes self.old.left self.new.left (take n buf.new)) }
         ensures end { result ≡ Got.End → IsAtEnd self.old.left }
         ensures kept { OnNoBytes result (Keeps self.old.left self.new.left) }
 
-        // What is counted.
+        // The counts.
         ensures faults { result ≡ Got.Failed → self.new.faults ≡ raised self.old.faults }
         ensures cause { HasCause (result ≡ Got.Failed) self.old.faults self.new.faults }
     {

@@ -11,8 +11,7 @@ use std::io::Write;
 use std::marker::Model;
 
 /// Standard output, or another writer, as a sink. Each write goes to the writer at once, so that each reports its own
-/// failure. Where the writer tells what it holds, so does the sink; the system's tells nothing. Contracts see an
-/// `Output`.
+/// failure. It reveals its contents if the writer does; the system's writer reveals nothing. Contracts see an `Output`.
 #[derive(Drop)]
 pub struct StandardOutput<W: Write + Drop> {
     writer: W,
@@ -28,7 +27,7 @@ impl<W: Write + Drop> Model for StandardOutput<W> {
 }
 
 impl<W: Write + Drop> StandardOutput<W> {
-    /// No write yet.
+    /// A sink without a write.
     pub fn new(writer: W) -> Self
         ensures written { result.written ≡ W.contents writer }
         ensures faults { result.faults ≡ 0 }
@@ -45,12 +44,12 @@ impl<W: Write + Drop> Sink for StandardOutput<W> {
     fn write(&mut self, piece: &[u8]) -> Put
         requires some { 0 < length piece.now }
 
-        // What was written.
+        // The bytes written.
         ensures count { OnTook result (λ n. (0 < n) × (n ≤ length piece.now)) }
         ensures appended { OnTook result (λ n. Appends self.old.written self.new.written (take n piece.now)) }
         ensures kept { result ≡ Put.Failed → Keeps self.old.written self.new.written }
 
-        // What is counted.
+        // The counts.
         ensures faults { result ≡ Put.Failed → self.new.faults ≡ raised self.old.faults }
         ensures cause { HasCause (result ≡ Put.Failed) self.old.faults self.new.faults }
     {

@@ -4,17 +4,17 @@ use mrpc_base::Clock;
 use std::time;
 use std::time::Instant;
 
-/// The clock of the system, in milliseconds since it was made. It never goes back. It tells nothing of the moments that
-/// it gives, which are the system's.
+/// The system's clock, in milliseconds since it was made. It never goes back. Nothing is proved of its timestamps,
+/// which are the system's.
 #[derive(Drop)]
 pub struct SystemClock<'r, T> {
     time: &'r T,
-    // None where the system told no time then; such a clock stands still at 0.
+    // `None` if the system's clock failed then; such a clock always returns 0.
     start: Option<Instant>,
 }
 
 impl<'r, T: time::Clock> SystemClock<'r, T> {
-    /// A clock that shows 0 now.
+    /// A clock that starts at 0 now.
     pub fn new(time: &'r T) -> Self {
         SystemClock {
             time,
@@ -30,7 +30,7 @@ impl<'r, T: time::Clock + Sync> Clock for SystemClock<'r, T> {
 
     ghost gives = { λ _ _. ⊤ };
 
-    /// The milliseconds since the clock was made, or 0 where the system tells no time.
+    /// The milliseconds since the clock was made, or 0 if the system's clock fails.
     fn now(&self) -> u64 {
         let Some(start) = self.start else {
             return 0;

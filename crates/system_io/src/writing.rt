@@ -7,7 +7,7 @@ ghost use Rattle.mrpc_base.specs.Writing.{OnTook};
 use mrpc_base::Put;
 use std::io::Write;
 
-// Writes once to a writer. One that takes nothing of the piece has failed.
+// Writes once to a writer. Taking no bytes of the piece counts as a failure.
 pub(crate) fn write_once<W: Write>(writer: &mut W, piece: &[u8]) -> Put
     requires some { 0 < length piece.now }
 

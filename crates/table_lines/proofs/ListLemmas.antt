@@ -1,4 +1,4 @@
--- Parts of lists, and lists with one element more. `table_text`, which reads the lines again, takes both from here.
+-- Parts of lists, and lists with one element more. `table_text`, which reads the lines, uses both too.
 use Rattle.std.proofs.Common.{◌≡◌, ℕ, suc, ◌+◌, ◌==◌, Bool, true, false, cond, List, [], ◌∷◌, ◌++◌, length, refl, ap, ◌∙◌, arith}
 use Rattle.std.specs.List.{enumerate_from, slice_split, onto_first}
 

@@ -1,4 +1,4 @@
--- What a line of a table's text says (this project's own format), with numbers of any size.
+-- The meaning of a line of a table's text (this project's own format), with numbers of any size.
 use Rattle.std.specs.Prelude.{◌≡◌, ℕ, ◌+◌, ℤ, pos, negsuc, Bool, true, false, List, [], ◌∷◌, ◌++◌, codes, IsTrue, Option, Some, None}
 use Rattle.std.specs.List.{AllZip}
 use Rattle.mrpc_table.specs.Lines.{words_of, number_of}
@@ -21,9 +21,9 @@ pub data Form : Type 0 where
   -- `method INDEX SERVICE NAME INPUT OUTPUT`
   method : (index : ℕ) (service name input output : List ℕ) → Form
 
--- ---- what a line says, by its words
+-- ---- the meaning of a line, by its words
 
--- a decimal number, or one other than 0 behind a `-`
+-- a decimal number, or one other than 0 after a `-`
 abbrev pub IsWhole : List ℕ → ℤ → Type 0
 IsWhole word (pos n) = number_of word ≡ Some n
 IsWhole word (negsuc n) = (digits : List ℕ) × (word ≡ 45 ∷ digits) × (number_of digits ≡ Some (n + 1))
@@ -45,11 +45,11 @@ AreWordsOf (method index service name input output) words =
 abbrev pub Says : List ℕ → Form → Type 0
 Says line f = AreWordsOf f (words_of line)
 
--- the lines say this, one by one
+-- each line has the form at the same index
 abbrev pub Say : List (List ℕ) → List Form → Type 0
 Say lines forms = AllZip Says lines forms
 
--- ---- which forms go together
+-- ---- which forms can follow each other
 
 abbrev pub is_enum : Form → Bool
 is_enum (enum name) = true
@@ -63,7 +63,7 @@ abbrev pub is_method : Form → Bool
 is_method (method index service name input output) = true
 is_method _ = false
 
--- it may stand right in front of a value, or of a field
+-- the forms that may directly precede a value, or a field
 abbrev pub is_of_enum : Form → Bool
 is_of_enum (enum name) = true
 is_of_enum (value number name) = true
@@ -74,7 +74,7 @@ is_of_message (message name) = true
 is_of_message (field number label kind name) = true
 is_of_message _ = false
 
--- a value or a field goes on with the enum or the message above it; other lines end that
+-- a value or a field continues the enum or the message above it; other lines end that
 abbrev pub goes_on : Form → Bool
 goes_on (value number name) = true
 goes_on (field number label kind name) = true
@@ -82,13 +82,13 @@ goes_on _ = false
 
 -- ---- the names in a form
 
--- the type that it names first
+-- the type that a line declares
 abbrev pub type_named : Form → Option (List ℕ)
 type_named (enum name) = Some name
 type_named (message name) = Some name
 type_named _ = None
 
--- the lines of the types that it uses
+-- the lines of the types that a line uses
 abbrev pub type_of_kind : KindWord → List Form
 type_of_kind (Scalar k) = []
 type_of_kind (Message name) = message name ∷ []

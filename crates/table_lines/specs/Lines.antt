@@ -1,4 +1,4 @@
--- The lines of a table's text, and what each says (this project's own format).
+-- The lines of a table's text, and how each is parsed (this project's own format).
 use Rattle.std.specs.Prelude.{ℕ, pos, negsuc, ◌-◌, ◌^◌, ◌==◌, nat_lt, nat_le, if◌then◌else◌, List, [], ◌∷◌, codes, length, take, drop, Option, Some, None, option_map, option_and_then}
 use Rattle.std.specs.List.{find}
 use Rattle.std.specs.Option.{option_or}
@@ -15,31 +15,31 @@ use Rattle.table_lines.specs.declared.line.Whole.TheVariants.{Low, Within, High}
 use Rattle.table_lines.specs.declared.line.Line.{Line}
 use Rattle.table_lines.specs.declared.line.Line.TheVariants.{Enum, Value, Message, Field, Method}
 
--- a number of 32 bits, or one above them
+-- a number of at most 32 bits, or a larger one
 abbrev pub in_32_bits : ℕ → Option ℕ
 in_32_bits n = if nat_lt n (2 ^ 32) then Some n else None
 
--- the number itself, and its negative; zero has no negative
+-- the number itself, and its negative; 0 has no negative
 abbrev pub not_negative : ℕ → Whole
 not_negative n = if nat_lt n (2 ^ 31) then Within (pos n) else High
 
 abbrev pub negative : ℕ → Option Whole
 negative n = if n == 0 then None else Some (if nat_le n (2 ^ 31) then Within (negsuc (n - 1)) else Low)
 
--- digits, or digits behind a `-`
+-- digits, or a `-` and digits
 abbrev pub whole_of : List ℕ → Option Whole
 whole_of [] = None
 whole_of (c ∷ cs) =
     if c == 45 then option_and_then negative (number_of cs) else option_map not_negative (number_of (c ∷ cs))
 
--- the word, where it is a name, or a full name
+-- the word, if it is a name, or a full name
 abbrev pub name_of : List ℕ → Option (List ℕ)
 name_of word = if is_name_form word then Some word else None
 
 abbrev pub full_name_of : List ℕ → Option (List ℕ)
 full_name_of word = if is_full_form word then Some word else None
 
--- what stands behind a prefix
+-- the suffix after a prefix
 abbrev pub behind : List ℕ → List ℕ → Option (List ℕ)
 behind prefix word = if bytes_eq (take (length prefix) word) prefix then Some (drop (length prefix) word) else None
 
@@ -60,7 +60,7 @@ label_of word =
     (option_or (option_map labels.Map (option_and_then kind_of (behind (codes "map:") word)))
     (option_map labels.Member (option_and_then name_of (behind (codes "oneof:") word))))
 
--- what the words of each kind of line say
+-- the line of each kind, by the words after the first
 abbrev pub enum_of : List (List ℕ) → Option Line
 enum_of (name ∷ []) = option_map Enum (full_name_of name)
 enum_of _ = None
@@ -87,7 +87,7 @@ method_of (index ∷ service ∷ name ∷ input ∷ output ∷ []) =
     (full_name_of output)) (full_name_of input)) (name_of name)) (full_name_of service)) (number_of index)
 method_of _ = None
 
--- what a line says, if it is in form
+-- a line by its words, if it has the right form
 abbrev pub line_of_words : List (List ℕ) → Option Line
 line_of_words [] = None
 line_of_words (first ∷ words) =

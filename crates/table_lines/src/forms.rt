@@ -1,4 +1,4 @@
-//! A line, by its form.
+//! Lines by their form.
 
 ghost use Rattle.std.specs.Prelude.{◌≡◌, ◌++◌, ◌∷◌, ◌==◌, ◌&&◌, ℕ, [], List, length, IfOk, IfSome, MatchOption};
 ghost use Rattle.mrpc_table.specs.Lines.{words_of};
@@ -10,7 +10,7 @@ use crate::words::{full_name_of, index_of, kind_of, label_of, name_of, whole_of}
 use mrpc_table::{Bytes, Memory, cut, is_full_form, is_name_form, is_word};
 use std::alloc::Global;
 
-// The first of at least two words, and the line of the others.
+// The first word and the line after it, if there are at least two words.
 fn next_word(line: &[u8]) -> Option<(&[u8], &[u8])>
     ensures { MatchOption result (words_of line.now ≡ line.now ∷ [])
         (λ p. words_of line.now ≡ p.0.now ∷ words_of p.1.now) }
@@ -18,7 +18,7 @@ fn next_word(line: &[u8]) -> Option<(&[u8], &[u8])>
     cut(line, b' ')
 }
 
-// The only word of a line.
+// The word of a line that has only one.
 fn only_word(line: &[u8]) -> Option<&[u8]>
     ensures one { IfSome result (λ word. words_of line.now ≡ word.now ∷ []) }
     ensures more { MatchOption result
@@ -31,7 +31,7 @@ fn only_word(line: &[u8]) -> Option<&[u8]>
     }
 }
 
-// `enum FULLNAME`, behind its first word.
+// `enum FULLNAME`, without its first word.
 fn enum_line(alloc: Global, line: &[u8]) -> Result<Option<Line>, Memory>
     ensures { IfOk result (λ r. r ≡ enum_of (words_of line.now)) }
 {
@@ -44,7 +44,7 @@ fn enum_line(alloc: Global, line: &[u8]) -> Result<Option<Line>, Memory>
     }
 }
 
-// `message FULLNAME`, behind its first word.
+// `message FULLNAME`, without its first word.
 fn message_line(alloc: Global, line: &[u8]) -> Result<Option<Line>, Memory>
     ensures { IfOk result (λ r. r ≡ message_of (words_of line.now)) }
 {
@@ -57,7 +57,7 @@ fn message_line(alloc: Global, line: &[u8]) -> Result<Option<Line>, Memory>
     }
 }
 
-// `value NUMBER NAME`, behind its first word.
+// `value NUMBER NAME`, without its first word.
 fn value_line(alloc: Global, line: &[u8]) -> Result<Option<Line>, Memory>
     ensures { IfOk result (λ r. r ≡ value_of (words_of line.now)) }
 {
@@ -76,7 +76,7 @@ fn value_line(alloc: Global, line: &[u8]) -> Result<Option<Line>, Memory>
     }
 }
 
-// `field NUMBER LABEL KIND NAME`, behind its first word.
+// `field NUMBER LABEL KIND NAME`, without its first word.
 fn field_line(alloc: Global, line: &[u8]) -> Result<Option<Line>, Memory>
     ensures { IfOk result (λ r. r ≡ field_of (words_of line.now)) }
 {
@@ -124,7 +124,7 @@ fn field_of_words(
     })))
 }
 
-// `method INDEX SERVICE NAME INPUT OUTPUT`, behind its first word.
+// `method INDEX SERVICE NAME INPUT OUTPUT`, without its first word.
 fn method_line(alloc: Global, line: &[u8]) -> Result<Option<Line>, Memory>
     ensures { IfOk result (λ r. r ≡ method_of (words_of line.now)) }
 {
@@ -146,7 +146,7 @@ fn method_line(alloc: Global, line: &[u8]) -> Result<Option<Line>, Memory>
     method_of_words(alloc, index, service, name, input, output)
 }
 
-// The words of a method's names are in form.
+// Whether the names of a method have the form of names.
 fn are_method_names(service: &[u8], name: &[u8], input: &[u8], output: &[u8]) -> bool
     ensures { result ≡ is_full_form service.now && is_name_form name.now && is_full_form input.now
         && is_full_form output.now }
@@ -179,7 +179,7 @@ fn method_of_words(
     })))
 }
 
-/// What a line says, or `None` where it is out of form.
+/// Parses a line. `None` if it doesn't have the form of a line.
 #[tactic(auto, unfolding(crate::specs::Lines::line_of))]
 pub fn line_of(alloc: Global, line: &[u8]) -> Result<Option<Line>, Memory>
     ensures { IfOk result (λ r. r ≡ line_of line.now) }

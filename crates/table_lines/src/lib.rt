@@ -1,10 +1,9 @@
-//! The lines of a table's canonical text (this project's own format): what a line says, by its form and its words, and
-//! how a table is written in them.
+//! The lines of a table's canonical text (this project's own format): parsing one line, and writing a table.
 //!
-//! It stands on `mrpc_table`, which says what a valid table is and what its text. The layer above uses two contracts:
-//! [`line_of`] gives what a line says, or that it is out of form (`specs/Lines.antt`), and [`table_text`] writes the text
-//! of a valid table. `specs/Forms.antt` says what a line says with numbers of any size. Whether lines make a table, and
-//! which of them is at fault first, says the layer above.
+//! This crate depends on `mrpc_table`, which defines valid tables and their text. The layer above uses two contracts.
+//! [`line_of`] parses a line or finds that it has the wrong form (`specs/Lines.antt`), and [`table_text`] writes the
+//! text of a valid table. `specs/Forms.antt` defines the meaning of a line with numbers of any size. Whether lines make
+//! a table, and which is the first at fault, is decided in the layer above.
 #![tactic(auto)]
 
 mod forms;

@@ -1,11 +1,10 @@
-//! What a line of a table's text says, in the words of the text. Each of its parts is dropped by one call, wherever it is
-//! dropped.
+//! The parsed lines of a table's text. Each part has a drop of its own, so that dropping it is one call.
 
 ghost use Rattle.std.specs.Prelude.{◌≡◌};
 
 use mrpc_table::{Kind, Method, Name};
 
-/// A kind as its word names it.
+/// A kind, as a word names it.
 pub enum KindWord {
     /// A scalar kind, by its name in proto3.
     Scalar(Kind),
@@ -15,7 +14,7 @@ pub enum KindWord {
     Choice(Name),
 }
 
-/// A label as its word names it.
+/// A label, as a word names it.
 pub enum LabelWord {
     /// `plain`
     Plain,
@@ -31,24 +30,24 @@ pub enum LabelWord {
     Member(Name),
 }
 
-/// The number of a value, however long it is written.
+/// The number of an enum value, of any size.
 #[derive(Clone, Copy)]
 pub enum Whole {
-    /// Below every number of 32 signed bits.
+    /// Below each signed 32-bit number.
     Low,
-    /// A number of 32 signed bits.
+    /// A signed 32-bit number.
     Within(i32),
-    /// Above every number of 32 signed bits.
+    /// Above each signed 32-bit number.
     High,
 }
 
 /// `field NUMBER LABEL KIND NAME`
 pub struct FieldLine {
-    /// The number, or `None` where it has more than 32 bits.
+    /// The number, or `None` if it has more than 32 bits.
     pub number: Option<u32>,
-    /// What its word says.
+    /// The label that its word names.
     pub label: LabelWord,
-    /// What its word says.
+    /// The kind that its word names.
     pub kind: KindWord,
     /// A name.
     pub name: Name,
@@ -56,19 +55,19 @@ pub struct FieldLine {
 
 /// `method INDEX SERVICE NAME INPUT OUTPUT`
 pub struct MethodLine {
-    /// The index, or `None` where it has more than 32 bits.
+    /// The index, or `None` if it has more than 32 bits.
     pub index: Option<u32>,
     /// A full name.
     pub service: Name,
     /// A name.
     pub name: Name,
-    /// The full name of the message of its requests.
+    /// The full name of its request message.
     pub input: Name,
-    /// The full name of the message of its replies.
+    /// The full name of its reply message.
     pub output: Name,
 }
 
-/// A line in form.
+/// A line of the right form.
 #[derive(Drop)]
 pub enum Line {
     /// `enum FULLNAME`
@@ -77,7 +76,7 @@ pub enum Line {
     Value(Whole, Name),
     /// `message FULLNAME`
     Message(Name),
-    /// A field of the message above it.
+    /// A field of the last message above it.
     Field(FieldLine),
     /// A method.
     Method(MethodLine),
@@ -141,7 +140,7 @@ impl FieldLine {
 }
 
 impl MethodLine {
-    /// The method, whose messages have these places in the table.
+    /// The method, with the indices of its messages in the table.
     pub fn into_method(self, input: u32, output: u32) -> Method
         ensures { result ≡ record { service = self.service; name = self.name; input = input; output = output } }
     {

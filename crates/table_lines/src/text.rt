@@ -9,8 +9,8 @@ use itoa::Buffer;
 use mrpc_table::{Bytes, Choices, Field, Kind, Label, Memory, Message, Method, Name, Names, Table};
 use std::alloc::Global;
 
-/// The canonical text of a valid table, which determines it: the enums, the messages and the methods,
-/// a line for each part. The only error is `Memory`.
+/// The canonical text of a valid table, which determines the table: the enums, the messages and the methods, a line for
+/// each part. The only error is `Memory`.
 pub fn table_text(alloc: Global, table: &Table) -> Result<Bytes, Memory>
     requires { IsValid table.now }
     ensures { IfOk result (λ text. text ≡ table_text table.now) }
@@ -20,7 +20,7 @@ pub fn table_text(alloc: Global, table: &Table) -> Result<Bytes, Memory>
     Ok(out)
 }
 
-// Writes the text of a table where nothing stands yet.
+// Writes the text of a table to an empty list.
 fn put_table(out: &mut Bytes, table: &Table) -> Result<(), Memory>
     requires valid { IsValid table.now }
     requires empty { out.old ≡ [] }
@@ -38,7 +38,7 @@ fn put_table(out: &mut Bytes, table: &Table) -> Result<(), Memory>
     Ok(())
 }
 
-// Appends the digits of a number, behind `-` where it is negative.
+// Appends the digits of a number, after a `-` if it is negative.
 fn put_signed(out: &mut Bytes, number: i32) -> Result<(), Memory>
     ensures { OnOk result (out.new ≡ out.old ++ signed_decimal number) }
 {
@@ -185,7 +185,7 @@ fn put_message(out: &mut Bytes, table: &Table, message: &Message) -> Result<(), 
     Ok(())
 }
 
-// A space and a word.
+// Appends a space and a word.
 fn put_word(out: &mut Bytes, word: &[u8]) -> Result<(), Memory>
     ensures { OnOk result (out.new ≡ out.old ++ 32 ∷ word.now) }
 {

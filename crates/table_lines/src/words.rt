@@ -15,7 +15,7 @@ use mrpc_table::{
 };
 use std::alloc::Global;
 
-// A number without sign or leading zero; behind it `None` where it has more than 32 bits.
+// A number without sign or leading zero; the inner option is `None` if it has more than 32 bits.
 pub(crate) fn index_of(word: &[u8]) -> Option<Option<u32>>
     ensures { result ≡ option_map in_32_bits (number_of word.now) }
 {
@@ -25,7 +25,7 @@ pub(crate) fn index_of(word: &[u8]) -> Option<Option<u32>>
     }
 }
 
-// A number of an enum's value: digits, or digits behind a `-`.
+// The number of an enum value: digits, or a `-` and digits.
 pub(crate) fn whole_of(word: &[u8]) -> Option<Whole>
     ensures { result ≡ whole_of word.now }
 {
@@ -57,14 +57,14 @@ fn not_negative(digits: &[u8]) -> Option<Whole>
     }
 }
 
-/// What stands behind a prefix.
+/// The suffix of a word after a prefix; `None` if the word lacks the prefix.
 pub fn behind<'a>(prefix: &[u8], word: &'a [u8]) -> Option<&'a [u8]>
     ensures { option_copied result ≡ behind prefix.now word.now }
 {
     word.strip_prefix(prefix)
 }
 
-// The word, where it is a name.
+// The word, if it is a name.
 pub(crate) fn name_of(alloc: Global, word: &[u8]) -> Result<Option<Name>, Memory>
     ensures { IfOk result (λ r. r ≡ name_of word.now) }
 {
@@ -75,7 +75,7 @@ pub(crate) fn name_of(alloc: Global, word: &[u8]) -> Result<Option<Name>, Memory
     }
 }
 
-// The word, where it is a full name.
+// The word, if it is a full name.
 pub(crate) fn full_name_of(alloc: Global, word: &[u8]) -> Result<Option<Name>, Memory>
     ensures { IfOk result (λ r. r ≡ full_name_of word.now) }
 {

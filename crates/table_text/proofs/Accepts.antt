@@ -276,7 +276,7 @@ sound_nothing t = record {
   ordered = tt;
 }
 
--- what a line names, and what stands behind a prefix in its text
+-- the names that a line declares, and the suffix after a prefix in its text
 abbrev enum_in : Line → Option (List ℕ)
 enum_in (Enum n) = Some n
 enum_in _ = None
@@ -319,7 +319,7 @@ messages_after b (Message n) = refl
 messages_after b (Field f) = sym (append-nil b.messages)
 messages_after b (Method m) = sym (append-nil b.messages)
 
--- what the names of the draft become by a line
+-- what a line makes of the names of the draft
 pub record NamesStep (t : Types) (d : Draft) (text : List ℕ) : Type 0 where
   pub enums : enum_names (added_line t d (line_of text)) ≡ enum_names d ++ option_to_list (behind (codes "enum ") text)
   pub messages : message_names (added_line t d (line_of text)) ≡ message_names d ++ option_to_list (behind (codes "message ") text)

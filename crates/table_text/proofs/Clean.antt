@@ -1,4 +1,4 @@
--- A line that no fault stands against passes each test; and the names of the types as a table.
+-- A line without a fault passes each test; and the names of the types as a table.
 use Rattle.std.proofs.Common.{◌≡◌, ℕ, suc, ◌+◌, ◌-◌, ◌^◌, min, ◌<◌, ◌≤◌, ◌||◌, not, Bool, true, false, cond, List, []}
 use Rattle.std.proofs.Common.{◌∷◌, length, map, Option, Some, None, refl, ap, sym, ◌∙◌, arith}
 use Rattle.std.specs.Prelude.{slice_get, unwrap_or, option_map}
@@ -74,7 +74,7 @@ pub no_not : (b : Bool) → b ≡ true → not b ≡ false
 no_not true e = refl
 no_not false e = absurd cc
 
--- ---- names and their places
+-- ---- names and their indices
 
 abbrev pub named_message : List ℕ → TheMessage
 named_message n = record { name = n; fields = []; oneofs = [] }

@@ -287,7 +287,7 @@ record MethodsRan (t : Types) (T : Table) (d : Draft) (b : ℕ) (ls : List (List
   runs : Runs t d b ls end
   stand : Stand end T.enums T.messages T.methods
 
--- a service and a name are told from their key
+-- the key of a method determines its service and name
 key_parts : (k : TheMethod) → dark k.service ≡ true → dark k.name ≡ true → slice_split (λ c. c == 32) (key_in k) ≡ k.service ∷ k.name ∷ []
 key_parts k service name = split_dark 32 k.service k.name (omega arith) service ∙ ap (λ (x : List (List ℕ)). k.service ∷ x) (split_last 32 k.name (omega arith) name)
 
@@ -437,7 +437,7 @@ rest_joined ls h =
     ∙ ap (λ (k : ℕ). unwrap_or (slice_get (ls ++ [] ∷ []) k) []) n ∙ ap (λ (o : Option (List ℕ)). unwrap_or o [])
     (get_last ls [])
 
--- each line of a run is of words without a line feed, since it is read
+-- each line consists of words without a line feed, since it is read
 
 word_visible : (w : List ℕ) → dark w ≡ true → list_all (λ c. nat_lt 10 c) w ≡ true
 word_visible [] e = refl

@@ -1,4 +1,4 @@
--- The lines of enums, kinds and labels of a valid table are without a fault, and make what they say.
+-- The lines of enums, kinds and labels of a valid table are without a fault, and are parsed to them.
 use Rattle.std.proofs.Common.{◌≡◌, ℕ, zero, suc, ℤ, pos, ◌+◌, ◌-◌, ◌^◌, ◌<◌, ◌≤◌, ◌||◌, not, Bool, true}
 use Rattle.std.proofs.Common.{false, cond, List, [], ◌∷◌, ◌++◌, codes, length, map, get_or, Option, Some, None, refl}
 use Rattle.std.proofs.Common.{ap, sym, subst, ◌∙◌, append_assoc, arith, inl, inr, length-append}
@@ -213,7 +213,7 @@ values_run t d b name vs (w ∷ ws) ok few =
 
 -- ---- enums
 
--- the whole parts of a draft, once its open part is one of them
+-- the finished parts of a draft, once its open part is one of them
 pub record Stand (d : Draft) (es : List Choices) (ms : List TheMessage) (ks : List TheMethod) : Type 0 where
   pub enums : with_enum d.open_part d.enums ≡ es
   pub messages : with_message d.open_part d.messages ≡ ms
@@ -242,7 +242,7 @@ some_values : (vs : List (ℤ × List ℕ)) → Contains (map (λ v. v.0) vs) (p
 some_values [] h = absurd (contains_nothing (pos 0) h)
 some_values (v ∷ vs) h = ne_eqb (suc (length vs)) 0 (omega arith)
 
--- what stands for a place in the list of all
+-- the names before an element of a list
 pub front_names : {X : Type 0} (f : X → List ℕ) (all done : List X) (x : X) (rest : List X) → all ≡ done ++ x ∷ rest → map f all ≡ map f done ++ f x ∷ map f rest
 front_names f all done x rest e = ap (map f) e ∙ map-append f done (x ∷ rest)
 
@@ -540,7 +540,7 @@ take_next xs n x e = let next : n + 1 ≡ suc n = omega arith in ap (λ (k : ℕ
     go (y ∷ ys) zero x e = let same : y ≡ x = unsome e in ap (λ z. z ∷ []) same
     go (y ∷ ys) (suc n) x e = ap (λ zs. y ∷ zs) (go ys n x e)
 
--- the label of a field, read where the first oneofs are known
+-- the label of a field, read when the first oneofs are known
 pub record LabelRuns (t : Types) (T : Table) (oneofs : List (List ℕ)) (met : ℕ) (l : Label) (P : ℕ → Type 0) : Type 0 where
   pub next : ℕ
   pub spelled : LabelIs (label_text T oneofs l) (label_word T oneofs l)

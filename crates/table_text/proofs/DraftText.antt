@@ -110,7 +110,7 @@ text_method N d m =
     ∙ ap (λ (k : ℕ). flat_map (method_line N) (enumerate_from 0 d.methods) ++ method_line N (k, m))
     (zero-add (length d.methods)))
 
--- ---- fields: kinds by their places, and oneofs that grow
+-- ---- fields: kinds by their indices, and oneofs that grow
 
 abbrev pub LabelPlaced : ℕ → Label → Type 0
 LabelPlaced n (Member o) = o < n

@@ -186,7 +186,7 @@ part_of_65 = first_1 _ Limit refl
 
 -- ---- lines with two reasons, of which the first counts
 
--- a message named as an enum, behind an enum without a value 0
+-- a message with the name of an enum, after an enum without a value 0
 two_at_once : IsAgainst (codes "enum E\nvalue 1 A\nmessage E\n") 2 Duplicate
 two_at_once =
     at_line (codes "message E") (enum (codes "E") ∷ value (pos 1) (codes "A") ∷ []) refl ((refl, refl), ((codes "1", refl, refl, refl), tt))
@@ -206,7 +206,7 @@ outside_first : IsFirstFault (codes "value 4294967296 A\n") 1 Syntax
 unfolding line_of
 outside_first = first_1 _ Syntax refl
 
--- the end: an enum without a value, and a rest without its line feed
+-- the end: an enum without a value, and a remainder without its line feed
 end_twice : IsAgainst (codes "enum E\nvalue") 1 Syntax
 end_twice = at_end (enum (codes "E") ∷ []) refl ((refl, refl), tt) (last_without_value (codes "E", ([], refl)) refl)
 

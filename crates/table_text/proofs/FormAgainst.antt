@@ -1,4 +1,4 @@
--- Where a reason stands against a line, one is found, and none later than it.
+-- If a line is at fault for a reason, the tests find a reason that is no later in the order.
 use Rattle.std.proofs.Common.{◌≡◌, ◌≢◌, ℕ, ℤ, ◌<◌, ◌≤◌, ◌==◌, ◌||◌, ◌&&◌, not, Bool, true, false, cond, List, [], ◌∷◌}
 use Rattle.std.proofs.Common.{◌++◌, codes, length, Option, Some, None, refl, ap, sym, subst, ◌∙◌, arith, inl, inr}
 use Rattle.std.specs.Prelude.{nat_lt, IsTrue, FitsSigned}
@@ -316,7 +316,7 @@ full_names_long (method i s m x y) n c e = elim (contains_cases s n (x ∷ y ∷
 
 -- ---- a line
 
--- a line in form is judged by its form
+-- a line of the right form is checked by its form
 pub by_form : (t : Types) (b : Before) (bytes : ℕ) (line : List ℕ) (f : Form) (q r : TableReason) → Says line f
     → r ≡ q → AtMost (line_fault t b bytes (Some (kept f))) q → AtMost (line_fault t b bytes (line_of line)) r
 by_form t b bytes line f q r says e h =

@@ -1,4 +1,4 @@
--- What a line says by its form is what it is read as, with each number as far as the reader keeps it.
+-- The form of a line is what it is parsed to, with each number as far as the reader keeps it.
 use Rattle.std.proofs.Common.{◌≡◌, ℕ, ℤ, pos, negsuc, ◌+◌, ◌-◌, ◌^◌, ◌<◌, ◌≤◌, ◌==◌, true, false, cond, List, [], ◌∷◌}
 use Rattle.std.proofs.Common.{codes, Some, None, refl, ap, sym, ◌∙◌, arith, inl, inr, ◌⊎◌}
 use Rattle.std.specs.Prelude.{option_map, option_and_then, nat_le, FitsSigned, if◌then◌else◌}
@@ -105,7 +105,7 @@ in_32 n = elim (ltb_tells n (2 ^ 32)) [ inl lt ↦ inl (rw lt.0 refl, lt.1) | in
 
 -- ---- words
 
--- what is said is read
+-- the words of a form are parsed to it
 pub words_line : (ws : List (List ℕ)) (f : Form) → AreWordsOf f ws → line_of_words ws ≡ Some (kept f)
 words_line ws (enum name) h = let form = h.1 in ap line_of_words h.0 ∙ rw form refl
 words_line ws (value z name) h =
@@ -131,7 +131,7 @@ pub says_line : (line : List ℕ) (f : Form) → Says line f → line_of line �
 unfolding line_of
 says_line line f h = words_line (words_of line) f h
 
--- what is read is said
+-- what is parsed has a form
 pub record LineSaid (ws : List (List ℕ)) (l : Line) : Type 0 where
   pub form : Form
   pub words : AreWordsOf form ws

@@ -1,4 +1,4 @@
--- What the lines before a line say, while none of them is at fault, and what is kept of them.
+-- The forms of the lines before a line, while none of them is at fault, and what is kept of them.
 use Rattle.std.proofs.Common.{◌≡◌, ℕ, ℤ, ◌+◌, ◌^◌, ◌<◌, ◌≤◌, ◌||◌, ◌&&◌, not, Bool, true, false, cond, List, [], ◌∷◌}
 use Rattle.std.proofs.Common.{◌++◌, length, map, Option, Some, None, refl, ap, sym, subst, ◌∙◌, append_assoc, arith}
 use Rattle.std.proofs.Common.{inl, inr, ◌⊎◌}
@@ -216,7 +216,7 @@ fits_step t fs b bytes (method i s n x y) ok fits h =
       formed = formed_push fs (method i s n x y) fits.formed ok;
     }
 
--- ---- where a line stands among them
+-- ---- where a line is among them
 
 goes_inside : (xs : List Form) (h : Form) (inner : List Form) → goes_on h ≡ false → All (λ g. goes_on g ≡ true) (xs ++ h ∷ inner) → ⊥
 goes_inside xs h inner ends all =
@@ -229,7 +229,7 @@ first_same e = cc
 pub rest_same : {X : Type 0} {x y : X} {xs ys : List X} → x ∷ xs ≡ y ∷ ys → xs ≡ ys
 rest_same e = cc
 
--- what stands above the last line that begins a part is that line, or in the part
+-- what is above the last line that starts a part is that line, or in the part
 pub around : (xs ys : List Form) (h f : Form) (inner between : List Form) → xs ++ h ∷ inner ≡ ys ++ f ∷ between
     → goes_on h ≡ false → All (λ g. goes_on g ≡ true) between → (h ≡ f) ⊎ Contains inner f
 around [] [] h f inner between e ends all = inl (first_same e)
@@ -239,7 +239,7 @@ around [] (y ∷ ys) h f inner between e ends all =
 around (x ∷ xs) [] h f inner between e ends all = absurd (goes_inside xs h inner ends (subst (All (λ g. goes_on g ≡ true)) (sym (rest_same e)) all))
 around (x ∷ xs) (y ∷ ys) h f inner between e ends all = around xs ys h f inner between (rest_same e) ends all
 
--- and no more lines go on than there are in the part
+-- and no more lines continue the part than it has
 pub no_longer : (xs ys : List Form) (h : Form) (inner tail : List Form) → xs ++ h ∷ inner ≡ ys ++ tail
     → goes_on h ≡ false → All (λ g. goes_on g ≡ true) tail → length tail ≤ length inner
 no_longer [] [] h inner tail e ends all = absurd (goes_inside [] h inner ends (subst (All (λ g. goes_on g ≡ true)) (sym e) all))

@@ -1,4 +1,4 @@
--- Where a line stands among those before it, and what the open part tells of that.
+-- Where a line is among those before it, and what the open part implies about that.
 use Rattle.std.proofs.Common.{◌≡◌, ℕ, ℤ, pos, negsuc, ◌+◌, ◌^◌, ◌<◌, ◌≤◌, ◌||◌, ◌&&◌, not, Bool, true, false, List}
 use Rattle.std.proofs.Common.{[], ◌∷◌, ◌++◌, map, Option, Some, refl, ap, sym, subst, ◌∙◌, append_assoc, arith, inl}
 use Rattle.std.proofs.Common.{inr, ◌⊎◌}
@@ -137,7 +137,7 @@ ends_method (message n) e = absurd cc
 ends_method (field n l k m) e = absurd cc
 ends_method (method i s n x y) e = refl
 
--- where nothing is open, a method stands above, or nothing
+-- if nothing is open, a method is above, or nothing
 pub of_nothing : (fs : List Form) → PartIs fs nothing → (f : Form) → IsAbove fs f → is_method f ≡ true
 of_nothing fs (inl empty) f a = absurd (none_above a.front a.between f (sym empty ∙ a.before_is))
 of_nothing fs (inr p) f a = elim (around p.front a.front p.last f [] a.between (sym p.is ∙ a.before_is) (ends_method p.last p.a_method) a.inner) [

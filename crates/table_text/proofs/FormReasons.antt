@@ -1,4 +1,4 @@
--- A reason that is found against a line stands against it.
+-- If the tests find a reason, the line is at fault for it.
 use Rattle.std.proofs.Common.{◌≡◌, ℕ, ◌<◌, ◌==◌, ◌||◌, ◌&&◌, not, Bool, true, false, cond, List, [], ◌∷◌, ◌++◌, codes}
 use Rattle.std.proofs.Common.{length, Option, Some, None, refl, ap, sym, subst, ◌∙◌, arith, inl, inr, ◌⊎◌}
 use Rattle.std.specs.Prelude.{nat_lt, IsTrue, option_to_list}
@@ -263,7 +263,7 @@ duplicate_said lines fs b line (method i sv n x y) s says e =
 
 -- ---- UnknownType
 
--- the line of a type names it, and what names a type is its line
+-- a line declares a type exactly if it has the type's prefix
 pub message_behind : (line n : List ℕ) → Says line (message n) → behind (codes "message ") line ≡ Some n
 message_behind line n h = ap (behind (codes "message ")) (text_is line ∙ ap spaced h.0)
 

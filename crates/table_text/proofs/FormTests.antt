@@ -1,4 +1,4 @@
--- Each test of a line against the open part, and what it tells of the lines before.
+-- Each test of a line against the open part, and what it implies about the lines before.
 use Rattle.std.proofs.Common.{◌≡◌, ℕ, ℤ, pos, ◌^◌, ◌<◌, ◌≤◌, not, Bool, true, false, List, [], ◌∷◌, ◌++◌, length, map}
 use Rattle.std.proofs.Common.{Option, refl, ap, sym, subst, ◌∙◌, append_assoc, length-append, arith, inl, inr, ◌⊎◌}
 use Rattle.std.specs.Prelude.{nat_le, FitsSigned}
@@ -28,7 +28,7 @@ use Rattle.table_text.proofs.OrderLemmas.{contains_among, among_contains, int_eq
 
 -- ---- what may be last
 
--- right behind a line of an enum, the open part is one
+-- directly after a line of an enum, the open part is one
 pub last_of_enum : (fs : List Form) (part : OpenNames) → PartIs fs part → (f : Form) → IsLast fs f → is_of_enum f ≡ true → (vs : List (ℤ × List ℕ)) × (part ≡ values vs)
 last_of_enum fs (values vs) p f last is = (vs, refl)
 last_of_enum fs (fields ns) p f last is = elim (of_message fs ns p f (is_last_above fs f last)) [
@@ -239,7 +239,7 @@ below_field_falls fs (fields ns) n r p last less = elim (message_ends fs ns p) [
 below_field_falls fs (values vs) n r p last less = refl
 below_field_falls fs nothing n r p last less = refl
 
--- ---- names and numbers that stand twice
+-- ---- names and numbers that occur twice
 
 pub value_before_said : (fs : List Form) (part : OpenNames) (n : List ℕ) → PartIs fs part → is_value_before part n ≡ true → (z : ℤ) × IsAbove fs (value z n)
 value_before_said fs (values vs) n p e =
@@ -350,7 +350,7 @@ said_many fs nothing most some (inr p) a =
     let few = no_longer p.front a.front p.last [] a.inner (sym p.is ∙ a.before_is) (ends_method p.last p.a_method) a.each in
     absurd (omega (arith, some, few, a.many))
 
--- ---- names that fall
+-- ---- names below the last one
 
 no_enums : (vs : List (ℤ × List ℕ)) → filter_map enum_name (map value_form vs) ≡ []
 no_enums [] = refl

@@ -1,4 +1,4 @@
--- The names beside a draft, once a line was added.
+-- The names beside a draft, after a line was added.
 use Rattle.std.proofs.Common.{◌≡◌, ℕ, ℤ, List, [], ◌∷◌, ◌++◌, map, Option, Some, None, refl, ap, sym, subst, ◌∙◌}
 use Rattle.std.proofs.lemmas.List.{append-nil}
 use Rattle.table_text.specs.Judged.{Types, values, fields, after}

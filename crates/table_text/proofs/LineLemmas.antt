@@ -45,7 +45,7 @@ lines_end text e = ap (λ (ps : List (List ℕ)). take (length ps - 1) ps) e
 pub rest_end : (text : List ℕ) → pieces_of text ≡ text ∷ [] → rest_of text ≡ text
 rest_end text e = ap (λ (ps : List (List ℕ)). unwrap_or (slice_get ps (length ps - 1)) []) e
 
--- ---- lists from a place on
+-- ---- suffixes of lists
 
 pub get_drop : {X : Type 0} (xs : List X) (k : ℕ) (x : X) (ys : List X) → drop k xs ≡ x ∷ ys → slice_get xs k ≡ Some x
 get_drop [] zero x ys e = absurd cc
@@ -79,7 +79,7 @@ bytes_push ls l =
     let last : bytes_of ls + (length l + 1) ≡ bytes_of ls + length l + 1 = omega arith in
     ap sum (map_push (λ (line : List ℕ). length line + 1) ls l) ∙ fold_push ◌+◌ 0 (map (λ (line : List ℕ). length line + 1) ls) (length l + 1) ∙ last
 
--- ---- what the lines so far say
+-- ---- the lines so far
 
 pub before_line : (t : Types) (d : Draft) (o : Option Line) → before (added_line t d o) ≡ after_line (before d) o
 before_line t d None = refl

@@ -8,7 +8,7 @@ use Rattle.table_text.specs.Places.{Holds}
 use Rattle.table_text.specs.declared.places.Places.{Places}
 use Rattle.table_text.proofs.LineLemmas.{lines_first, lines_end}
 
--- the names to start with, those of the lines so far, and those of the lines to come
+-- the names to start with, those of the lines so far, and those of the remaining lines
 pub record NamesSoFar (of_lines : List (List ℕ) → List (List ℕ)) (start : List (List ℕ)) (text rest : List ℕ) (names : Places) : Type 0 where
   pub done : List (List ℕ)
   pub holds : Holds names done

@@ -1,4 +1,4 @@
--- Lists in order and without repetition, one element more at the end; and the tests that tell.
+-- Lists in order and without repetition, one element more at the end; and the tests for both.
 use Rattle.std.proofs.Common.{◌≡◌, ℕ, zero, suc, ℤ, ◌-◌, ◌<◌, ◌&&◌, ◌||◌, Bool, true, false, cond, List, [], ◌∷◌}
 use Rattle.std.proofs.Common.{◌++◌, length, map, get_or, Option, Some, None, refl, ap, sym, subst, ◌∙◌, arith, inl}
 use Rattle.std.proofs.Common.{inr, ◌⊎◌}
@@ -139,7 +139,7 @@ above_is n m h =
 last_contained : {X : Type 0} (xs : List X) (x : X) → last_of xs ≡ Some x → Contains xs x
 last_contained xs x e = (length xs - 1, slice_get_within xs (length xs - 1) x e, get_or_from_slice_get xs (length xs - 1) x x e)
 
--- a name that doesn't fall and is new is above the last one
+-- a name that isn't below the last one and is new is above it
 pub falls_not : (n : List ℕ) (ns : List (List ℕ)) → falls n ns ≡ false → is_among n ns ≡ false → (m : List ℕ) → last_of ns ≡ Some m → IsBelow m n
 falls_not n ns e new m last =
     let below : is_below n m ≡ false = ap (λ (o : Option (List ℕ)). option_map_or (λ (l : List ℕ). is_below n l) o false) (sym last) ∙ e in

@@ -1,4 +1,4 @@
--- A line that is read is spelled so, and what is spelled so is read.
+-- A line that is parsed is spelled in one way, and each spelling is parsed.
 use Rattle.std.proofs.Common.{◌≡◌, ℕ, suc, ℤ, pos, negsuc, ◌-◌, ◌^◌, ◌<◌, ◌≤◌, ◌==◌, ◌&&◌, ◌||◌, not, Bool, true}
 use Rattle.std.proofs.Common.{false, cond, List, [], ◌∷◌, ◌++◌, length, take, drop, get_or, Option, Some, None, refl}
 use Rattle.std.proofs.Common.{ap, sym, subst, ◌∙◌, arith, inl, inr, rules, ◌⊎◌}
@@ -193,7 +193,7 @@ behind_is prefix w n e =
     sym (take-append-drop (length prefix) w) ∙ ap (λ (front : List ℕ). front ++ drop (length prefix) w)
     (same_bytes (take (length prefix) w) prefix h.0) ∙ ap (λ (rest : List ℕ). prefix ++ rest) h.1
 
--- what a table of words says of a word
+-- what a list of words finds for a word
 pub in_words : {X : Type 0} (w : List ℕ) (table : List (List ℕ × X)) (x : X)
     → option_map (λ e. e.1) (find (λ e. bytes_eq w e.0) table) ≡ Some x → (P : List ℕ → X → Type 0)
     → AllByRecursion (λ e. P e.0 e.1) table → P w x

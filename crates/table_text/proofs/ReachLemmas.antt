@@ -1,4 +1,4 @@
--- The types that are held for a text serve for each of its lines that is reached.
+-- The types that are kept for a text suffice for each of its lines that is reached.
 use Rattle.std.proofs.Common.{◌≡◌, ℕ, zero, suc, ◌+◌, ◌-◌, ◌<◌, ◌≤◌, ◌==◌, ◌||◌, Bool, true, false, not, cond, List}
 use Rattle.std.proofs.Common.{[], ◌∷◌, ◌++◌, codes, length, take, drop, Option, Some, None, refl, ap, sym, subst, ◌∙◌}
 use Rattle.std.proofs.Common.{append_assoc, arith, inl, inr, length-append, length-drop}
@@ -34,7 +34,7 @@ use Rattle.table_text.proofs.PlaceLemmas.{same_bytes, bytes_same}
 use Rattle.table_text.proofs.TableCuts.{cut_is}
 use Rattle.table_lines.proofs.ListLemmas.{has_part}
 
--- ---- lines behind lines
+-- ---- lines after lines
 
 abbrev HasPart : List (List ℕ) → Type 0
 HasPart ps = (part : List ℕ) × (parts : List (List ℕ)) × (ps ≡ part ∷ parts)
@@ -82,7 +82,7 @@ bytes_pieces (c ∷ cs) =
       | false ↦ omega (arith, bytes_onto c (pieces_of cs) (has_part 10 cs), bytes_pieces cs)
     ]
 
--- a text that is cut at the first line feed behind its first m bytes
+-- a text that is split at the first line feed after its first m bytes
 pub cut_parts : (m : ℕ) (text line far : List ℕ) → m ≤ length text → pieces_of (take (length text - m) (drop m text)) ≡ line ∷ pieces_of far
     → (whole_lines text ≡ whole_lines (take (length text - length far) text) ++ whole_lines far) × (m < bytes_of (whole_lines (take (length text - length far) text)))
 cut_parts m text line far le e =
@@ -126,7 +126,7 @@ chosen : (n m : List ℕ) (wanted xs ys : List (List ℕ)) (b : Bool) → is_amo
 chosen n m wanted xs ys true is in_it same = ap (λ (b : Bool). bytes_eq n m || b) same
 chosen n m wanted xs ys false is in_it same = same ∙ sym (ap (λ (b : Bool). b || is_among n ys) (apart n m wanted is in_it))
 
--- a name that is wanted stands among those that are kept as among all
+-- a wanted name is among the kept ones exactly if it is among all
 kept_far : (n : List ℕ) (wanted : List (List ℕ)) (prefix : List ℕ) → is_among n wanted ≡ true → (far : List (List ℕ))
     → is_among n (filter_map (used_behind wanted prefix) far) ≡ is_among n (filter_map (behind prefix) far)
 kept_far n wanted prefix in_it [] = refl
@@ -222,7 +222,7 @@ near_judges near far i line b bytes get =
     fault_agrees (types_near near far) (types_of (near ++ far)) b bytes (line_of line)
     (λ l is. line_agrees near far l (λ n h. used_at n near i line get (ap (λ (o : Option Line). is_among n (used_by_line o)) is ∙ h)))
 
--- ---- no line behind the near ones is reached
+-- ---- no line after the near ones is reached
 
 few_to : (text : List ℕ) (k : ℕ) → k ≤ length (whole_lines text) → IsReached text k → bytes_of (take k (whole_lines text)) ≤ 65536
 few_to text zero within clean = omega arith

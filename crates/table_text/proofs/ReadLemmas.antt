@@ -1,4 +1,4 @@
--- What a text gives: its valid table, or its first fault.
+-- The result for a text: its valid table, or its first fault.
 use Rattle.std.proofs.Common.{◌≡◌, ℕ, ◌-◌, List, Some, None, Result, Ok, Err, refl, sym, subst, ◌∙◌}
 use Rattle.std.specs.Prelude.{IfOk, IfErr, OnOk, MatchResult}
 use Rattle.mrpc_table.specs.Lines.{whole_lines}

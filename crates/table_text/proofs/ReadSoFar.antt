@@ -21,7 +21,7 @@ use Rattle.table_text.specs.declared.fault.TableFault.{TableFault}
 use Rattle.table_text.specs.declared.fault.TableFault.TheVariants as fault
 use Rattle.table_text.proofs.LineLemmas.{lines_first, rest_first, lines_end, rest_end, get_drop, take_drop, drop_drop, fold_push, get_end, bytes_push, before_draft, here_is}
 
--- the lines before a number were read, and no fault stands against one of them
+-- the lines before a number were read, and none of them is at fault
 pub record LinesSoFar (text rest : List ℕ) (number : ℕ) (r : Reader) : Type 0 where
   pub types : Types
   pub serves : Serves types text

@@ -1,4 +1,4 @@
--- The first fault by what the lines say is the first one that is judged.
+-- The first fault by the definition is the first one by the tests.
 use Rattle.std.proofs.Common.{◌≡◌, ◌≢◌, ℕ, zero, suc, ◌+◌, ◌-◌, ◌<◌, ◌≤◌, ◌==◌, ◌||◌, not, Bool, true, false, cond}
 use Rattle.std.proofs.Common.{List, [], ◌∷◌, ◌++◌, length, take, drop, Option, Some, None, refl, ap, sym, subst, ◌∙◌}
 use Rattle.std.proofs.Common.{arith, inl, inr}
@@ -33,7 +33,7 @@ use Rattle.table_text.proofs.OrderLemmas.{contains_nothing, contains_first}
 use Rattle.table_text.proofs.ParseLemmas.{unsome}
 use Rattle.table_text.proofs.SpellLemmas.{chosen}
 
--- ---- what lines say, one by one
+-- ---- the forms of lines, one by one
 
 record ZipEnds (line : List ℕ) (lines : List (List ℕ)) (fs : List Form) : Type 0 where
   front : List Form
@@ -64,7 +64,7 @@ formed_says line (message n) h = tt
 formed_says line (field i l k m) h = tt
 formed_says line (method i s n x y) h = (h.3, h.4)
 
--- ---- the lines in front of a line, none of which is at fault
+-- ---- the lines before a line, none of which is at fault
 
 abbrev pub IsCleanTo : List ℕ → ℕ → Type 0
 IsCleanTo text k = (i : ℕ) → i < k → fault_at text i ≡ None
@@ -127,7 +127,7 @@ said_to text (suc k) within clean =
         let said = line_said line l e in
         record { forms = before.forms ++ said.form ∷ []; said = zip_push lines line before.forms said.form before.said said.words }
 
--- ---- a reason that is found stands
+-- ---- a reason that the tests find is one by the definition
 
 bytes_to : (ls : List (List ℕ)) (k : ℕ) (l : List ℕ) (more : List (List ℕ)) → drop k ls ≡ l ∷ more → bytes_of (take (k + 1) ls) ≡ bytes_of (take k ls) + length l + 1
 bytes_to ls k l more e =
@@ -204,7 +204,7 @@ found_against text k q clean e =
       ]
     ]
 
--- ---- where a reason stands, one is found
+-- ---- if there is a reason by the definition, the tests find one
 
 line_found : (text : List ℕ) (k : ℕ) (l : List ℕ) (q : TableReason) → slice_get (whole_lines text) k ≡ Some l
     → AtMost (line_fault (types_of (whole_lines text)) (before_of (take k (whole_lines text)))
@@ -259,7 +259,7 @@ against_found text k q clean (at_end fs is said stands) =
     let h = end_found fs (before_of ls) (rest_of text) q fits stands in
     subst (λ (n : ℕ). AtMost (fault_at text n) q) (sym is) (subst (λ (o : Option TableReason). AtMost o q) (sym (end_here text)) h)
 
--- ---- both are one
+-- ---- both agree
 
 reason_at : ℕ → TableReason
 reason_at n = cond (n == 1) Syntax (cond (n == 2) Number (cond (n == 3) Duplicate (cond (n == 4) UnknownType (cond (n == 5) MapKey Limit))))
@@ -276,7 +276,7 @@ at_order Limit = refl
 same_order : (p q : TableReason) → order_of p ≡ order_of q → p ≡ q
 same_order p q e = sym (at_order p) ∙ ap reason_at e ∙ at_order q
 
--- where no reason stands none is found
+-- without a reason by the definition, the tests find none
 none_found : (text : List ℕ) (n : ℕ) → ((i : ℕ) (q : TableReason) → i < n → IsAgainst text i q → ⊥) → IsCleanTo text n
 none_found text zero none = λ i less. absurd (omega (arith, less))
 none_found text (suc n) none =

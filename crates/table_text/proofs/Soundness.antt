@@ -1,4 +1,4 @@
--- A draft to which no line at fault was added is valid as far as it goes.
+-- A draft without a line at fault is valid as far as it was read.
 use Rattle.std.proofs.Common.{◌≡◌, ℕ, ℤ, pos, ◌+◌, ◌<◌, ◌≤◌, ◌==◌, ◌||◌, ◌&&◌, not, Bool, true, false, cond, List, []}
 use Rattle.std.proofs.Common.{◌∷◌, ◌++◌, length, map, get_or, Option, Some, None, refl, ap, sym, subst, ◌∙◌}
 use Rattle.std.proofs.Common.{append_assoc, arith, inl, inr, length-append}
@@ -107,7 +107,7 @@ zero_contained (v ∷ vs) e =
       | false ↦ λ is f. contains_later v.0 (pos 0) (map (λ v. v.0) vs) (zero_contained vs f)
     ] refl e
 
--- the open part as a whole one
+-- the open part as a finished one
 pub whole_enums : (t : Types) (o : Open) (es : List Choices) → IsPart t o → lacks_value (open_part o) ≡ false
     → lacks_zero (open_part o) ≡ false → All IsEnum es → All IsEnum (with_enum o es)
 whole_enums t (open_parts.Enum c) es part some zero_in all =
@@ -135,7 +135,7 @@ pub no_names : {X : Type 0} (f : X → List ℕ) (xs : List X) → map f xs ≡ 
 no_names f [] e = refl
 no_names f (x ∷ xs) e = absurd cc
 
--- a new name of an enum or a message, behind the others
+-- a new name of an enum or a message, after the others
 distinct_enum : (es ms : List (List ℕ)) (n : List ℕ) → ms ≡ [] → AreDistinct (es ++ ms) → is_among n es ≡ false → AreDistinct ((es ++ n ∷ []) ++ ms)
 distinct_enum es ms n none d new =
     let e : AreDistinct es = subst AreDistinct (ap (λ (xs : List (List ℕ)). es ++ xs) none ∙ append-nil es) d in

@@ -1,4 +1,4 @@
--- Lines and their words: a line that is read is spelled so, and what is spelled so is read.
+-- Lines and their words: a line that is parsed is spelled in one way, and each spelling is parsed.
 use Rattle.std.proofs.Common.{◌≡◌, ◌≢◌, ℕ, suc, ℤ, pos, negsuc, ◌^◌, ◌<◌, ◌≤◌, ◌==◌, ◌&&◌, Bool, true, false, cond}
 use Rattle.std.proofs.Common.{List, [], ◌∷◌, ◌++◌, codes, Option, Some, None, refl, ap, sym, subst, ◌∙◌, arith, inl}
 use Rattle.std.proofs.Common.{inr, ◌⊎◌}
@@ -42,7 +42,7 @@ use Rattle.table_text.proofs.ParseLemmas.{if_true, mapped, chained, either, numb
 use Rattle.table_text.proofs.ParseLemmas.{whole_is, whole_of-text, ltb_tells, name_is, full_is, decimal_digits}
 use Rattle.table_text.proofs.ParseLemmas.{behind_is, in_words}
 
--- ---- what a word says
+-- ---- the meaning of a word
 
 abbrev pub IsScalar : Kind → Type 0
 IsScalar (OfMessage i) = ⊥
@@ -190,7 +190,7 @@ number_read w m h =
     let lt : nat_lt m (2 ^ 32) ≡ true = lt-ltb m (2 ^ 32) h.1 in
     (ap number_of h.0 ∙ number_of-decimal m (omega (arith, h.1)), rw lt refl)
 
--- ---- what a line says
+-- ---- the meaning of a line
 
 -- a line of these words, in which each number is in its range
 abbrev pub LineIs : List (List ℕ) → Line → Type 0
@@ -507,7 +507,7 @@ words_dark ws (Method m) h =
       ),
     )
 
--- ---- words and lines, cut and joined
+-- ---- words and lines, split and joined
 
 pub split_dark : (sep : ℕ) (w rest : List ℕ) → sep ≤ 32 → dark w ≡ true → slice_split (λ c. c == sep) (w ++ sep ∷ rest) ≡ w ∷ slice_split (λ c. c == sep) rest
 split_dark sep [] rest low e = let self : (sep == sep) ≡ true = eq-eqb sep sep refl in rw self refl
@@ -540,7 +540,7 @@ some_words ws (Message n) h e = let clash = sym h.0 ∙ e in cc
 some_words ws (Field f) h e = let clash = sym h.3 ∙ e in cc
 some_words ws (Method m) h e = let clash = sym h.1 ∙ e in cc
 
--- a line that is spelled so is read
+-- a line of this spelling is parsed
 pub line_read : (ws : List (List ℕ)) (l : Line) → LineIs ws l → line_of (spaced ws) ≡ Some l
 unfolding line_of
 line_read ws l h = ap line_of_words (words_of-spaced ws (some_words ws l h) (words_dark ws l h)) ∙ words_read ws l h

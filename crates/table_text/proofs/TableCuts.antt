@@ -23,7 +23,7 @@ use Rattle.table_lines.proofs.ListLemmas.{has_part}
 abbrev pub fed : List ℕ → List ℕ
 fed l = l ++ 10 ∷ []
 
--- no line feed stands in it
+-- no line feed occurs in it
 abbrev pub IsOneLine : List ℕ → Type 0
 IsOneLine l = All (λ c. (c == 10) ≡ false) l
 
@@ -46,7 +46,7 @@ one_line_each (c ∷ cs) = split_step c (pieces_of cs) (c == 10) refl (one_line_
 pub pieces_line : (l rest : List ℕ) → IsOneLine l → pieces_of (l ++ 10 ∷ rest) ≡ l ∷ pieces_of rest
 pieces_line l rest one = slice_split_at (λ c. c == 10) l 10 rest one refl
 
--- a text that is cut at its first line feed
+-- a text that is split at its first line feed
 pub record IsCut (text line behind : List ℕ) : Type 0 where
   pub one : IsOneLine line
   pub text_is : text ≡ line ++ 10 ∷ behind
@@ -70,7 +70,7 @@ same_pieces x y e = sym (join_with_byte-slice_split 10 x) ∙ ap (join_with_byte
 
 -- ---- the line `end` among pieces
 
--- the lines up to the first one `end`, and the pieces behind it; the last piece is no line
+-- the lines up to the first line `end`, and the pieces after it; the last piece is no line
 abbrev pub ended_at : List (List ℕ) → Option (List (List ℕ) × List (List ℕ))
 ended_at [] = None
 ended_at (p ∷ []) = None
@@ -99,7 +99,7 @@ ended_some (l ∷ []) p ps good = rw (isnt_end l good.0.1) refl
 ended_some (l ∷ m ∷ ls) p ps good =
     ended_first l m (ls ++ codes "end" ∷ p ∷ ps) good.0.1 ∙ ap (option_map (λ r. (l ∷ r.0, r.1))) (ended_some (m ∷ ls) p ps good.1)
 
--- ---- the text of a table, cut at `end`
+-- ---- the text of a table, split at `end`
 
 pub record Cut (text table rest : List ℕ) : Type 0 where
   pub lines : List (List ℕ)
@@ -149,7 +149,7 @@ pieces_lines (l ∷ ls) more good =
 end_pieces : (rest : List ℕ) → pieces_of (codes "end\n" ++ rest) ≡ codes "end" ∷ pieces_of rest
 end_pieces rest = refl
 
--- what a cut says of the pieces
+-- what a split means for the pieces
 pub cut_ends : (text table rest : List ℕ) (c : Cut text table rest) → ended_at (pieces_of text) ≡ Some (c.lines, pieces_of rest)
 cut_ends text table rest c =
     let part = has_part 10 rest in
@@ -188,14 +188,14 @@ ended_by p q ps ls qs false is (Some r) later e one more =
       rw (← parts.0, ← parts.1) (joined ∙ ap (λ (t : List ℕ). p ++ 10 ∷ t) rest.1 ∙ sym (line_first p r.0 (codes "end\n" ++ join_with_byte 10 r.1))),
     )
 
--- what the line `end` among pieces says of them
+-- what a line `end` among pieces means for them
 pub ended_parts : (ps ls qs : List (List ℕ)) → ended_at ps ≡ Some (ls, qs) → AllByRecursion IsOneLine ps
     → AreTableLines ls × (join_with_byte 10 ps ≡ flat_map fed ls ++ (codes "end\n" ++ join_with_byte 10 qs))
 ended_parts [] ls qs e one = absurd cc
 ended_parts (p ∷ []) ls qs e one = absurd cc
 ended_parts (p ∷ q ∷ ps) ls qs e one = ended_by p q ps ls qs (bytes_eq p (codes "end")) refl (ended_at (q ∷ ps)) refl e one (ended_parts (q ∷ ps))
 
--- ---- reading on
+-- ---- reading further
 
 -- whole lines were passed, and none of them is `end`
 pub record Passed (text rest : List ℕ) : Type 0 where
@@ -222,7 +222,7 @@ passed_more text rest line behind p e other =
           (sym lines_are);
     }
 
--- the line `end` stands next
+-- the line `end` is next
 pub cut_here : (text rest line behind : List ℕ) → Passed text rest → pieces_of rest ≡ line ∷ pieces_of behind
     → line ≡ codes "end" → Cut text (take (length text - length rest) text) behind
 cut_here text rest line behind p e same =
@@ -240,7 +240,7 @@ cut_here text rest line behind p e same =
 pub none_is : {X : Type 0} (o : Option X) (x : X) → o ≡ None → o ≡ Some x → ⊥
 none_is o x e f = absurd cc
 
--- no line ends in what is left
+-- no line ends in the remainder
 pub cut_nowhere : (text rest table more : List ℕ) → Passed text rest → pieces_of rest ≡ rest ∷ [] → Cut text table more → ⊥
 cut_nowhere text rest table more p none c =
     let unended : ended_at (pieces_of text) ≡ None = ap (λ (t : List ℕ). ended_at (pieces_of t)) p.text_is

@@ -1,4 +1,4 @@
--- What holds of parts of a valid table, and of tests.
+-- Facts about parts of a valid table, and about tests.
 use Rattle.std.proofs.Common.{◌≡◌, ℕ, suc, ◌+◌, ◌≤◌, ◌&&◌, Bool, true, false, List, [], ◌∷◌, length, refl, arith, inl, inr, IsTrue}
 use Rattle.mrpc_table.specs.Words.{is_key}
 use Rattle.mrpc_table.specs.Valid.{IsKnown, Joins, OneofsFollow}

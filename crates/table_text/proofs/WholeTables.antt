@@ -1,4 +1,5 @@
--- The canonical text of a table is whole lines, none of which is `end`; and a text is one, or has a first fault.
+-- The canonical text of a table consists of whole lines, none of which is `end`; and a text is one, or has a first
+-- fault.
 use Rattle.std.proofs.Common.{◌≡◌, ◌≢◌, ◌⊎◌, ℕ, zero, suc, ◌+◌, ◌-◌, ◌<◌, ◌≤◌, ◌==◌, ◌||◌, not, Bool, true, false}
 use Rattle.std.proofs.Common.{cond, List, [], ◌∷◌, ◌++◌, codes, length, get_or, Option, Some, None, refl, ap, sym}
 use Rattle.std.proofs.Common.{subst, ◌∙◌, arith, inl, inr, eq-eqb}
@@ -130,7 +131,7 @@ here_by text n none (Some reason) e =
       },
     )
 
--- up to a place there is no fault, or there is a first one
+-- the first n lines have no fault, or there is a first one
 search_up : (text : List ℕ) (n : ℕ) → ((i : ℕ) → i < n → fault_at text i ≡ None) ⊎ ((line : ℕ) × (reason : TableReason) × IsFirstJudged text line reason)
 search_up text zero = inl (λ i below. absurd (omega (arith, below)))
 search_up text (suc n) =

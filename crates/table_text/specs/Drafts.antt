@@ -1,4 +1,4 @@
--- The code's own: a table while its text is read: what a line adds to it, and what it says of the lines so far.
+-- The code's own: a table while its text is read: what a line adds to it, and the names of the lines so far.
 use Rattle.std.specs.Prelude.{◌≡◌, ℕ, List, [], ◌∷◌, ◌++◌, map, Option, Some, None, if◌then◌else◌}
 use Rattle.std.specs.List.{fold}
 use Rattle.table_lines.specs.Lines.{line_of}
@@ -31,7 +31,7 @@ use Rattle.table_text.specs.declared.draft.Open.{Open}
 use Rattle.table_text.specs.declared.draft.Open.TheVariants as open_parts
 use Rattle.table_text.specs.declared.draft.Draft.{Draft}
 
--- ---- what the lines so far name
+-- ---- the names of the lines so far
 
 abbrev pub open_enum : Open → List (List ℕ)
 open_enum (open_parts.Enum c) = c.name ∷ []
@@ -87,7 +87,7 @@ labeled t oneofs labels.Packed = Packed
 labeled t oneofs (labels.Map key) = Map (resolved t key)
 labeled t oneofs (labels.Member name) = Member (place name oneofs)
 
--- the oneof of a label, where it is new, and the oneofs with it
+-- the oneof of a label, if it is new, and the oneofs with it
 abbrev pub new_oneof : List (List ℕ) → LabelWord → Option (List ℕ)
 new_oneof oneofs (labels.Member name) = if is_among name oneofs then None else Some name
 new_oneof oneofs _ = None
@@ -96,7 +96,7 @@ abbrev pub joined_with : List (List ℕ) → Option (List ℕ) → List (List �
 joined_with oneofs None = oneofs
 joined_with oneofs (Some name) = oneofs ++ name ∷ []
 
--- the open part goes to the list that it belongs to
+-- the open part is moved to the list of its kind
 abbrev pub with_enum : Open → List Choices → List Choices
 with_enum (open_parts.Enum c) es = es ++ c ∷ []
 with_enum _ es = es
@@ -121,7 +121,7 @@ with_value o z name = o
 abbrev pub field_of : Types → List (List ℕ) → ℕ → FieldLine → TheField
 field_of t oneofs n f = record { number = n; name = f.name; kind = resolved t f.kind; label = labeled t oneofs f.label }
 
--- a message with one field more, and with its oneof, where that is new
+-- a message with one field more, and with its oneof, if that is new
 abbrev pub joined_parts : TheMessage → TheField → Option (List ℕ) → TheMessage
 joined_parts m f oneof = record { name = m.name; fields = m.fields ++ f ∷ []; oneofs = joined_with m.oneofs oneof }
 
@@ -191,7 +191,7 @@ abbrev pub added_line : Types → Draft → Option Line → Draft
 added_line t d None = d
 added_line t d (Some l) = added t d l
 
--- what lines make, and the table once the open part is whole
+-- the draft of some lines, and the table after the open part is finished
 abbrev pub draft_of : Types → List (List ℕ) → Draft
 draft_of t lines = fold (λ d line. added_line t d (line_of line)) empty_draft lines
 
@@ -205,7 +205,7 @@ table_of d = record {
 abbrev pub table_in : List (List ℕ) → Table
 table_in lines = table_of (draft_of (types_of lines) lines)
 
--- the fault is of this line, for this reason
+-- the fault is at this line, for this reason
 abbrev pub Blames : TableFault → ℕ → Option TableReason → Type 0
 Blames (fault.At line reason) n stands = (line ≡ n) × (stands ≡ Some reason)
 Blames fault.Memory n stands = Unit {0}

@@ -1,5 +1,5 @@
--- What is wrong with a line of a text that is no canonical text of a table, given the lines before it; and which line
--- is at fault first, and for which reason (this project's own).
+-- The faults of a line in a text that is no canonical text of a table, given the lines before it; and the first line at
+-- fault with its first reason (this project's own).
 use Rattle.std.specs.Prelude.{◌≡◌, ◌≢◌, ℕ, ℤ, pos, ◌+◌, ◌<◌, ◌≤◌, true, false, List, [], ◌∷◌, ◌++◌, length, take, map, sum, All, Contains, count_by, FitsSigned, Some, slice_get}
 use Rattle.std.specs.Prelude.{Bool}
 use Rattle.std.specs.Int.{w32}
@@ -19,20 +19,20 @@ use Rattle.table_lines.specs.declared.line.KindWord.TheVariants.{Scalar, Message
 use Rattle.table_lines.specs.declared.line.LabelWord.{LabelWord}
 use Rattle.table_lines.specs.declared.line.LabelWord.TheVariants.{Optional, Packed, Map}
 
--- ---- where a line stands among those before
+-- ---- where a line is among those before
 
--- the line right before says this
+-- the previous line has this form
 abbrev pub IsLast : List Form → Form → Type 0
 IsLast before f = (front : List Form) × (before ≡ front ++ f ∷ [])
 
--- a line before says this, and only values and fields stand between
+-- an earlier line has this form, with only values and fields in between
 pub record IsAbove (before : List Form) (f : Form) : Type 0 where
   pub front : List Form
   pub between : List Form
   pub before_is : before ≡ front ++ f ∷ between
   pub inner : All (λ g. goes_on g ≡ true) between
 
--- the lines right before are so many values or fields
+-- at least this many of the lines directly before are values or fields
 pub record AreInner (before : List Form) (count : ℕ) : Type 0 where
   pub front : List Form
   pub inner : List Form
@@ -50,7 +50,7 @@ pub record LacksZero (before : List Form) : Type 0 where
   pub of_enum : is_of_enum last ≡ true
   pub no_zero : (name : List ℕ) → IsAbove before (value (pos 0) name) → ⊥
 
--- ---- what goes together in a field
+-- ---- which labels go with which kinds
 
 abbrev pub is_packable : KindWord → Bool
 is_packable (Scalar k) = is_numeric k
@@ -64,9 +64,10 @@ is_key_kind _ = false
 
 -- ---- reasons
 
--- a reason stands against a line: `lines` are all those of the text, and those before the line say `before`
+-- the line is at fault for a reason: `lines` are all lines of the text, and `before` are the forms of those before the
+-- line
 pub data Offends (lines : List (List ℕ)) (before : List Form) (line : List ℕ) (reason : TableReason) : Type 0 where
-  -- the line has no such form
+  -- the line has no form
   no_form : ((f : Form) → Says line f → ⊥) → reason ≡ Syntax → Offends lines before line reason
   -- it is out of order: enums come first, then messages, and methods last
   enum_behind_message : (name other : List ℕ) → Says line (enum name) → Contains before (message other)
@@ -80,13 +81,13 @@ pub data Offends (lines : List (List ℕ)) (before : List Form) (line : List ℕ
       → reason ≡ Syntax → Offends lines before line reason
   falling_message : (name other : List ℕ) → Says line (message name) → IsAbove before (message other)
       → IsBelow name other → reason ≡ Syntax → Offends lines before line reason
-  -- a value doesn't go on with an enum, or it is below the value before it, by number and then by name
+  -- a value isn't in an enum, or it is below the previous value, by number and then by name
   value_outside : (number : ℤ) (name : List ℕ) → Says line (value number name)
       → ((f : Form) → IsLast before f → is_of_enum f ≡ true → ⊥) → reason ≡ Syntax → Offends lines before line reason
   falling_value : (number last : ℤ) (name other : List ℕ) → Says line (value number name)
       → IsLast before (value last other) → IsValueBelow (number, name) (last, other) → reason ≡ Syntax
       → Offends lines before line reason
-  -- a field doesn't go on with a message, or its number is below that of the field before it
+  -- a field isn't in a message, or its number is below that of the previous field
   field_outside : (number : ℕ) (label : LabelWord) (kind : KindWord) (name : List ℕ)
       → Says line (field number label kind name) → ((f : Form) → IsLast before f → is_of_message f ≡ true → ⊥)
       → reason ≡ Syntax → Offends lines before line reason
@@ -98,10 +99,10 @@ pub data Offends (lines : List (List ℕ)) (before : List Form) (line : List ℕ
       → reason ≡ Syntax → Offends lines before line reason
   packed_no_number : (number : ℕ) (kind : KindWord) (name : List ℕ) → Says line (field number Packed kind name)
       → is_packable kind ≡ false → reason ≡ Syntax → Offends lines before line reason
-  -- the enum before it has no value
+  -- the previous enum has no value
   enum_without_value : (f : Form) → Says line f → goes_on f ≡ false → LacksValue before → reason ≡ Syntax
       → Offends lines before line reason
-  -- a value's number doesn't fit 32 signed bits
+  -- a value isn't a signed 32-bit number
   value_out_of_range : (number : ℤ) (name : List ℕ) → Says line (value number name) → (FitsSigned w32 number → ⊥)
       → reason ≡ Number → Offends lines before line reason
   -- a field's number isn't within 1 to 536870911, or is within 19000 to 19999
@@ -112,28 +113,28 @@ pub data Offends (lines : List (List ℕ)) (before : List Form) (line : List ℕ
   index_out_of_turn : (index : ℕ) (service name input output : List ℕ)
       → Says line (method index service name input output) → index ≢ count_by is_method before → reason ≡ Number
       → Offends lines before line reason
-  -- the enum before it has no value 0
+  -- the previous enum has no value 0
   enum_without_zero : (f : Form) → Says line f → goes_on f ≡ false → LacksZero before → reason ≡ Number
       → Offends lines before line reason
-  -- a line before names a type so
+  -- an earlier line declares a type of the same name
   type_twice : (f g : Form) (name : List ℕ) → Says line f → type_named f ≡ Some name → Contains before g
       → type_named g ≡ Some name → reason ≡ Duplicate → Offends lines before line reason
-  -- a value of its enum, or a field of its message, has the name
+  -- a value of its enum, or a field of its message, has the same name
   value_twice : (number other : ℤ) (name : List ℕ) → Says line (value number name)
       → IsAbove before (value other name) → reason ≡ Duplicate → Offends lines before line reason
   field_twice : (number other : ℕ) (label other_label : LabelWord) (kind other_kind : KindWord) (name : List ℕ)
       → Says line (field number label kind name) → IsAbove before (field other other_label other_kind name)
       → reason ≡ Duplicate → Offends lines before line reason
-  -- the field before it has the number
+  -- the previous field has the same number
   number_twice : (number : ℕ) (label other_label : LabelWord) (kind other_kind : KindWord) (name other : List ℕ)
       → Says line (field number label kind name) → IsLast before (field number other_label other_kind other)
       → reason ≡ Duplicate → Offends lines before line reason
-  -- a method of its service has the name
+  -- a method of its service has the same name
   method_twice : (index other : ℕ) (service name input output other_input other_output : List ℕ)
       → Says line (method index service name input output)
       → Contains before (method other service name other_input other_output) → reason ≡ Duplicate
       → Offends lines before line reason
-  -- no line of the text is the `message` or `enum` line of a type
+  -- no line of the text declares a type that the line uses
   unknown_type : (f type : Form) → Says line f → Contains (types_used f) type
       → ((other : List ℕ) → Contains lines other → Says other type → ⊥) → reason ≡ UnknownType
       → Offends lines before line reason
@@ -159,7 +160,7 @@ pub data Offends (lines : List (List ℕ)) (before : List Form) (line : List ℕ
       → Says line (field number label kind name) → AreInner before MAX_FIELDS → reason ≡ Limit
       → Offends lines before line reason
 
--- a reason stands against the end of the text, behind lines that say `before`
+-- the end of the text is at fault for a reason, after lines of the forms `before`
 pub data OffendsAtEnd (before : List Form) (rest : List ℕ) (reason : TableReason) : Type 0 where
   -- the last line lacks its line feed
   unended : rest ≢ [] → reason ≡ Syntax → OffendsAtEnd before rest reason
@@ -171,7 +172,7 @@ pub data OffendsAtEnd (before : List Form) (rest : List ℕ) (reason : TableReas
 abbrev pub bytes_of : List (List ℕ) → ℕ
 bytes_of lines = sum (map (λ line. length line + 1) lines)
 
--- a reason stands against what is behind the first i whole lines: a line, or the end of the text
+-- the line at index i, or the end of the text after i whole lines, is at fault for a reason
 pub data IsAgainst (text : List ℕ) (i : ℕ) (reason : TableReason) : Type 0 where
   at_line : (line : List ℕ) (before : List Form) → slice_get (whole_lines text) i ≡ Some line
       → Say (take i (whole_lines text)) before → Offends (whole_lines text) before line reason
@@ -182,7 +183,7 @@ pub data IsAgainst (text : List ℕ) (i : ℕ) (reason : TableReason) : Type 0 w
   at_end : (before : List Form) → i ≡ length (whole_lines text) → Say (whole_lines text) before
       → OffendsAtEnd before (rest_of text) reason → IsAgainst text i reason
 
--- of several reasons at one line the first of these counts
+-- if a line has several reasons, the one with the least number counts
 abbrev pub order_of : TableReason → ℕ
 order_of Syntax = 1
 order_of Number = 2
@@ -195,7 +196,7 @@ order_of Limit = 6
 abbrev pub IsFirstFault : List ℕ → ℕ → TableReason → Type 0
 IsFirstFault text line reason = first.IsFirstFault (IsAgainst text) order_of line reason
 
--- what a fault says of a text; running out of memory says nothing
+-- what a fault means of a text; running out of memory depends on no text
 abbrev pub IsFaultOf : List ℕ → TableFault → Type 0
 IsFaultOf text (fault.At line reason) = IsFirstFault text line reason
 IsFaultOf text fault.Memory = Unit {0}

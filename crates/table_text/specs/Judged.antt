@@ -1,5 +1,5 @@
--- The code's own: the tests by which a line of a table's text is judged while it is read, over what the lines before it
--- left: the first fault that they find is the first one of the text.
+-- The code's own: the tests of a line while the text of a table is read, given the names of the lines before it. The
+-- first fault that they find is the first fault of the text.
 use Rattle.std.specs.Prelude.{◌≡◌, ℕ, ℤ, pos, ◌+◌, ◌-◌, ◌<◌, ◌==◌, nat_lt, nat_le, Bool, true, false, not, ◌&&◌, ◌||◌, if◌then◌else◌, List, [], ◌∷◌, ◌++◌, codes, length, take, map, Option, Some, None, slice_get}
 use Rattle.std.specs.List.{list_any, filter_map, fold}
 use Rattle.std.specs.Option.{option_map_or}
@@ -27,7 +27,7 @@ use Rattle.table_lines.specs.declared.line.MethodLine.{MethodLine}
 use Rattle.table_lines.specs.declared.line.Line.{Line}
 use Rattle.table_lines.specs.declared.line.Line.TheVariants.{Enum, Value, Message, Field, Method}
 
--- the types that the text names: those of all its `enum` and `message` lines, also of lines at fault
+-- the types that the text declares: those of all its `enum` and `message` lines, also of lines at fault
 pub record Types : Type 0 where
   pub enums : List (List ℕ)
   pub messages : List (List ℕ)
@@ -38,14 +38,14 @@ types_of lines = record {
   messages = filter_map (behind (codes "message ")) lines;
 }
 
--- what a line may go on with: the values of the enum, or the numbers and names of the fields of the
--- message, whose lines stand right before it
+-- the part that a line may extend: the values of the enum, or the numbers and names of the fields of the message, whose
+-- lines directly precede it
 pub data OpenNames : Type 0 where
   nothing : OpenNames
   values : List (ℤ × List ℕ) → OpenNames
   fields : List (ℕ × List ℕ) → OpenNames
 
--- what the lines before a line name, in order; a method is named by its service and name, with a space between
+-- the names in the lines before a line, in order; a method is named by its service and name, with a space between them
 pub record Before : Type 0 where
   pub enums : List (List ℕ)
   pub messages : List (List ℕ)
@@ -103,7 +103,7 @@ is_value_below Low name last = true
 is_value_below (Within z) name last = int_lt z last.0 || (int_eq z last.0 && is_below name last.1)
 is_value_below High name last = false
 
--- the enum whose lines stand right before lacks a value, or a value of number 0
+-- the enum whose lines directly precede lacks a value, or a value 0
 abbrev pub lacks_value : OpenNames → Bool
 lacks_value (values vs) = is_empty vs
 lacks_value _ = false
@@ -112,7 +112,7 @@ abbrev pub lacks_zero : OpenNames → Bool
 lacks_zero (values vs) = not (list_any (λ v. int_eq v.0 (pos 0)) vs)
 lacks_zero _ = false
 
--- a label that goes with no field of the kind
+-- a label that no field of the kind can have
 abbrev pub is_message_word : KindWord → Bool
 is_message_word (kinds.Message name) = true
 is_message_word _ = false
@@ -134,7 +134,7 @@ abbrev pub field_falls : OpenNames → Option ℕ → Bool
 field_falls (fields fs) n = option_map_or (is_field_below n) (last_of fs) false
 field_falls _ n = true
 
--- Syntax: the order of lines, a label that clashes with its kind, an enum without a value
+-- Syntax: a line out of order, a label that doesn't go with its kind, an enum without a value
 abbrev pub is_syntax : Before → Line → Bool
 is_syntax b (Enum name) =
     ((lacks_value b.open_part || not (is_empty b.messages)) || not (is_empty b.methods)) || falls name b.enums
@@ -143,7 +143,7 @@ is_syntax b (Message name) = (lacks_value b.open_part || not (is_empty b.methods
 is_syntax b (Field f) = clashes f.label f.kind || field_falls b.open_part f.number
 is_syntax b (Method m) = lacks_value b.open_part
 
--- Number: one out of its range, an enum without a value 0, an index out of turn
+-- Number: one out of its range, an enum without a value 0, an index that isn't the next one
 abbrev pub is_within : Whole → Bool
 is_within (Within z) = true
 is_within _ = false
@@ -163,8 +163,8 @@ is_number b (Message name) = lacks_zero b.open_part
 is_number b (Field f) = not (has_field_number f.number)
 is_number b (Method m) = lacks_zero b.open_part || not (is_index m.index (length b.methods))
 
--- Duplicate: a name of a type, of a value in its enum, of a field in its message or of a method in its
--- service that stands before; the number of the field before
+-- Duplicate: an earlier line has the name of a type, of a value in its enum, of a field in its message or of a method
+-- in its service; the previous field has the number
 abbrev pub is_type_before : Before → List ℕ → Bool
 is_type_before b name = is_among name b.enums || is_among name b.messages
 
@@ -187,7 +187,7 @@ is_duplicate b (Message name) = is_type_before b name
 is_duplicate b (Field f) = is_field_before b.open_part f.name || repeats_number b.open_part f.number
 is_duplicate b (Method m) = is_among (method_key m) b.methods
 
--- UnknownType: a type that no line names
+-- UnknownType: a type that no line declares
 abbrev pub is_unknown_kind : Types → KindWord → Bool
 is_unknown_kind t (kinds.Scalar k) = false
 is_unknown_kind t (kinds.Message name) = not (is_among name t.messages)
@@ -211,7 +211,7 @@ abbrev pub is_map_key : Line → Bool
 is_map_key (Field f) = is_map_key_label f.label
 is_map_key _ = false
 
--- Limit: a name or a full name that is too long, one part too many, or too many bytes up to the line's end
+-- Limit: a name or a full name that is too long, one part too many, or too many bytes up to the end of the line
 abbrev pub is_short_kind : KindWord → Bool
 is_short_kind (kinds.Scalar k) = true
 is_short_kind (kinds.Message name) = is_short_full name
@@ -245,8 +245,8 @@ is_full b (Method m) = nat_le MAX_METHODS (length b.methods)
 abbrev pub is_limit : Before → ℕ → Line → Bool
 is_limit b bytes l = (not (has_short_names l) || is_full b l) || nat_lt MAX_TEXT bytes
 
--- the first reason of the list that stands against a line, given the types of the text, what stands
--- before it, and the number of bytes up to its end
+-- the first reason for which a line is at fault, given the types of the text, the names before it, and the number of
+-- bytes up to its end
 abbrev pub line_fault : Types → Before → ℕ → Option Line → Option TableReason
 line_fault t b bytes None = Some Syntax
 line_fault t b bytes (Some l) =
@@ -258,14 +258,14 @@ line_fault t b bytes (Some l) =
     else if is_limit b bytes l then Some Limit
     else None
 
--- the same of the end of the text: a rest without a line feed, an enum that lacks a value or a value 0
+-- like `line_fault`, for the end of the text: a remainder without a line feed, an enum that lacks a value or a value 0
 abbrev pub end_fault : Before → List ℕ → Option TableReason
 end_fault b rest =
     if not (is_empty rest) || lacks_value b.open_part then Some Syntax
     else if lacks_zero b.open_part then Some Number
     else None
 
--- what stands against the line behind the first i whole lines
+-- the first reason for which the line after i whole lines is at fault
 abbrev pub fault_behind : List (List ℕ) → List ℕ → ℕ → Option TableReason
 fault_behind lines rest i =
     option_map_or
@@ -276,13 +276,13 @@ fault_behind lines rest i =
 abbrev pub fault_at : List ℕ → ℕ → Option TableReason
 fault_at text i = fault_behind (whole_lines text) (rest_of text) i
 
--- the line is the first that the tests find at fault, counted from 1, and this is the first reason found
+-- the line is the first at fault by the tests, counted from 1, and this is the first reason found
 pub record IsFirstJudged (text : List ℕ) (line : ℕ) (reason : TableReason) : Type 0 where
   pub counted : 0 < line
   pub here : fault_at text (line - 1) ≡ Some reason
   pub none_before : (i : ℕ) → i + 1 < line → fault_at text i ≡ None
 
--- what a fault says of a text; running out of memory says nothing
+-- what a fault means of a text by the tests; running out of memory depends on no text
 abbrev pub IsJudgedOf : List ℕ → TableFault → Type 0
 IsJudgedOf text (fault.At line reason) = IsFirstJudged text line reason
 IsJudgedOf text fault.Memory = Unit {0}

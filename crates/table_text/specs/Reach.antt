@@ -1,6 +1,6 @@
--- The code's own: the types by which the lines of a text are judged while it is read (this project's own). None is read
--- behind the line that passes the largest size of a text. So the types that the lines up to it name, and of those that
--- later lines name the ones that they use, are as good as all the types of the text.
+-- The code's own: the types by which the lines of a text are checked while it is read (this project's own). No line is
+-- read after the one that passes the largest size of a text. So it suffices to know the types that the lines up to it
+-- declare, and those that later lines declare and these lines use.
 use Rattle.std.specs.Prelude.{◌≡◌, ℕ, ◌<◌, List, [], ◌∷◌, ◌++◌, codes, Option, Some, None, option_and_then, if◌then◌else◌, slice_get}
 use Rattle.std.specs.List.{filter_map, flat_map}
 use Rattle.mrpc_table.specs.Lines.{whole_lines}
@@ -42,12 +42,12 @@ used_in lines = flat_map (λ line. used_by_line (line_of line)) lines
 
 -- ---- the types that are known
 
--- what stands behind a prefix, where it is among the names
+-- the suffix after a prefix, if it is one of the names
 abbrev pub used_behind : List (List ℕ) → List ℕ → List ℕ → Option (List ℕ)
 used_behind names prefix line =
     option_and_then (λ name. if is_among name names then Some name else None) (behind prefix line)
 
--- the types that the near lines name, and those of the far lines that the near ones use
+-- the types that the near lines declare, and those of the far lines that the near ones use
 abbrev pub types_near : List (List ℕ) → List (List ℕ) → Types
 types_near near far = record {
   enums = filter_map (behind (codes "enum ")) near ++ filter_map (used_behind (used_in near) (codes "enum ")) far;
@@ -55,23 +55,24 @@ types_near near far = record {
       filter_map (behind (codes "message ")) near ++ filter_map (used_behind (used_in near) (codes "message ")) far;
 }
 
--- a text whose near lines pass the largest size, and what stands behind them
+-- a text whose near lines exceed the largest size, and the far lines after them
 pub record AreLongParts (text near far : List ℕ) : Type 0 where
   pub lines : whole_lines text ≡ whole_lines near ++ whole_lines far
   pub passes : MAX_TEXT < bytes_of (whole_lines near)
 
--- no fault stands before the line behind the first i
+-- the first i lines have no fault
 abbrev pub IsReached : List ℕ → ℕ → Type 0
 IsReached text i = (j : ℕ) → j < i → fault_at text j ≡ None
 
--- types by which each line that is reached is judged as by those of the text; they are those of a text without a fault
+-- types by which each line that is reached is checked like by those of the text; for a text without a fault they are
+-- those of the text
 pub record Serves (t : Types) (text : List ℕ) : Type 0 where
   pub judges : (i : ℕ) (line : List ℕ) (before : Before) (bytes : ℕ) → IsReached text i
       → slice_get (whole_lines text) i ≡ Some line
       → line_fault t before bytes (line_of line) ≡ line_fault (types_of (whole_lines text)) before bytes (line_of line)
   pub whole : ((i : ℕ) → fault_at text i ≡ None) → t ≡ types_of (whole_lines text)
 
--- these enums and messages are held for the text
+-- these enums and messages are kept for the text
 pub record AreKnown (text : List ℕ) (enums messages : Places) : Type 0 where
   pub types : Types
   pub held_enums : Holds enums types.enums

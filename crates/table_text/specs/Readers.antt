@@ -1,4 +1,4 @@
--- The code's own: what the names beside a draft say of it.
+-- The code's own: how the names that a reader keeps relate to its draft.
 use Rattle.table_text.specs.Judged.{Types}
 use Rattle.table_text.specs.Places.{Holds}
 use Rattle.table_text.specs.Drafts.{enum_names, message_names, method_names, names_in, open_part, oneofs_of}

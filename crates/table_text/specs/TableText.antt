@@ -1,8 +1,9 @@
--- The text of a table within a text: behind some first lines, and up to a line `end`.
+-- The text of a table within a text: after a head, and up to a line `end`.
 use Rattle.std.specs.Prelude.{◌≡◌, ◌≢◌, ◌⊎◌, ℕ, List, [], ◌∷◌, ◌++◌, codes, All, Contains}
 use Rattle.std.specs.List.{flat_map}
 
--- the text is the head, the table's text, the first line `end`, and the rest; the table's text is whole lines
+-- the text is the head, the table's text, the first line `end`, and the remainder; the table's text consists of whole
+-- lines
 pub record HasTableBehind (head text table rest : List ℕ) : Type 0 where
   -- without their line feeds
   pub lines : List (List ℕ)
@@ -16,6 +17,6 @@ pub record IsEndless (head text table : List ℕ) : Type 0 where
   pub text_is : text ≡ head ++ table
   pub endless : (other rest : List ℕ) → HasTableBehind head text other rest → ⊥
 
--- this is the text of the table behind the head: up to the first line `end`, or all the rest where none is
+-- this is the text of the table after the head: up to the first line `end`, or all of the remainder if there is none
 abbrev pub IsTableBehind : (head text table : List ℕ) → Type 0
 IsTableBehind head text table = ((rest : List ℕ) × HasTableBehind head text table rest) ⊎ IsEndless head text table

@@ -18,14 +18,14 @@ use std::cmp::Ordering;
 use std::mem;
 use table_lines::Whole;
 
-// The enum or the message to which a line may add.
+// The enum or message that a line may extend.
 pub(crate) enum Open {
     Nothing,
     Enum(Choices),
     Message(Message),
 }
 
-// The parts that are whole, and the one that is open.
+// The finished parts, and the open one.
 pub(crate) struct Draft {
     pub enums: Enums,
     pub messages: Messages,
@@ -64,7 +64,7 @@ fn add_parts(message: &mut Message, field: Field, oneof: Option<Name>) -> Result
     }
 }
 
-// A name is below another, byte by byte.
+// Whether a name is below another, byte by byte.
 fn is_below<'a>(name: &'a [u8], other: &'a [u8]) -> bool
     ensures { result ≡ is_below name.now other.now }
 {
@@ -113,7 +113,7 @@ fn is_below_last_message(name: &[u8], messages: &[Message]) -> bool
 }
 
 impl Open {
-    // An enum without a value.
+    // Whether this is an enum without a value.
     pub(crate) fn lacks_value(&self) -> bool
         ensures { result ≡ lacks_value (open_part self.now) }
     {
@@ -123,7 +123,7 @@ impl Open {
         }
     }
 
-    // An enum without a value 0.
+    // Whether this is an enum without a value 0.
     pub(crate) fn lacks_zero(&self) -> bool
         ensures { result ≡ lacks_zero (open_part self.now) }
     {
@@ -133,7 +133,7 @@ impl Open {
         }
     }
 
-    // A value doesn't go on with an enum, or is below its last one.
+    // Whether a value can't follow: no enum is open, or it is below the enum's last value.
     pub(crate) fn value_falls(&self, number: Whole, name: &[u8]) -> bool
         ensures { result ≡ value_falls (open_part self.now) number name.now }
     {
@@ -146,7 +146,7 @@ impl Open {
         }
     }
 
-    // A field doesn't go on with a message, or its number is below that of the last one.
+    // Whether a field can't follow: no message is open, or its number is below that of the last field.
     pub(crate) fn field_falls(&self, number: Option<u32>) -> bool
         ensures { result ≡ field_falls (open_part self.now) number }
     {
@@ -159,7 +159,7 @@ impl Open {
         }
     }
 
-    // A field has the number of the last one.
+    // Whether a field has the number of the last field.
     pub(crate) fn repeats_number(&self, number: Option<u32>) -> bool
         ensures { result ≡ repeats_number (open_part self.now) number }
     {
@@ -182,7 +182,7 @@ impl Open {
         }
     }
 
-    // Adds a field to a message, and its oneof, where that is new.
+    // Adds a field to a message, and its oneof if that is new.
     pub(crate) fn add_field(&mut self, field: Field, oneof: Option<Name>) -> Result<(), Memory>
         ensures { OnOk result (self.new ≡ with_parts self.old field oneof) }
     {
@@ -192,7 +192,7 @@ impl Open {
         }
     }
 
-    // Puts the part among the whole ones.
+    // Moves the part to the finished ones.
     fn join(self, enums: &mut Enums, messages: &mut Messages) -> Result<(), Memory>
         ensures enums { OnOk result (enums.new ≡ with_enum self enums.old) }
         ensures messages { OnOk result (messages.new ≡ with_message self messages.old) }
@@ -217,7 +217,7 @@ impl Open {
 }
 
 impl Draft {
-    // Nothing yet.
+    // An empty draft.
     pub(crate) fn new(alloc: Global) -> Draft
         ensures { result ≡ empty_draft }
     {
@@ -229,7 +229,7 @@ impl Draft {
         }
     }
 
-    // The name is below that of the last enum.
+    // Whether the name is below that of the last enum.
     pub(crate) fn enum_falls(&self, name: &[u8]) -> bool
         ensures { result ≡ falls name.now (enum_names self.now) }
     {
@@ -239,7 +239,7 @@ impl Draft {
         }
     }
 
-    // The name is below that of the last message.
+    // Whether the name is below that of the last message.
     pub(crate) fn message_falls(&self, name: &[u8]) -> bool
         ensures { result ≡ falls name.now (message_names self.now) }
     {
@@ -249,7 +249,7 @@ impl Draft {
         }
     }
 
-    // There is a message.
+    // Whether there is a message.
     pub(crate) fn has_messages(&self) -> bool
         ensures { result ≡ not (is_empty (message_names self.now)) }
     {
@@ -259,7 +259,7 @@ impl Draft {
         }
     }
 
-    // There are as many enums as a table may have.
+    // Whether there are as many enums as a table may have.
     pub(crate) fn is_full_of_enums(&self) -> bool
         ensures { result ≡ nat_le MAX_ENUMS (length (enum_names self.now)) }
     {
@@ -269,7 +269,7 @@ impl Draft {
         }
     }
 
-    // There are as many messages as a table may have.
+    // Whether there are as many messages as a table may have.
     pub(crate) fn is_full_of_messages(&self) -> bool
         ensures { result ≡ nat_le MAX_MESSAGES (length (message_names self.now)) }
     {
@@ -279,14 +279,14 @@ impl Draft {
         }
     }
 
-    // Puts the open part among the whole ones.
+    // Moves the open part to the finished ones.
     pub(crate) fn close(&mut self) -> Result<(), Memory>
         ensures { OnOk result (self.new ≡ closed self.old) }
     {
         mem::replace(&mut self.open_part, Open::Nothing).join(&mut self.enums, &mut self.messages)
     }
 
-    // The table of the parts, the open one among them.
+    // The table of all parts, the open one included.
     pub(crate) fn into_table(mut self) -> Result<Table, Memory>
         ensures { IfOk result (λ t. t ≡ table_of self) }
     {

@@ -8,23 +8,22 @@ use std::alloc::{AllocError, AllocFailed};
 use std::fmt;
 use thiserror::Error;
 
-/// What is wrong with a line. Of several reasons at one line, the first of this list counts.
+/// What is wrong with a line. If a line has several reasons, the first of this list counts.
 #[derive(Clone, Copy, Debug)]
 pub enum TableReason {
-    /// The form or the order of lines, a label that doesn't go with its kind, or an enum without a
-    /// value.
+    /// A line has the wrong form or is out of order, a label doesn't go with its kind, or an enum has no value.
     Syntax,
-    /// A field number out of 1 to 536870911 or in 19000 to 19999, an enum's number out of 32 signed
-    /// bits, an enum without a value 0, or a method's index out of turn.
+    /// A field number is outside 1 to 536870911 or within 19000 to 19999, an enum value isn't a signed 32-bit number,
+    /// an enum has no value 0, or the index of a method isn't the next one.
     Number,
-    /// A name or a field number that stands twice.
+    /// A name or a field number occurs twice.
     Duplicate,
-    /// A message or an enum that no line of the text names.
+    /// No line of the text declares the message or enum.
     UnknownType,
-    /// A map key that is neither integral, nor a bool, nor a string.
+    /// The key of a map is neither integral, nor a bool, nor a string.
     MapKey,
-    /// More than 256 messages, enums or methods, 128 fields of a message, 1024 values of an enum,
-    /// 64 bytes of a name, 255 bytes of a full name, or 65536 bytes of text.
+    /// A limit is exceeded: 256 messages, enums or methods, 128 fields of a message, 1024 values of an enum, 64 bytes
+    /// of a name, 255 bytes of a full name, or 65536 bytes of text.
     Limit,
 }
 
@@ -34,7 +33,7 @@ pub enum TableFault {
     /// The first line at fault, from 1, with its first reason.
     #[error("line {line}: {reason}")]
     At { line: u64, reason: TableReason },
-    /// No memory was found.
+    /// Out of memory.
     #[error("out of memory")]
     Memory,
 }

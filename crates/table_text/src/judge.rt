@@ -1,4 +1,4 @@
-//! What stands against a line.
+//! The reasons for which a line is at fault.
 
 ghost use Rattle.std.specs.Prelude.{◌≡◌, ◌<◌, ◌++◌, ◌∷◌, ℕ, [], length, not, IfOk, OnOk, Some};
 ghost use Rattle.mrpc_table.specs.Names.{is_short, is_short_full};
@@ -45,7 +45,7 @@ fn is_index(index: Option<u32>, count: usize) -> bool
     }
 }
 
-// The order of lines, a label that clashes with its kind, an enum without a value.
+// A line out of order, a label that doesn't go with its kind, or an enum without a value.
 pub(crate) fn is_syntax(draft: &Draft, line: &Line) -> bool
     ensures { result ≡ is_syntax (before draft.now) line.now }
 {
@@ -68,7 +68,7 @@ pub(crate) fn is_syntax(draft: &Draft, line: &Line) -> bool
     }
 }
 
-// A number out of its range, an enum without a value 0, an index out of turn.
+// A number out of its range, an enum without a value 0, or an index that isn't the next one.
 pub(crate) fn is_number(draft: &Draft, line: &Line) -> bool
     ensures { result ≡ is_number (before draft.now) line.now }
 {
@@ -92,7 +92,7 @@ fn is_key_kind(kind: &KindWord) -> bool
     }
 }
 
-// A key that is neither integral, nor a bool, nor a string.
+// A map key that is neither integral, nor a bool, nor a string.
 pub(crate) fn is_map_key(line: &Line) -> bool
     ensures { result ≡ is_map_key line.now }
 {
@@ -160,7 +160,7 @@ fn is_full(draft: &Draft, line: &Line) -> bool
     }
 }
 
-// A name that is too long, one part too many, or too many bytes up to the line's end.
+// A name that is too long, one part too many, or too many bytes up to the end of the line.
 pub(crate) fn is_limit(draft: &Draft, bytes: usize, line: &Line) -> bool
     ensures { result ≡ is_limit (before draft.now) bytes line.now }
 {

@@ -1,8 +1,8 @@
-//! Tables from their canonical text (this project's own format).
+//! Reads tables from their canonical text (this project's own format).
 //!
-//! It stands on `mrpc_table`, which says what a valid table is and what its text, and on `table_lines`, which says what a
-//! line of a text says. The layers above use one contract: a valid table and its text determine each other, and a text
-//! that is none has one first fault.
+//! This crate depends on `mrpc_table`, which defines valid tables and their text, and on `table_lines`, which parses
+//! the lines of a text. The layers above use one contract: a valid table and its text determine each other, and any
+//! other text has exactly one first fault.
 #![tactic(auto)]
 
 mod draft;

@@ -1,4 +1,4 @@
-//! Names with their places, found by an ordered map.
+//! Names with their indices, in an ordered map.
 
 ghost use Rattle.std.specs.Prelude.{◌≡◌, ◌++◌, ◌∷◌, ℕ, List, [], length, option_map, if◌then◌else◌, OnOk};
 ghost use Rattle.std.specs.Option.{option_or};
@@ -10,7 +10,7 @@ use mrpc_table::Memory;
 use std::alloc::Global;
 use std::collections::BTreeMap;
 
-// Names in the order in which they were added, each with the place at which it first stands.
+// Names in the order in which they were added, each with its first index.
 #[derive(Drop)]
 pub(crate) struct Places {
     places: BTreeMap<Vec<u8>, u32>,
@@ -35,7 +35,7 @@ impl Places {
         self.count == 0
     }
 
-    // The first place of a name.
+    // The first index of a name.
     pub(crate) fn place(&self, name: &[u8]) -> Option<u32>
         ensures { (names : List (List ℕ)) → Holds self.now names
             → result ≡ option_map in_range (place_from 0 name.now names) }
@@ -49,14 +49,14 @@ impl Places {
         self.places.get(name).copied()
     }
 
-    // Whether the name is among these.
+    // Whether the name is one of these.
     pub(crate) fn contains(&self, name: &[u8]) -> bool
         ensures { (names : List (List ℕ)) → Holds self.now names → result ≡ is_among name.now names }
     {
         self.place(name).is_some()
     }
 
-    // The place that a name has or would get.
+    // The index that a name has, or would get next.
     pub(crate) fn place_or_next(&self, name: &[u8]) -> u32
         ensures { (names : List (List ℕ)) → Holds self.now names → result ≡ place name.now names }
     {
@@ -76,7 +76,7 @@ impl Places {
         Ok(())
     }
 
-    // Gives a new name the next place.
+    // Gives a new name the next index.
     fn keep(&mut self, alloc: Global, name: &[u8]) -> Result<(), Memory>
         ensures places { OnOk result ((q : List ℕ) → place_in self.new q
             ≡ option_or (place_in self.old q) (if bytes_eq q name.now then Some self.old.count else None)) }

@@ -1,4 +1,4 @@
-//! The types that a text names, as far as its lines can be read.
+//! The types that a text names, as far as its lines need to be read.
 
 ghost use Rattle.std.specs.Prelude.{◌++◌, ℕ, List, IfOk, IfSome, OnOk};
 ghost use Rattle.std.specs.List.{filter_map};
@@ -13,7 +13,7 @@ use mrpc_table::{MAX_TEXT, Memory, cut};
 use std::alloc::Global;
 use table_lines::{KindWord, LabelWord, Line, behind, line_of};
 
-// What stands behind a prefix in the whole lines of a text.
+// The suffixes of the whole lines of a text that have a prefix.
 fn names_behind(alloc: Global, prefix: &[u8], text: &[u8]) -> Result<Places, Memory>
     ensures { IfOk result (λ p. Holds p (filter_map (behind prefix.now) (whole_lines text.now))) }
 {
@@ -99,7 +99,7 @@ fn add_kind(alloc: Global, names: &mut Places, kind: &KindWord) -> Result<(), Me
     }
 }
 
-// What stands behind a prefix in the near lines, and what stands so in the far ones where it is used.
+// The suffixes of the near lines that have a prefix, and those of the far lines that are used.
 fn names_within(
     alloc: Global,
     prefix: &[u8],
@@ -142,7 +142,7 @@ fn add_used_behind(
     names.add(alloc, name)
 }
 
-// The lines up to the first that ends past the largest size of a text, and what stands behind it.
+// The lines up to the first that ends past the largest size of a text, and the lines after it.
 fn long_parts(text: &[u8]) -> Option<(&[u8], &[u8])>
     ensures { IfSome result (λ p. AreLongParts text.now p.0.now p.1.now) }
 {
@@ -170,9 +170,9 @@ fn known_near(alloc: Global, near: &[u8], far: &[u8]) -> Result<(Places, Places)
     Ok((enums, messages))
 }
 
-// The enums and the messages by which the lines of a text are judged. A text that is too long has a fault
-// at the line that passes the largest size, or before: of the lines behind that one only those types are
-// held which the lines up to it use.
+// The enums and messages by which the lines of a text are checked. A text that is too long has a fault at the line that
+// passes the largest size, or earlier. So of the types in later lines, only those are kept that the lines up to that
+// one use.
 pub(crate) fn known_types(alloc: Global, text: &[u8]) -> Result<(Places, Places), Memory>
     ensures { IfOk result (λ p. AreKnown text.now p.0 p.1) }
 {

@@ -35,14 +35,14 @@ fn read_lines(alloc: Global, text: &[u8]) -> Result<Table, TableFault>
     reader.finish(rest, number)
 }
 
-/// The table of a canonical text (this project's own format), as [`crate::table_text`] writes it: enums
-/// with their values, messages with their fields, and methods, a line for each. A text that is none is
-/// refused with the first line at fault, and the first reason that stands against it. A text without a
-/// byte is the table without anything. `TableFault::Memory` comes where memory runs out.
+/// Reads a table from its canonical text (this project's own format), as [`crate::table_text`] writes it: enums with
+/// their values, messages with their fields, and methods, a line for each. Any other text is rejected with the first
+/// line at fault and its first reason. The empty text is the empty table. `TableFault::Memory` is returned if it is out
+/// of memory.
 pub fn read_table(alloc: Global, text: &[u8]) -> Result<Table, TableFault>
-    // What is read is valid, and the text is its canonical text.
+    // The table is valid, and the text is its canonical text.
     ensures accepted { IfOk result (λ t. IsValid t × (text.now ≡ table_text t)) }
-    // The canonical text of a valid table gives this table, unless memory runs out.
+    // The canonical text of a valid table gives this table, unless it is out of memory.
     ensures only { (t : Table) → IsValid t → text.now ≡ table_text t
         → MatchResult result (λ read. read ≡ t) (λ fault. fault ≡ NoMemory) }
     // A fault is the first one of the text.
@@ -51,13 +51,12 @@ pub fn read_table(alloc: Global, text: &[u8]) -> Result<Table, TableFault>
     read_lines(alloc, text)
 }
 
-/// The canonical text of a valid table determines it: two valid tables with one text are equal.
+/// The canonical text of a valid table determines it: two valid tables with the same text are equal.
 pub fn one_text()
     ensures { HaveOneTextEach }
 {}
 
-/// A text has one first fault at most, on one of its lines or right behind them, and the canonical text
-/// of a valid table has none.
+/// A text has at most one first fault, at one of its lines or at its end. The canonical text of a valid table has none.
 pub fn one_fault()
     ensures one { (text : List ℕ) (m n : ℕ) (r q : TableReason) → IsFirstFault text m r → IsFirstFault text n q
         → (m ≡ n) × (r ≡ q) }

@@ -1,4 +1,4 @@
-//! A draft with the names that were met.
+//! A draft with the names so far.
 
 ghost use Rattle.std.specs.Prelude.{◌≡◌, ◌++◌, ◌∷◌, ℕ, List, [], length, IfOk, IfErr, OnOk, Some, None};
 ghost use Rattle.table_lines.specs.declared.line.Line.TheVariants.{Enum, Value};
@@ -18,9 +18,8 @@ use mrpc_table::{
 use std::alloc::Global;
 use table_lines::{FieldLine, KindWord, LabelWord, Line, MethodLine, Whole, line_of};
 
-// A table while its text is read, with the types that the text names, and the names so far: of enums,
-// of messages, of methods with their services, of the values or fields of the open part, and of its
-// oneofs.
+// A table while its text is read. It has the types that the text names, and the names so far: of enums, of messages, of
+// methods with their services, of the values or fields of the open part, and of its oneofs.
 pub(crate) struct Reader {
     pub known_enums: Places,
     pub known_messages: Places,
@@ -47,7 +46,7 @@ impl Drop for Reader {
     }
 }
 
-// A service and a name, with a space between.
+// A service and a method name, with a space between them.
 fn key_of(alloc: Global, method: &MethodLine) -> Result<Bytes, Memory>
     ensures { IfOk result (λ key. key ≡ method_key method.now) }
 {
@@ -58,7 +57,7 @@ fn key_of(alloc: Global, method: &MethodLine) -> Result<Bytes, Memory>
 }
 
 impl Reader {
-    // Nothing read yet, of a text that names these types.
+    // A reader before the first line, for a text that names these types.
     pub(crate) fn new(alloc: Global, known_enums: Places, known_messages: Places) -> Reader
         ensures kept { (t : Types) → Holds known_enums t.enums → Holds known_messages t.messages → IsKept t result }
         ensures nothing { result.draft ≡ empty_draft }
@@ -101,7 +100,7 @@ impl Reader {
         }
     }
 
-    // A name or a field number that stands before.
+    // Whether a name or a field number occurred before.
     fn is_duplicate(&self, alloc: Global, line: &Line) -> Result<bool, Memory>
         ensures { (t : Types) → IsKept t self.now
             → IfOk result (λ r. r ≡ is_duplicate (before self.now.draft) line.now) }
@@ -143,7 +142,7 @@ impl Reader {
         }
     }
 
-    // A type that no line names.
+    // Whether no line declares a type that the line uses.
     fn is_unknown(&self, line: &Line) -> bool
         ensures { (t : Types) → IsKept t self.now → result ≡ is_unknown t line.now }
     {
@@ -159,7 +158,7 @@ impl Reader {
         }
     }
 
-    // The first reason that stands against a line, whose end is this far into the text.
+    // The first reason for which a line is at fault; `bytes` is the offset of the line's end in the text.
     pub(crate) fn fault_of(
         &self,
         alloc: Global,
@@ -190,7 +189,7 @@ impl Reader {
         Ok(None)
     }
 
-    // Takes the line of a number, whose end is this far into the text.
+    // Reads the line with this number; `bytes` is the offset of the line's end in the text.
     pub(crate) fn take(
         &mut self,
         alloc: Global,
@@ -222,7 +221,7 @@ impl Reader {
         Ok(())
     }
 
-    // Adds what the line says. Of a line that no fault stands against nothing is lost.
+    // Adds a line to the draft. A line without a fault is added without loss.
     fn add(&mut self, alloc: Global, line: Line) -> Result<(), Memory>
         ensures draft { (t : Types) → IsKept t self.old
             → OnOk result (self.new.draft ≡ added t self.old.draft line) }
@@ -237,7 +236,7 @@ impl Reader {
         }
     }
 
-    // What stands against the end of the text.
+    // The first reason for which the end of the text is at fault.
     fn end_fault(&self, rest: &[u8]) -> Option<TableReason>
         ensures { result ≡ end_fault (before self.now.draft) rest.now }
     {
@@ -250,7 +249,7 @@ impl Reader {
         }
     }
 
-    // The table, where nothing stands against the end of the text, which is the line of a number.
+    // The table, if the end of the text, which is the line with this number, isn't at fault.
     pub(crate) fn finish(self, rest: &[u8], number: u64) -> Result<Table, TableFault>
         ensures clean { OnOk result (end_fault (before self.draft) rest.now ≡ None) }
         ensures table { IfOk result (λ t. t ≡ table_of self.draft) }
@@ -282,7 +281,7 @@ impl Reader {
         draft
     }
 
-    // Begins an enum.
+    // Starts an enum.
     fn add_enum(&mut self, alloc: Global, name: Name) -> Result<(), Memory>
         ensures draft { OnOk result (self.new.draft ≡ added_enum self.old.draft name) }
         ensures kept { (t : Types) → IsKept t self.old → OnOk result (IsKept t self.new) }
@@ -298,7 +297,7 @@ impl Reader {
         Ok(())
     }
 
-    // Begins a message.
+    // Starts a message.
     fn add_message(&mut self, alloc: Global, name: Name) -> Result<(), Memory>
         ensures draft { OnOk result (self.new.draft ≡ added_message self.old.draft name) }
         ensures kept { (t : Types) → IsKept t self.old → OnOk result (IsKept t self.new) }
@@ -315,7 +314,7 @@ impl Reader {
         Ok(())
     }
 
-    // Adds a value to the enum that is open.
+    // Adds a value to the open enum.
     fn add_value(&mut self, alloc: Global, number: Whole, name: Name) -> Result<(), Memory>
         ensures draft { OnOk result (self.new.draft ≡ added_value self.old.draft number name) }
         ensures kept { (t : Types) → IsKept t self.old → OnOk result (IsKept t self.new) }
@@ -344,7 +343,7 @@ impl Reader {
         self.draft.methods.push(method)
     }
 
-    // The kind that a word names, by its place in the table.
+    // The kind that a word names, with the index of its type in the table.
     fn resolved(&self, kind: &KindWord) -> Kind
         ensures { (t : Types) → IsKept t self.now → result ≡ resolved t kind.now }
     {
@@ -359,7 +358,7 @@ impl Reader {
         }
     }
 
-    // The label that a word names, by the place of its oneof in the message.
+    // The label that a word names, with the index of its oneof in the message.
     fn labeled(&self, label: &LabelWord) -> Label
         ensures { (t : Types) → IsKept t self.now → result ≡ labeled t (oneofs_of self.now.draft.open_part) label.now }
     {
@@ -388,7 +387,7 @@ impl Reader {
         }
     }
 
-    // The oneof of a label, where the open message doesn't have it yet.
+    // The oneof of a label, if the open message doesn't have it yet.
     fn new_oneof(&self, alloc: Global, label: &LabelWord) -> Result<Option<Name>, Memory>
         ensures { (t : Types) → IsKept t self.now
             → IfOk result (λ r. r ≡ new_oneof (oneofs_of self.now.draft.open_part) label.now) }
@@ -405,7 +404,7 @@ impl Reader {
         }
     }
 
-    // Adds a field to the message that is open.
+    // Adds a field to the open message.
     fn add_field(&mut self, alloc: Global, line: FieldLine) -> Result<(), Memory>
         ensures draft { (t : Types) → IsKept t self.old
             → OnOk result (self.new.draft ≡ added_field t self.old.draft line) }
@@ -425,7 +424,7 @@ impl Reader {
     }
 }
 
-// A method, with the places of its messages among these.
+// A method, with the indices of its messages.
 fn method_of(messages: &Places, line: MethodLine) -> Method
     ensures { (t : Types) → Holds messages.now t.messages → result ≡ method_of t line }
 {
@@ -443,7 +442,7 @@ fn add_key(alloc: Global, names: &mut Places, method: &MethodLine) -> Result<(),
     names.add(alloc, key.as_slice())
 }
 
-// Adds a oneof, where there is a new one.
+// Adds a oneof, if there is a new one.
 fn add_oneof(alloc: Global, oneofs: &mut Places, oneof: &Option<Name>) -> Result<(), Memory>
     ensures { (old : List (List ℕ)) → Holds oneofs.old old
         → OnOk result (Holds oneofs.new (joined_with old oneof.now)) }

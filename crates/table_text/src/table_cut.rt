@@ -8,15 +8,15 @@ ghost use Rattle.table_text.specs.TableText.{HasTableBehind, IsEndless};
 
 use mrpc_table::cut;
 
-// The line behind the text of a table.
+// The line after the text of a table.
 const END: &[u8] = b"end";
 
-/// The text of the table that stands behind the head, up to the first line `end`, and what stands behind that line.
-/// None where the head doesn't stand first, or no line `end` follows.
+/// Splits a text: after `head`, returns the text of a table up to the first line `end`, and the remainder after that
+/// line. `None` if the text lacks the head, or has no line `end` after it.
 pub fn split_table<'a>(text: &'a [u8], head: &[u8]) -> Option<(&'a [u8], &'a [u8])>
-    // The parts stand so in the text.
+    // The text has these parts.
     ensures found { IfSome result (λ p. HasTableBehind head.now text.now p.0.now p.1.now) }
-    // Parts that stand so are found, and no others do.
+    // Such parts are found, and no others.
     ensures only { (table rest : List ℕ) → HasTableBehind head.now text.now table rest
         → MatchOption result ⊥ (λ p. (p.0.now ≡ table) × (p.1.now ≡ rest)) }
 {
@@ -38,8 +38,8 @@ fn split_at_end(text: &[u8]) -> Option<(&[u8], &[u8])>
     None
 }
 
-/// Behind a head stands the text of one table at most: what stands up to the first line `end`. Either one stands there,
-/// or no line `end` follows. The canonical text of a valid table has no line `end`.
+/// At most one table text follows a head: the text up to the first line `end`. Either there is one, or no line `end`
+/// follows. The canonical text of a valid table has no line `end`.
 pub fn one_table_behind()
     ensures one { (head text table rest other more : List ℕ) → HasTableBehind head text table rest
         → HasTableBehind head text other more → (other ≡ table) × (more ≡ rest) }

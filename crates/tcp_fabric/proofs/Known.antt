@@ -1,4 +1,4 @@
--- Bytes that a socket tells, as they grow.
+-- How the bytes that a socket knows grow.
 use Rattle.std.proofs.Common.{◌≡◌, ◌≢◌, ℕ, List, [], ◌∷◌, ◌++◌, Option, Some, None, IfSome, refl, ap, sym, ◌∙◌, append_assoc}
 use Rattle.std.specs.Io.KnownBytes.{append_known}
 use Rattle.std.specs.List.{concat}
@@ -24,19 +24,19 @@ append_known-more (Some bytes) xs ys = ap Some (append_assoc bytes xs ys)
 pub concat-snoc : (frames : List (List ℕ)) (frame : List ℕ) → concat (frames ++ frame ∷ []) ≡ concat frames ++ frame
 concat-snoc frames frame = concat-append frames (frame ∷ []) ∙ ap (λ bytes. concat frames ++ bytes) (append-nil frame)
 
--- a frame more was taken, whole
+-- one more frame was taken completely
 pub sent-whole : (sent now : Option (List ℕ)) (frames : List (List ℕ)) (frame : List ℕ)
     → IfSome sent (λ bytes. bytes ≡ concat frames) → now ≡ append_known sent frame
     → IfSome now (λ bytes. bytes ≡ concat (frames ++ frame ∷ []))
 sent-whole None now frames frame is grew = rw grew tt
 sent-whole (Some bytes) now frames frame is grew = rw grew (ap (λ front. front ++ frame) is ∙ sym (concat-snoc frames frame))
 
--- what was taken begins with the frames, where it is them
+-- if what was taken is the frames, the frames are a prefix of it
 pub sent-front : (sent : Option (List ℕ)) (frames : List (List ℕ)) → IfSome sent (λ bytes. bytes ≡ concat frames) → IfSome sent (λ bytes. IsPrefix (concat frames) bytes)
 sent-front None frames is = tt
 sent-front (Some bytes) frames is = ([], append-nil (concat frames) ∙ sym is)
 
--- what came and was received stands in order
+-- bytes that arrived and were received are in order
 pub came-in-order : (came now : Option (List ℕ)) (pieces : List (List ℕ)) (piece waiting left : List ℕ)
     → IfSome came (λ bytes. bytes ≡ concat pieces ++ waiting) → Receives piece came waiting now left
     → IfSome now (λ bytes. bytes ≡ concat (pieces ++ piece ∷ []) ++ left)
@@ -45,7 +45,7 @@ came-in-order (Some bytes) now pieces piece waiting left is (read, grew, moved) 
     rw grew (ap (λ front. front ++ read) is ∙ append_assoc (concat pieces) waiting read ∙ ap (λ rest. concat pieces ++ rest) moved
     ∙ sym (append_assoc (concat pieces) piece left) ∙ ap (λ front. front ++ left) (sym (concat-snoc pieces piece)))
 
--- what came waits behind what waited
+-- bytes that arrived are read ahead after the earlier ones
 pub came-waits : (came now : Option (List ℕ)) (given waiting left : List ℕ)
     → IfSome came (λ bytes. bytes ≡ given ++ waiting) → Receives [] came waiting now left
     → IfSome now (λ bytes. bytes ≡ given ++ left)
@@ -53,9 +53,9 @@ came-waits None now given waiting left is (read, grew, moved) = rw grew tt
 came-waits (Some bytes) now given waiting left is (read, grew, moved) =
     rw grew (ap (λ front. front ++ read) is ∙ append_assoc given waiting read ∙ ap (λ rest. given ++ rest) moved)
 
--- ---- what an answer without bytes tells
+-- ---- after a result without bytes
 
--- bytes that are known stay
+-- known bytes are unchanged
 pub keeps-none : (came : Came) (given given_now : List ℕ) (other : Type 0) → OnNoneCame came ((given_now ≡ given) × other) → OnNoneCame came (Keeps (Some given) (Some given_now))
 keeps-none (Bytes n) given given_now other told = tt
 keeps-none Idle given given_now other told = told.0
@@ -63,6 +63,6 @@ keeps-none End given given_now other told = told.0
 keeps-none Failed given given_now other told = told.0
 keeps-none Memory given given_now other told = told.0
 
--- a side that is open isn't cut
+-- an open side isn't cut
 pub not-cut : (side : Outgoing) → side ≡ Open → side ≢ Cut
 not-cut side is cut = let e : Open ≡ Cut = sym is ∙ cut in cc (e)

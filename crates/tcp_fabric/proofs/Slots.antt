@@ -1,4 +1,4 @@
--- The values of a slab that gained one.
+-- The values of a slab after one was added.
 use Rattle.std.proofs.Common.{◌≡◌, ◌≢◌, ℕ, zero, suc, List, [], ◌∷◌, Option, Some, None, get_or, IsPermutation, refl, ap, sym, arith}
 use Rattle.std.specs.List.{filter_map, cons_option}
 use Rattle.std.proofs.lemmas.List.Sorted.{IsPermutation-refl, IsPermutation-cons, IsPermutation-trans, IsPermutation-insert}
@@ -7,7 +7,7 @@ module _ {T : Type 0} where
   abbrev values : List (Option T) → List T
   values slots = filter_map (λ slot. slot) slots
 
-  -- slots that have the same values at the same keys
+  -- slots with the same values at the same keys
   same_values : (old new : List (Option T)) → ((key : ℕ) → get_or new key None ≡ get_or old key None) → values new ≡ values old
   same_values [] [] same = refl
   same_values [] (slot ∷ new) same =
@@ -23,7 +23,7 @@ module _ {T : Type 0} where
   swapped : (x y : T) (rest : List T) → IsPermutation (x ∷ y ∷ rest) (y ∷ x ∷ rest)
   swapped x y rest = IsPermutation-insert (y ∷ rest) 1 x
 
-  -- slots of which one gained a value
+  -- slots to which one value was added
   pub one_more : (old new : List (Option T)) (key : ℕ) (x : T) → get_or old key None ≡ None → get_or new key None ≡ Some x
       → ((other : ℕ) → other ≢ key → get_or new other None ≡ get_or old other None) → IsPermutation (values new) (x ∷ values old)
   one_more old [] key x was is others = absurd (cc)

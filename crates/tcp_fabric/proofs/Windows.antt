@@ -1,9 +1,9 @@
--- The bytes between two places of a list.
+-- The bytes between two indices of a list.
 use Rattle.std.proofs.Common.{◌≡◌, ◌≤◌, ℕ, ◌+◌, ◌-◌, List, ◌++◌, length, length-drop, take, drop, ap, sym, ◌∙◌, arith}
 use Rattle.std.proofs.Math.Seq.{take-add, take-append-add, take-append_seam, drop-append_seam}
 use Rattle.std.proofs.lemmas.List.{drop-take, drop-append-le, take-append-le, length-take-le}
 
--- the first bytes are what stands there, and the others stand behind
+-- the first bytes are those at the start of the window, and the others follow
 pub window-given : (room : List ℕ) (start count end : ℕ) → start + count ≤ end → end ≤ length room
     → drop start (take end room) ≡ take count (drop start room) ++ drop (start + count) (take end room)
 window-given room start count end within inside =
@@ -19,7 +19,7 @@ window-given room start count end within inside =
     ap (drop start) whole ∙ drop-append-le start front back early ∙ ap (λ bytes. bytes ++ back)
     (drop-take start count room) ∙ ap (λ bytes. take count (drop start room) ++ bytes) (sym left)
 
--- bytes that were written behind the end stand behind the others
+-- bytes that were written after the window's end follow the others
 pub window-grown : (old room shown buf rest : List ℕ) (start end n : ℕ) → drop start (take end room) ≡ old
     → shown ≡ room → start ≤ end → end ≤ length room → n ≤ length buf
     → old ++ take n buf ≡ drop start (take (end + n) (take end shown ++ (buf ++ rest)))

@@ -3,8 +3,8 @@ use Rattle.std.specs.Prelude.{ℕ, List}
 use Rattle.tcp_fabric.specs.Link.{LinkEnd}
 
 pub record FabricState : Type 0 where
-  -- the links that it has back, each with its connection, and how many ends it opened that it doesn't have back
+  -- the links that it keeps, each with its connection, and how many ends that it opened are in use
   pub back : List (ℕ × LinkEnd)
   pub away : ℕ
-  -- how many openings failed; it stands still at 2^64 - 1
+  -- how many openings failed; saturates at 2^64 - 1
   pub faults : ℕ

@@ -1,4 +1,4 @@
--- One end of a connection, and what its two ends have to do with each other.
+-- One end of a connection, and how the two ends relate.
 use Rattle.std.specs.Prelude.{◌≡◌, ◌≢◌, ℕ, Bool, List, ◌++◌, Option, IfSome}
 use Rattle.std.specs.List.{concat}
 use Rattle.std.specs.Io.KnownBytes.{append_known}
@@ -9,19 +9,19 @@ use Rattle.tcp_fabric.specs.declared.wire.Incoming.{Incoming}
 
 -- one end of a connection
 pub record LinkEnd : Type 0 where
-  -- the bytes that its socket took and gave, where it tells them
+  -- the bytes that its socket took and delivered, if the socket knows them
   pub sent : Option (List ℕ)
   pub came : Option (List ℕ)
-  -- the frames that were handed over, in order, and how the sending side does
+  -- the frames that were sent, in order, and the state of the sending side
   pub handed : List (List ℕ)
   pub outgoing : Outgoing
-  -- the bytes that were received, and those that were read ahead and not yet received
+  -- the bytes that were received, and those that are read ahead
   pub given : List ℕ
   pub waiting : List ℕ
-  -- what the socket told of the receiving side, and whether a receive answered that the other side has finished
+  -- the state of the receiving side, and whether a receive returned the end of the stream
   pub incoming : Incoming
   pub ended : Bool
-  -- how many sends and receives failed; it stands still at 2^64 - 1
+  -- how many sends and receives failed; saturates at 2^64 - 1
   pub faults : ℕ
   -- the port of this end, and of the other
   pub local : ℕ
@@ -31,17 +31,17 @@ pub record LinkEnd : Type 0 where
 abbrev pub ArePair : LinkEnd → LinkEnd → Type 0
 ArePair a b = (a.local ≡ b.peer) × (b.local ≡ a.peer)
 
--- a socket that tells its bytes took the frames that were handed over, one behind another, and more only where a frame
--- was cut
+-- a socket that knows its bytes took the sent frames, concatenated, and more only if a frame was truncated
 pub record SendsInOrder (end : LinkEnd) : Type 0 where
   pub front : IfSome end.sent (λ bytes. IsPrefix (concat end.handed) bytes)
   pub whole : end.outgoing ≢ Cut → IfSome end.sent (λ bytes. bytes ≡ concat end.handed)
 
--- what a socket that tells its bytes gave was received, in order and once, or waits
+-- what a socket that knows its bytes delivered was received, in order and once, or is read ahead
 abbrev pub GivesInOrder : LinkEnd → Type 0
 GivesInOrder end = IfSome end.came (λ bytes. bytes ≡ end.given ++ end.waiting)
 
--- the socket gave some bytes; of those that waited and these, so many were received first, and the others wait
+-- the socket delivered some bytes; of those read ahead before and these, `received` were received first, and the
+-- others are read ahead
 abbrev pub Receives : List ℕ → Option (List ℕ) → List ℕ → Option (List ℕ) → List ℕ → Type 0
 Receives received came waiting came_now waiting_now =
     (read : List ℕ) × (came_now ≡ append_known came read) × (waiting ++ read ≡ received ++ waiting_now)

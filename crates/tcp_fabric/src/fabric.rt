@@ -1,4 +1,4 @@
-//! What opens links, and has them back.
+//! A fabric of TCP links.
 ghost use Rattle.std.specs.Prelude.{◌≡◌, ◌<◌, ◌+◌, ◌≤◌, [], ◌∷◌, false, IfOk, IsErrOf, IsPermutation, OnErr};
 ghost use Rattle.mrpc_base.specs.Faults.{HasCause};
 ghost use Rattle.mrpc_base.specs.Linking.{TellsNone};
@@ -18,7 +18,7 @@ pub struct TcpFabric<'r, R, N: Network + Drop> {
     rt: &'r R,
     alloc: Global,
     network: N,
-    // With room for the links that are away, too.
+    // With capacity for the links in use, too.
     back: Slab<(u32, SocketLink<'r, R, N::S>)>,
     away: usize,
     faults: u64,
@@ -52,7 +52,7 @@ impl<'r, R, N: Network + Drop> TcpFabric<'r, R, N> {
         }
     }
 
-    /// How many openings failed; it stands still at 2^64 - 1.
+    /// How many openings failed; saturates at 2^64 - 1.
     pub fn faults(&self) -> u64
         ensures { result ≡ self.now.faults }
     {
@@ -95,7 +95,7 @@ impl<'r, R: Wait + Clock + Sync, N: Network + Drop> Fabric for TcpFabric<'r, R, 
 
     ghost faults = { λ f. f.faults };
 
-    // One goes from the port that the other goes to, and back.
+    // The local port of each is the peer port of the other.
     ghost pair = { ArePair };
 
     ghost use mathlib.Core.Path.{sym, ◌∙◌};

@@ -1,15 +1,18 @@
-//! Real links: a [`TcpFabric`] opens pairs of [`SocketLink`]s, each pair one TCP connection over 127.0.0.1 whose two
-//! ends stand in this process, and takes them back.
+//! TCP links: a [`TcpFabric`] opens pairs of [`SocketLink`]s, each pair one TCP connection over 127.0.0.1 with
+//! both ends in this process, and keeps them afterwards.
 //!
-//! It stands on `mrpc_base` for the traits, and keeps the links that it has back in a `slab`. A link is generic over
-//! its [`Socket`], whose calls don't wait, and a fabric over the [`Network`] that opens connections; [`Loopback`] is
-//! the system's, with a [`SystemSocket`] at each end. What the system first refuses to one of these is noted in a
-//! [`SystemFault`], for whoever says what failed. Which bytes the system really takes and gives is its own word, and
-//! trusted; over sockets that tell their bytes, the contracts say which bytes move. The layer above uses the contracts
-//! of the traits: a frame was handed over only where the socket took it whole, behind the frames before it; what a link
-//! gave is what the socket gave, in order and once; and each failure is counted.
+//! The crate uses `mrpc_base` for the traits, and stores the links that it keeps in a `slab`. A link is generic
+//! over its [`Socket`], whose calls never block, and a fabric over the [`Network`] that opens connections.
+//! [`Loopback`] is the network of the operating system, with a [`SystemSocket`] at each end. The first error that
+//! the system returns to one of these is noted in a [`SystemFault`], for the message that reports the failure.
+//! Which bytes the system really takes and delivers is trusted. Over sockets that know their bytes, the contracts
+//! state which bytes move.
 //!
-//! A link that can't write reads ahead, so that two ends with full sockets never wait for one another.
+//! The layer above uses the contracts of the traits. A frame was sent only if the socket took all of it, after
+//! the frames before it. The bytes received on a link are those that the socket delivered, in order and once.
+//! Each failure is counted.
+//!
+//! A link that can't write reads ahead, so two ends with full sockets never wait for each other.
 #![tactic(auto)]
 
 mod fabric;

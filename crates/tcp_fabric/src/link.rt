@@ -14,22 +14,22 @@ use std::marker::Model;
 use std::sync::Wait;
 use std::time::Clock;
 
-/// How the sending side of a link does.
+/// The state of a link's sending side.
 #[derive(Clone, Copy, PartialEq, Eq)]
 pub enum Outgoing {
     /// It can send.
     Open,
-    /// It was ended.
+    /// It was shut down.
     Finished,
-    /// The socket failed, or a frame went out in part, and the sending side was ended behind that part.
+    /// The socket failed, or a frame was written in part and the sending side was shut down after that part.
     Cut,
 }
 
 /// One end of a connection. Contracts see it as a `LinkEnd`.
 ///
-/// A frame that doesn't fit into the socket waits for room, and what comes meanwhile is read ahead. Once a part of a
-/// frame went out and the rest couldn't, the sending side is ended, so that the peer finds a stream that is cut, and
-/// never another frame in place of the rest.
+/// A frame that doesn't fit into the socket waits for room; bytes that arrive meanwhile are read ahead. After a
+/// partial write fails, it shuts the sending side down. The peer sees a truncated frame, never another frame in
+/// its place.
 #[derive(Drop)]
 pub struct SocketLink<'r, R, S: Socket + Drop> {
     rt: &'r R,
@@ -38,7 +38,7 @@ pub struct SocketLink<'r, R, S: Socket + Drop> {
     given: Pieces,
     outgoing: Outgoing,
     ended: bool,
-    // Of sends and receives.
+    // Failed sends and receives.
     faults: u64,
     local: u16,
     peer: u16,
@@ -102,7 +102,7 @@ impl<'r, R, S: Socket + Drop> SocketLink<'r, R, S> {
         }
     }
 
-    /// How many sends and receives failed; it stands still at 2^64 - 1.
+    /// How many sends and receives failed; saturates at 2^64 - 1.
     pub fn faults(&self) -> u64
         ensures { result ≡ self.now.faults }
     {
@@ -117,8 +117,8 @@ impl<'r, R, S: Socket + Drop> SocketLink<'r, R, S> {
         &self.wire.socket
     }
 
-    /// A law, of each moment, of a socket that tells its bytes: it took the frames that were handed over, and more only
-    /// where a frame was cut; what it gave was received or waits; both in order and once.
+    /// A law; it does nothing. If the socket knows its bytes, it took exactly the sent frames, or more only if a
+    /// frame was truncated. The bytes that it delivered were received or are read ahead. Both are in order and once.
     pub fn is_in_order(&self)
         ensures sends { SendsInOrder self.now }
         ensures gives { GivesInOrder self.now }
@@ -126,7 +126,7 @@ impl<'r, R, S: Socket + Drop> SocketLink<'r, R, S> {
         let _local = self.local;
     }
 
-    // Counts a send or a receive that failed.
+    // Counts a failed send or receive.
     fn fault(&mut self)
         ensures faults { self.new ≡ record self.old { faults = raised self.old.faults } }
         ensures never_falls { self.old.faults ≤ self.new.faults }
@@ -136,7 +136,7 @@ impl<'r, R, S: Socket + Drop> SocketLink<'r, R, S> {
 }
 
 impl<'r, R: Wait + Clock, S: Socket + Drop> SocketLink<'r, R, S> {
-    // Writes the frame, whole where it can.
+    // Writes the frame, all of it if it can.
     fn put(&mut self, frame: &[u8]) -> Handed
         requires { self.old.outgoing ≡ Outgoing.Open }
         ensures whole { result ≡ Handed.Done → self.new.sent ≡ append_known self.old.sent frame.now }
@@ -186,44 +186,44 @@ impl<'r, R: Wait + Clock, S: Socket + Drop> Link for SocketLink<'r, R, S> {
 
     ghost ended = { λ l. l.ended };
 
-    // Nothing that was read ahead waits, and the socket gave nothing.
+    // Nothing was read ahead, and the socket delivered nothing.
     ghost nothing_ready = { λ old new. (old.waiting ≡ []) × (new.came ≡ old.came) };
 
-    // All that the socket gave was received.
+    // All that the socket delivered was received.
     ghost peer_finished = { λ _ new. new.waiting ≡ [] };
 
     ghost faults = { λ l. l.faults };
 
-    // It is between the same ports.
+    // The ports are the same.
     ghost since = { λ old new. (new.local ≡ old.local) × (new.peer ≡ old.peer) };
 
     ghost use mathlib.Core.Path.{refl};
 
     ghost itself = { λ _. (refl, refl) };
 
-    // A refusal tells no more.
+    // A failed send means nothing further.
     ghost refused = { λ _ _ _. ⊤ };
 
     fn send(&mut self, frame: &[u8]) -> Handed
-        // The socket took the frame whole where it was handed over. Where it wasn't, either the sending side is cut,
-        // or nothing of it went out.
+        // If the frame was sent, the socket took all of it. Otherwise the sending side is cut, or no byte of the
+        // frame was written.
         ensures whole { result ≡ Handed.Done → self.new.sent ≡ append_known self.old.sent frame.now }
         ensures untouched { self.new.outgoing ≢ Outgoing.Cut → result ≢ Handed.Done
             → self.new.sent ≡ self.old.sent }
-        // Once the sending side was ended or cut, each send fails.
+        // Once the sending side was shut down or cut, each send fails.
         ensures over { self.old.outgoing ≢ Outgoing.Open → result ≡ Handed.Failed }
 
         ensures appended { result ≡ Handed.Done → self.new.handed ≡ self.old.handed ++ frame.now ∷ [] }
         ensures kept { result ≢ Handed.Done → self.new.handed ≡ self.old.handed }
 
-        // What came meanwhile waits, and none of it is lost. Where the socket failed, no end is told from then on that
-        // it hadn't told before.
+        // Bytes that arrive meanwhile are read ahead, and none is lost. After the socket failed, `receive` returns
+        // the end only if the socket had reported it before.
         ensures came { Receives [] self.old.came self.old.waiting self.new.came self.new.waiting }
         ensures stays { self.old.incoming ≢ Incoming.Open → self.new.incoming ≡ self.old.incoming }
         ensures lost { result ≡ Handed.Failed → self.old.outgoing ≡ Outgoing.Open
             → self.new.incoming ≢ Incoming.Open }
 
-        // What is counted, and what stays.
+        // What is counted, and what is unchanged.
         ensures faults { result ≡ Handed.Failed → self.new.faults ≡ raised self.old.faults }
         ensures cause { HasCause (result ≡ Handed.Failed) self.old.faults self.new.faults }
         ensures same { self.new ≡ record self.old {
@@ -252,22 +252,22 @@ impl<'r, R: Wait + Clock, S: Socket + Drop> Link for SocketLink<'r, R, S> {
 
         ensures count { OnCame result (λ n. (0 < n) × (n ≤ length buf.old)) }
         ensures memory { result ≢ Came.Memory }
-        // The bytes that come are those that waited, and then those that the socket gave.
+        // The received bytes are those read ahead, followed by those that the socket delivered.
         ensures next { OnCame result (λ n.
             Receives (take n buf.new) self.old.came self.old.waiting self.new.came self.new.waiting) }
         ensures appended { OnCame result (λ n. self.new.given ≡ self.old.given ++ take n buf.new) }
-        // No other answer comes while bytes wait, and none takes bytes.
+        // No other result comes while bytes are read ahead, and none consumes bytes.
         ensures empty { OnNoneCame result (self.old.waiting ≡ []) }
         ensures still_empty { OnNoneCame result (self.new.waiting ≡ []) }
         ensures kept { OnNoneCame result ((self.new.given ≡ self.old.given) × (self.new.came ≡ self.old.came)) }
         ensures ends { result ≡ Came.End → IsTrue self.new.ended }
         ensures same_ended { result ≢ Came.End → self.new.ended ≡ self.old.ended }
-        // The end is told only where the socket told it, and a link that is broken stays so.
+        // The end is returned only if the socket reported it, and a broken link stays broken.
         ensures closed { result ≡ Came.End → self.new.incoming ≡ Incoming.Closed }
         ensures broken { result ≡ Came.Failed → self.new.incoming ≡ Incoming.Broken }
         ensures stays { self.old.incoming ≢ Incoming.Open → self.new.incoming ≡ self.old.incoming }
 
-        // What is counted, and what stays.
+        // What is counted, and what is unchanged.
         ensures faults { result ≡ Came.Failed → self.new.faults ≡ raised self.old.faults }
         ensures cause { HasCause (result ≡ Came.Failed) self.old.faults self.new.faults }
         ensures same { self.new ≡ record self.old {

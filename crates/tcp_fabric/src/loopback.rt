@@ -5,7 +5,7 @@ use std::io;
 use std::io::ErrorKind;
 use std::net::{Ipv4Addr, Net, SocketAddr, TcpListener, TcpStream};
 
-/// TCP connections over 127.0.0.1, by the system's network. What an opening fails with is noted, and what a socket does.
+/// TCP connections over 127.0.0.1, by the operating system. The errors of openings and sockets are noted.
 #[derive(Drop)]
 pub struct Loopback<'r, R> {
     net: &'r R,
@@ -13,13 +13,13 @@ pub struct Loopback<'r, R> {
 }
 
 impl<'r, R> Loopback<'r, R> {
-    /// Nothing is opened yet. The system's first refusal is noted in `fault`.
+    /// A network that has opened nothing. The system's first error is noted in `fault`.
     pub fn new(net: &'r R, fault: SystemFault) -> Loopback<'r, R> {
         Loopback { net, fault }
     }
 }
 
-// How many connections of others an opening passes over at most.
+// The most connections from others that an opening discards.
 const MOST_STRANGERS: usize = 128;
 
 impl<'r, R: Net<Stream = TcpStream, Listener = TcpListener>> Loopback<'r, R> {
@@ -38,7 +38,7 @@ impl<'r, R: Net<Stream = TcpStream, Listener = TcpListener>> Loopback<'r, R> {
         })
     }
 
-    // A socket whose frames go out without delay, and whose calls don't wait.
+    // A socket that sends frames without delay (`TCP_NODELAY`), and whose calls never block.
     fn socket(&self, stream: TcpStream) -> io::Result<SystemSocket> {
         stream.set_nodelay(true)?;
         stream.set_nonblocking(true)?;
@@ -58,7 +58,8 @@ impl<'r, R: Net<Stream = TcpStream, Listener = TcpListener>> Network for Loopbac
     }
 }
 
-// Accepts the connection that came from an address. Those that others of this machine made meanwhile are closed.
+// Accepts the connection that comes from an address. Closes connections that others on this machine make
+// meanwhile.
 fn accept_from(listener: &TcpListener, from: SocketAddr) -> io::Result<TcpStream> {
     for _ in 0..MOST_STRANGERS {
         let (stream, address) = listener.accept()?;

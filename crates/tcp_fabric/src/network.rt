@@ -1,4 +1,4 @@
-//! What opens connections.
+//! The network that opens connections.
 ghost use Rattle.mrpc_base.specs.Linking.{TellsNone};
 ghost use Rattle.std.specs.Prelude.{IfOk};
 
@@ -14,12 +14,12 @@ pub struct Ends<S: Socket + Drop> {
     pub second_port: u16,
 }
 
-/// What opens connections between two sockets of this process.
+/// A network that opens connections between two sockets of this process.
 pub trait Network {
     /// One end of a connection.
     type S: Socket + Send + Drop;
 
-    /// Opens a connection, of which neither end took or gave a byte.
+    /// Opens a connection on which neither end has taken or delivered a byte.
     fn open(&self) -> io::Result<Ends<Self::S>>
         ensures first { IfOk result (λ ends.
             TellsNone (Self.S.taken ends.first) × TellsNone (Self.S.given ends.first)) }

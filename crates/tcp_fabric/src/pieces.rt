@@ -1,4 +1,5 @@
-//! The pieces that went one way, one behind another. Only contracts read the list, and it takes no memory.
+//! The pieces that moved in one direction, in order. Only contracts read the list; it needs no memory at run
+//! time.
 
 ghost use Rattle.std.specs.Prelude.{◌≡◌, List, [], ◌∷◌, ◌++◌, ℕ};
 ghost use Rattle.std.specs.Borrow.{ftrue};
@@ -24,7 +25,7 @@ impl Pieces {
         Pieces {}
     }
 
-    // The pieces with one more behind them.
+    // The pieces with one more appended.
     pub(crate) fn with(_before: &Pieces, _piece: &[u8]) -> Pieces
         ensures { result.pieces ≡ _before.now.pieces ++ _piece.now ∷ [] }
     {

@@ -9,14 +9,14 @@ use mrpc_base::Came;
 use std::alloc::Global;
 use std::marker::Model;
 
-// How many bytes are read ahead at a time.
+// How many bytes one read ahead asks for.
 pub(crate) const READ_SIZE: usize = 65536;
 
-// Contracts see the bytes that wait.
+// Contracts see the bytes that are read ahead.
 #[derive(Drop)]
 pub(crate) struct ReadAhead {
     room: Vec<u8>,
-    // Where the bytes that wait begin and end.
+    // The range of the bytes that are read ahead.
     start: usize,
     end: usize,
 }
@@ -48,7 +48,7 @@ impl ReadAhead {
         self.start == self.end
     }
 
-    // Gives the next bytes, as many as fit, and answers how many.
+    // Copies the next bytes, as many as fit, and returns how many.
     pub(crate) fn give(&mut self, buf: &mut [u8]) -> usize
         ensures count { result ≡ min (length buf.old) (length self.old) }
         ensures next { self.old ≡ take result buf.new ++ self.new }
@@ -60,7 +60,7 @@ impl ReadAhead {
         count
     }
 
-    // Reads from the socket once. The room is found first, so that no byte is lost where there is none.
+    // Reads from the socket once. Allocates first, so that no byte is lost when out of memory.
     pub(crate) fn read_from<S: Socket>(&mut self, socket: &mut S) -> Came
         ensures kept { OnNoneCame result (self.new ≡ self.old) }
         ensures came { Receives [] (S.given socket.old) self.old (S.given socket.new) self.new }
@@ -78,7 +78,7 @@ impl ReadAhead {
         came
     }
 
-    // Makes the room for a read behind the bytes that wait, where memory is found.
+    // Makes room for a read after the bytes that are read ahead, unless out of memory.
     fn make_room(&mut self)
         ensures { self.new ≡ self.old }
     {
@@ -89,8 +89,8 @@ impl ReadAhead {
         }
     }
 
-    // Moves the bytes that wait to the start, once they are no more than those that were given, so that moving costs
-    // no more than giving did.
+    // Moves the bytes that are read ahead to the start, once they are no more than those consumed before them. So
+    // moving costs no more than consuming did.
     fn move_down(&mut self)
         ensures { self.new ≡ self.old }
     {

@@ -6,10 +6,10 @@ ghost use Rattle.tcp_fabric.specs.Sockets.{OnWrote, OnNoneWrote};
 
 use mrpc_base::Came;
 
-/// What a write to a socket answers.
+/// The result of a write to a socket.
 #[derive(Clone, Copy, PartialEq, Eq)]
 pub enum Wrote {
-    /// So many bytes of the piece's start were taken, from 1 to all.
+    /// This many bytes of the piece were taken, from 1 to all.
     Took(usize),
     /// The socket has no room now.
     Full,
@@ -17,12 +17,12 @@ pub enum Wrote {
     Failed,
 }
 
-/// One end of a connection, whose calls don't wait.
+/// One end of a connection, whose calls never block.
 pub trait Socket {
-    /// The bytes that it took, where it tells them.
+    /// The bytes that it took, if it knows them.
     ghost taken: { Self → Option (List ℕ) };
 
-    /// The bytes that it gave, where it tells them.
+    /// The bytes that it delivered, if it knows them.
     ghost given: { Self → Option (List ℕ) };
 
     /// Writes as much of the piece as there is room for.
@@ -34,7 +34,7 @@ pub trait Socket {
         ensures kept { OnNoneWrote result (taken self.new ≡ taken self.old) }
         ensures same_given { given self.new ≡ given self.old };
 
-    /// Reads the next bytes into the start of `buf`. What it leaves behind them is open. It takes no memory.
+    /// Reads the next bytes into the start of `buf`. The bytes of `buf` after them are unspecified. Never allocates.
     fn read(&mut self, buf: &mut [u8]) -> Came
         requires room { 0 < length buf.old }
         ensures count { OnCame result (λ n. (0 < n) × (n ≤ length buf.old)) }
@@ -43,7 +43,7 @@ pub trait Socket {
         ensures memory { result ≢ Came.Memory }
         ensures same_taken { taken self.new ≡ taken self.old };
 
-    /// Ends the sending side. The peer is told behind the bytes that were taken.
+    /// Shuts the sending side down. The peer receives the end after the bytes that were taken.
     fn shutdown(&mut self)
         ensures same_taken { taken self.new ≡ taken self.old }
         ensures same_given { given self.new ≡ given self.old };

@@ -1,4 +1,4 @@
-//! The system's first refusal, for whoever says what failed.
+//! The system's first error, for the message that reports a failure.
 ghost use Rattle.std.specs.Prelude.{◌≢◌, None, IfSome};
 ghost use Rattle.std.specs.IoError.{raw_os_error};
 
@@ -7,31 +7,31 @@ use std::io;
 use std::sync::Arc;
 use std::sync::atomic::{AtomicI32, Ordering};
 
-// No number of an error.
+// No error code.
 const NONE: i32 = 0;
 
-/// The first error of the system's that was noted, if one was. Threads share it, and no call waits.
+/// The first system error that was noted, if any. Threads share it, and its calls never block.
 #[derive(Drop)]
 pub struct SystemFault {
     code: Arc<AtomicI32, Global>,
 }
 
 impl SystemFault {
-    /// None was noted yet.
+    /// Nothing noted yet.
     pub fn new(alloc: Global) -> Result<SystemFault, AllocError> {
         Ok(SystemFault {
             code: Arc::new(alloc, AtomicI32::new(NONE))?,
         })
     }
 
-    /// The same, for a further one who notes or looks.
+    /// Another handle to the same fault.
     pub fn try_clone(&self) -> Result<SystemFault, AllocError> {
         Ok(SystemFault {
             code: Arc::try_clone(&self.code)?,
         })
     }
 
-    /// Notes an error, unless one was noted before, or it isn't the system's. It takes no memory.
+    /// Notes an error, unless one was noted before or it isn't a system error. Never allocates.
     pub fn note(&self, error: &io::Error) {
         if let Some(code) = error.raw_os_error() {
             let _ = self
@@ -40,7 +40,7 @@ impl SystemFault {
         }
     }
 
-    /// The error that was noted; it is shown by the system's words.
+    /// The error that was noted; it prints as the system's message.
     pub fn first(&self) -> Option<io::Error>
         ensures { IfSome result (λ error. raw_os_error error ≢ None) }
     {

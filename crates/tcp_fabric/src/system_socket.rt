@@ -1,4 +1,4 @@
-//! A socket of the system's.
+//! A socket of the operating system.
 ghost use Rattle.std.specs.Prelude.{◌≡◌, ◌<◌, ◌≤◌, length};
 
 use crate::{Socket, SystemFault, Wrote};
@@ -7,7 +7,7 @@ use std::io;
 use std::io::{ErrorKind, Read, Write};
 use std::net::{Shutdown, TcpStream};
 
-/// One end of a TCP connection, by the system. What a write or a read fails with is noted.
+/// One end of a TCP connection, by the operating system. Errors of its writes and reads are noted.
 #[derive(Drop)]
 pub struct SystemSocket {
     stream: TcpStream,
@@ -15,7 +15,7 @@ pub struct SystemSocket {
 }
 
 impl SystemSocket {
-    // Over a stream whose calls don't wait.
+    // `stream` must be nonblocking.
     pub(crate) fn new(stream: TcpStream, fault: SystemFault) -> SystemSocket {
         SystemSocket { stream, fault }
     }
@@ -24,7 +24,7 @@ impl SystemSocket {
 impl Socket for SystemSocket {
     ghost use Rattle.std.specs.Prelude.{None};
 
-    // The system doesn't tell them.
+    // The system doesn't report them.
     ghost taken = { λ _. None };
 
     ghost given = { λ _. None };
@@ -53,13 +53,13 @@ impl Socket for SystemSocket {
         }
     }
 
-    // A connection that is gone has no side to end.
+    // A connection that is gone has no side to shut down.
     fn shutdown(&mut self) {
         let _ = self.stream.shutdown(Shutdown::Write);
     }
 }
 
-// Whether a call only found that it would have to wait, or was interrupted.
+// Whether a call would block, or was interrupted.
 fn would_wait(error: &io::Error) -> bool {
     matches!(error.kind(), ErrorKind::WouldBlock | ErrorKind::Interrupted)
 }

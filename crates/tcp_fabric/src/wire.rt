@@ -13,14 +13,14 @@ use std::sync::Wait;
 use std::thread;
 use std::time::{Clock, Duration};
 
-/// What a socket told of the receiving side.
+/// The state of a socket's receiving side.
 #[derive(Clone, Copy, PartialEq, Eq)]
 pub enum Incoming {
-    /// More may come.
+    /// More may arrive.
     Open,
-    /// The other side has finished, and all has come.
+    /// The other side has finished, and all bytes have arrived.
     Closed,
-    /// The socket failed, and nothing more comes.
+    /// The socket failed, and nothing more arrives.
     Broken,
 }
 
@@ -31,21 +31,21 @@ pub(crate) struct Wire<S: Socket + Drop> {
     pub incoming: Incoming,
 }
 
-// Why a piece wasn't taken whole.
+// Why not all of a piece was taken.
 #[derive(Clone, Copy, PartialEq, Eq)]
 pub(crate) enum Trouble {
     Failed,
     Memory,
 }
 
-// What went out of a piece that wasn't taken whole.
+// How much of a piece was written before the failure.
 #[derive(Clone, Copy)]
 pub(crate) struct CutAt {
     pub done: usize,
     pub trouble: Trouble,
 }
 
-// How often a link that can neither write nor read lets other threads run before it sleeps.
+// How many times a link that can neither write nor read yields before it sleeps.
 const TURNS_AWAKE: u32 = 64;
 
 // How long it sleeps then.
@@ -64,7 +64,7 @@ impl<S: Socket + Drop> Wire<S> {
         }
     }
 
-    // Writes the piece whole, and reads ahead while the socket takes nothing.
+    // Writes the whole piece, and reads ahead while the socket takes nothing.
     pub(crate) fn write_all<R: Wait + Clock>(&mut self, rt: &R, piece: &[u8]) -> Result<(), CutAt>
         ensures whole { OnOk result
             (S.taken self.new.socket ≡ append_known (S.taken self.old.socket) piece.now) }
@@ -106,7 +106,7 @@ impl<S: Socket + Drop> Wire<S> {
         unreachable!()
     }
 
-    // Reads once what may come, behind what waits.
+    // Reads once, and appends to the bytes that are read ahead.
     fn read_ahead(&mut self) -> Came
         ensures came { Receives [] (S.given self.old.socket) self.old.ahead (S.given self.new.socket) self.new.ahead }
         ensures same_taken { S.taken self.new.socket ≡ S.taken self.old.socket }
@@ -121,7 +121,7 @@ impl<S: Socket + Drop> Wire<S> {
         came
     }
 
-    // Gives what waits first, and reads from the socket where nothing does.
+    // Returns the bytes that are read ahead first, and reads from the socket if there are none.
     pub(crate) fn read(&mut self, buf: &mut [u8]) -> Came
         requires room { 0 < length buf.old }
         ensures count { OnCame result (λ n. (0 < n) × (n ≤ length buf.old)) }
@@ -163,7 +163,7 @@ impl<S: Socket + Drop> Wire<S> {
         came
     }
 
-    // Ends the sending side.
+    // Shuts the sending side down.
     pub(crate) fn shutdown(&mut self)
         ensures same_taken { S.taken self.new.socket ≡ S.taken self.old.socket }
         ensures same_given { S.given self.new.socket ≡ S.given self.old.socket }
@@ -174,7 +174,7 @@ impl<S: Socket + Drop> Wire<S> {
     }
 }
 
-// What an answer to a read tells of the receiving side, which was open.
+// The state of the receiving side, which was open, after the result of a read.
 fn told_by(came: Came) -> Incoming
     ensures closed { came ≡ Came.End → result ≡ Incoming.Closed }
     ensures broken { came ≡ Came.Failed → result ≡ Incoming.Broken }
@@ -186,7 +186,7 @@ fn told_by(came: Came) -> Incoming
     }
 }
 
-// The receiving side after a write that failed: it is broken, unless all had come.
+// The state of the receiving side after a failed write: broken, unless all bytes had arrived.
 fn after_failure(incoming: Incoming) -> Incoming
     ensures stays { incoming ≢ Incoming.Open → result ≡ incoming }
     ensures lost { result ≢ Incoming.Open }
@@ -198,7 +198,7 @@ fn after_failure(incoming: Incoming) -> Incoming
     }
 }
 
-// Lets other threads run, and sleeps after some turns. It answers how many turns there were.
+// Yields to other threads, and sleeps after some calls. Returns the number of calls so far.
 fn pause<R: Clock>(rt: &R, turns: u32) -> u32 {
     if turns < TURNS_AWAKE {
         thread::yield_now();

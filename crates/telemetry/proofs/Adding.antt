@@ -1,4 +1,4 @@
--- Sums of counts, as entries are put in.
+-- Sums of counts, as entries are inserted.
 use Rattle.std.proofs.Common.{◌≡◌, ℕ, ◌+◌, ◌<◌, ◌≤◌, ◌^◌, Bool, true, false, List, [], ◌∷◌, Option, Some, None}
 use Rattle.std.proofs.Common.{unwrap_or, option_map, sum_by, refl, ap, sym, ◌∙◌, arith, inl, inr, ◌⊎◌}
 use Rattle.std.specs.List.{AllByRecursion}
@@ -16,7 +16,7 @@ use Rattle.telemetry.specs.declared.counts.What.TheVariants.{Took, Sent, Refused
 use Rattle.telemetry.specs.Counts.{IsSmall, no_counts, number_of, one_more, plus}
 use Rattle.telemetry.specs.Totals.{counts_in, sums_of}
 
--- counts with the same four numbers are the same
+-- counts with the same four numbers are equal
 pub same_counts : (a b : Counts) → a.took ≡ b.took → a.sent ≡ b.sent → a.refused ≡ b.refused → a.standing ≡ b.standing → a ≡ b
 same_counts a b took sent refused standing =
     ap (λ (n : ℕ). let c : Counts = record { took = n; sent = a.sent; refused = a.refused; standing = a.standing } in c) took
@@ -42,13 +42,13 @@ found_or_none : (f : Counts → ℕ) → f no_counts ≡ 0 → (o : Option Count
 found_or_none f none None = sym none
 found_or_none f none (Some c) = refl
 
--- the sum after an entry was put in
+-- the sum after an entry was inserted
 pub sum-inserted : (f : Counts → ℕ) → f no_counts ≡ 0 → (es : List (ℕ × Counts)) (k : ℕ) (v : Counts)
     → IsStrictlySortedBy nat_cmp (keys_of es)
     → sum_by f (values_of (insert_entry nat_cmp es k v)) + f (counts_in es k) ≡ sum_by f (values_of es) + f v
 sum-inserted f none es k v sorted = rw (← found_or_none f none (lookup (is_at (nat_cmp k)) es)) (sum_by-insert_entry f nat_cmp_total es k v sorted)
 
--- what one happening more does to the sums
+-- how one more event changes the sums
 pub sums-added : (es : List (ℕ × Counts)) (k : ℕ) (what : What) → IsStrictlySortedBy nat_cmp (keys_of es)
     → sums_of (insert_entry nat_cmp es k (one_more what (counts_in es k))) ≡ one_more what (sums_of es)
 sums-added es k Took sorted =
@@ -76,7 +76,7 @@ sums-added es k Standing sorted =
     let d = sum-inserted (λ c. c.standing) refl es k (one_more Standing (counts_in es k)) sorted in
     same_counts _ _ (omega (arith, t)) (omega (arith, s)) (omega (arith, r)) (omega (arith, d))
 
--- one more of a method fits where one more of the sum does
+-- one more of a method fits if one more of the sum does
 pub one_more_fits : (es : List (ℕ × Counts)) (k : ℕ) (what : What) → number_of what (sums_of es) + 1 < 2 ^ 64 → number_of what (counts_in es k) + 1 < 2 ^ 64
 one_more_fits es k Took fits = omega (arith, in-le-sum (λ c. c.took) refl es k)
 one_more_fits es k Sent fits = omega (arith, in-le-sum (λ c. c.sent) refl es k)
@@ -89,7 +89,7 @@ one_more_small counts Sent small fits = record { took = small.took; sent = fits;
 one_more_small counts Refused small fits = record { took = small.took; sent = small.sent; refused = fits; standing = small.standing }
 one_more_small counts Standing small fits = record { took = small.took; sent = small.sent; refused = small.refused; standing = fits }
 
--- sums of counts, wherever they stand
+-- sums of counts, in any order
 abbrev pub sum_counts : List Counts → Counts
 sum_counts counts = record {
   took = sum_by (λ c. c.took) counts;
@@ -107,7 +107,7 @@ plus-assoc a b c = same_counts (plus (plus a b) c) (plus a (plus b c)) (omega ar
 pub sum_counts-cons : (c : Counts) (cs : List Counts) → sum_counts (c ∷ cs) ≡ plus c (sum_counts cs)
 sum_counts-cons c cs = same_counts _ _ (sum_by-cons (λ s. s.took) c cs) (sum_by-cons (λ s. s.sent) c cs) (sum_by-cons (λ s. s.refused) c cs) (sum_by-cons (λ s. s.standing) c cs)
 
--- no later key is there again
+-- no later entry has the key
 pub lookup-below : (k : ℕ) (es : List (ℕ × Counts)) → AllByRecursion (λ y. nat_cmp k y ≡ Less) (keys_of es) → lookup (is_at (nat_cmp k)) es ≡ None
 lookup-below k [] below = refl
 lookup-below k (e ∷ es) below = rw below.0 (lookup-below k es below.1)

@@ -1,4 +1,4 @@
--- Totals as the counts of a list of happenings.
+-- Totals as the counts of a list of events.
 use Rattle.std.proofs.Common.{◌≡◌, ◌≢◌, ℕ, zero, suc, ◌+◌, ◌<◌, ◌==◌, ◌&&◌, true, false, if◌then◌else◌, List, [], ◌∷◌}
 use Rattle.std.proofs.Common.{◌++◌, sum_by, refl, ap, sym, ◌∙◌, arith, inl, inr, ◌⊎◌, Contains, length, get_or}
 use Rattle.std.proofs.Common.{zero-add, subst}
@@ -17,7 +17,7 @@ use Rattle.telemetry.specs.Totals.{IsCountOf, SumsCount, TextCounts, counts_in, 
 use Rattle.telemetry.proofs.Adding.{bool_cases, counts-below, same_counts, sorted-tail}
 use Rattle.telemetry.proofs.Merging.{is_at-same}
 
--- the happenings of other methods
+-- the events of other methods
 abbrev pub others : ℕ → List Happened → List Happened
 others k [] = []
 others k (h ∷ hs) = if h.method == k then others k hs else h ∷ others k hs
@@ -40,7 +40,7 @@ of-off h hs m w off = of-cons h hs m w ∙ (rw off (zero-add (count_of hs m w)))
 of-on : (h : Happened) (hs : List Happened) (m : ℕ) (w : What) → (h.method == m) ≡ true → is_what w h.what ≡ true → count_of (h ∷ hs) m w ≡ 1 + count_of hs m w
 of-on h hs m w on what = of-cons h hs m w ∙ (rw (on, what) refl)
 
--- what happened at all is what happened to one method and to the others
+-- all events are those of one method and those of the others
 split_count : (k : ℕ) (w : What) (hs : List Happened) → count_all hs w ≡ count_of hs k w + count_all (others k hs) w
 split_count k w [] = refl
 split_count k w (h ∷ hs) =
@@ -83,7 +83,7 @@ number-none Sent = refl
 number-none Refused = refl
 number-none Standing = refl
 
--- nothing happened where nothing is counted
+-- there are no events if nothing is counted
 empty_of_none : (hs : List Happened) → IsCountOf hs [] → hs ≡ []
 empty_of_none [] counted = refl
 empty_of_none (h ∷ hs) counted =
@@ -97,7 +97,7 @@ first_in k c rest = rw (is_at-same k k, eq-eqb k k refl) refl
 later_in : (k m : ℕ) (c : Counts) (rest : List (ℕ × Counts)) → m ≢ k → counts_in ((k, c) ∷ rest) m ≡ counts_in rest m
 later_in k m c rest ne = rw (is_at-same m k, ne_eqb m k ne) refl
 
--- the rest of the totals counts the happenings of the other methods
+-- the remaining totals count the events of the other methods
 others_counted : (k : ℕ) (c : Counts) (rest : List (ℕ × Counts)) (hs : List Happened)
     → IsStrictlySortedBy nat_cmp (keys_of ((k, c) ∷ rest)) → IsCountOf hs ((k, c) ∷ rest)
     → IsCountOf (others k hs) rest
@@ -135,12 +135,12 @@ sums_count happened totals sound counted =
     (sum_is_count Refused happened totals sound.ascends counted)
     (sum_is_count Standing happened totals sound.ascends counted)
 
--- the methods of which a call was taken
+-- the methods of which a call was accepted
 abbrev pub taken : List (ℕ × Counts) → List ℕ
 taken [] = []
 taken (e ∷ es) = if e.1.took == 0 then taken es else e.0 ∷ taken es
 
--- their lines, by any function that has their counts
+-- their lines, by any function that agrees with their counts
 lines_taken : (g : ℕ → Counts) (es : List (ℕ × Counts)) → AllByRecursion (λ e. g e.0 ≡ e.1) es
     → flat_map entry_line es ≡ flat_map (λ m. method_line m (g m)) (taken es)
 lines_taken g [] agree = refl
@@ -157,7 +157,7 @@ agree_more : (k : ℕ) (c : Counts) (es xs : List (ℕ × Counts)) → AllByRecu
 agree_more k c es [] below agree = tt
 agree_more k c es (x ∷ xs) below agree = (later_in k x.0 c es (let lt = above k x.0 below.0 in λ e. omega arith) ∙ agree.0, agree_more k c es xs below.1 agree.1)
 
--- each entry is what is counted at its method
+-- each entry has the counts of its method
 agree_all : (es : List (ℕ × Counts)) → IsStrictlySortedBy nat_cmp (keys_of es) → AllByRecursion (λ e. counts_in es e.0 ≡ e.1) es
 unfolding IsStrictlySortedBy
 agree_all [] sorted = tt
@@ -198,7 +198,7 @@ positive n some = grind arith
 not_zero : (n : ℕ) → 0 < n → (n == 0) ≡ false
 not_zero n some = grind arith
 
--- a method has a line exactly where a call of it was taken
+-- a method has a line exactly if a call of it was accepted
 is_taken : (es : List (ℕ × Counts)) (m : ℕ) → IsStrictlySortedBy nat_cmp (keys_of es) → Contains (taken es) m → 0 < (counts_in es m).took
 is_taken [] m sorted there = absurd (omega (arith, there.1))
 is_taken ((k, c) ∷ es) m sorted there =

@@ -1,4 +1,4 @@
--- Totals that are added up, entry by entry.
+-- Totals added up, entry by entry.
 use Rattle.std.proofs.Common.{◌≡◌, ℕ, ◌+◌, ◌≤◌, ◌==◌, Bool, true, false, if◌then◌else◌, cond, List, ◌∷◌, Option}
 use Rattle.std.proofs.Common.{Some, unwrap_or, refl, ap, sym, ◌∙◌, arith, inl, inr, ◌⊎◌}
 use Rattle.std.proofs.lemmas.Bool.{eqb-true}
@@ -11,14 +11,14 @@ use Rattle.telemetry.specs.Counts.{IsSmall, no_counts, plus}
 use Rattle.telemetry.specs.Totals.{counts_in, sums_of}
 use Rattle.telemetry.proofs.Adding.{bool_cases, counts-below, in-le-sum, plus-assoc, plus-none, same_counts, sorted-tail, sum-inserted, sum_counts-cons}
 
--- what was merged and what is left have the counts of both
+-- the merged entries and the remaining ones have the counts of both
 pub record IsMerging (counts others merged left : List (ℕ × Counts)) : Type 0 where
   pub each : (m : ℕ) → plus (counts_in merged m) (counts_in left m) ≡ plus (counts_in counts m) (counts_in others m)
   pub sums : plus (sums_of merged) (sums_of left) ≡ plus (sums_of counts) (sums_of others)
   pub ascends : IsStrictlySortedBy nat_cmp (keys_of merged)
   pub left_ascends : IsStrictlySortedBy nat_cmp (keys_of left)
 
--- the sums of two counts that are both there fit
+-- the sums of two counts of one method fit
 pub sum_fits : (counts others merged rest : List (ℕ × Counts)) (k : ℕ) (c : Counts)
     → IsMerging counts others merged ((k, c) ∷ rest) → IsSmall (plus (sums_of counts) (sums_of others))
     → IsSmall (plus (counts_in merged k) c)
@@ -48,7 +48,7 @@ sums-merged merged k c sorted =
 pub is_at-same : (m k : ℕ) → is_at (nat_cmp m) k ≡ (m == k)
 is_at-same m k = grind arith
 
--- a step: the first entry that is left is added
+-- a step: the first remaining entry is added
 pub merge_more : (counts others merged rest fresh : List (ℕ × Counts)) (k : ℕ) (c : Counts) → IsMerging counts others merged ((k, c) ∷ rest)
     → fresh ≡ insert_entry nat_cmp merged k (plus (counts_in merged k) c) → IsStrictlySortedBy nat_cmp (keys_of fresh)
     → ((m : ℕ) → counts_in fresh m ≡ (if m == k then plus (counts_in merged k) c else counts_in merged m))
@@ -77,7 +77,7 @@ merge_more counts others merged rest fresh k c merging is sorted at = record {
 is_at-flip : (k m : ℕ) → is_at (nat_cmp k) m ≡ (m == k)
 is_at-flip k m = grind arith
 
--- what is counted after an entry was put in
+-- the counts after an entry was inserted
 pub inserted_at : (k m : ℕ) (v : Counts) (o : Option Counts) → unwrap_or (cond (is_at (nat_cmp k) m) (Some v) o) no_counts ≡ (if m == k then v else unwrap_or o no_counts)
 inserted_at k m v o = rw (is_at-flip k m) (by_test (m == k))
   where

@@ -1,4 +1,4 @@
--- Counts that were worked out by hand.
+-- Counts worked out by hand.
 use Rattle.std.proofs.Common.{◌≡◌, ℕ, List, [], ◌∷◌, refl}
 use Rattle.telemetry.specs.declared.counts.Counts.{Counts}
 use Rattle.telemetry.specs.declared.counts.What.TheVariants.{Took, Sent, Refused, Standing}
@@ -34,7 +34,7 @@ in_none = refl
 all : all_counts happened ≡ sums_of totals
 all = refl
 
--- a method of which no call was taken has no line
+-- a method of which no call was accepted has no line
 no_line : entry_line (9, record { took = 0; sent = 1; refused = 0; standing = 0 }) ≡ []
 no_line = refl
 

@@ -1,10 +1,10 @@
--- What happened to calls, and how often (this project's own).
+-- What became of calls, and how often (this project's own).
 use Rattle.std.specs.Prelude.{ℕ, ◌+◌, ◌<◌, ◌^◌, ◌==◌, ◌&&◌, Bool, true, false, List, count_by}
 use Rattle.telemetry.specs.declared.counts.Counts.{Counts}
 use Rattle.telemetry.specs.declared.counts.What.{What}
 use Rattle.telemetry.specs.declared.counts.What.TheVariants.{Took, Sent, Refused, Standing}
 
--- something that happened to a call of a method
+-- an event of a call of a method
 pub record Happened : Type 0 where
   pub method : ℕ
   pub what : What
@@ -17,11 +17,11 @@ is_what Refused Refused = true
 is_what Standing Standing = true
 is_what what other = false
 
--- how often this happened to the calls of a method
+-- how often this became of a call of the method
 abbrev pub count_of : List Happened → ℕ → What → ℕ
 count_of happened method what = count_by (λ h. (h.method == method) && is_what what h.what) happened
 
--- what happened to the calls of a method
+-- the counts of a method's events
 abbrev pub counts_of : List Happened → ℕ → Counts
 counts_of happened method = record {
   took = count_of happened method Took;
@@ -30,11 +30,11 @@ counts_of happened method = record {
   standing = count_of happened method Standing;
 }
 
--- how often this happened at all
+-- how often this became of a call of any method
 abbrev pub count_all : List Happened → What → ℕ
 count_all happened what = count_by (λ h. is_what what h.what) happened
 
--- what happened to calls of all methods
+-- the counts of the events of all methods
 abbrev pub all_counts : List Happened → Counts
 all_counts happened = record {
   took = count_all happened Took;
@@ -43,25 +43,25 @@ all_counts happened = record {
   standing = count_all happened Standing;
 }
 
--- the counts of nothing
+-- counts of zero
 abbrev pub no_counts : Counts
 no_counts = record { took = 0; sent = 0; refused = 0; standing = 0 }
 
--- one of four counts
+-- one of the four counts
 abbrev pub number_of : What → Counts → ℕ
 number_of Took counts = counts.took
 number_of Sent counts = counts.sent
 number_of Refused counts = counts.refused
 number_of Standing counts = counts.standing
 
--- four counts, of which this one is one more
+-- the four counts, with one more of this
 abbrev pub one_more : What → Counts → Counts
 one_more Took counts = record counts { took = counts.took + 1 }
 one_more Sent counts = record counts { sent = counts.sent + 1 }
 one_more Refused counts = record counts { refused = counts.refused + 1 }
 one_more Standing counts = record counts { standing = counts.standing + 1 }
 
--- the sums of four counts
+-- the sums of the four counts
 abbrev pub plus : Counts → Counts → Counts
 plus counts others = record {
   took = counts.took + others.took;
@@ -70,7 +70,7 @@ plus counts others = record {
   standing = counts.standing + others.standing;
 }
 
--- each count has 64 bits
+-- each count fits 64 bits
 pub record IsSmall (counts : Counts) : Type 0 where
   pub took : counts.took < 2 ^ 64
   pub sent : counts.sent < 2 ^ 64

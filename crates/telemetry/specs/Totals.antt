@@ -9,7 +9,7 @@ use Rattle.telemetry.specs.declared.counts.Counts.{Counts}
 use Rattle.telemetry.specs.declared.counts.What.TheVariants.{Took}
 use Rattle.telemetry.specs.Counts.{Happened, IsSmall, all_counts, count_of, counts_of, no_counts, one_more, plus}
 
--- totals are methods with their counts; the counts of a method that isn't among them are zeros
+-- totals are methods with their counts; a method that isn't listed has counts of zero
 abbrev pub counts_in : List (ℕ × Counts) → ℕ → Counts
 counts_in totals method = unwrap_or (lookup (is_at (nat_cmp method)) totals) no_counts
 
@@ -22,16 +22,16 @@ sums_of totals = record {
   standing = sum_by (λ c. c.standing) (values_of totals);
 }
 
--- the methods ascend, and the counts over all of them have 64 bits
+-- the methods ascend, and the counts over all of them fit 64 bits
 pub record IsTotals (totals : List (ℕ × Counts)) : Type 0 where
   pub ascends : IsStrictlySortedBy nat_cmp (keys_of totals)
   pub small : IsSmall (sums_of totals)
 
--- a number as a further word of a line
+-- a space and a number
 abbrev pub word : ℕ → List ℕ
 word number = 32 ∷ decimal number
 
--- four counts as further words of a line
+-- four counts as words of a line, each after a space
 abbrev pub count_words : Counts → List ℕ
 count_words counts = word counts.took ++ word counts.sent ++ word counts.refused ++ word counts.standing
 
@@ -43,7 +43,7 @@ method_line method counts = codes "method" ++ word method ++ count_words counts 
 abbrev pub totals_line : Counts → List ℕ
 totals_line counts = codes "totals" ++ count_words counts ++ 10 ∷ []
 
--- the line of a method in totals, none where no call of it was taken
+-- the line of a method in totals; empty if no call of it was accepted
 abbrev pub entry_line : ℕ × Counts → List ℕ
 entry_line entry = if entry.1.took == 0 then [] else method_line entry.0 entry.1
 
@@ -51,23 +51,23 @@ entry_line entry = if entry.1.took == 0 then [] else method_line entry.0 entry.1
 abbrev pub totals_text : List (ℕ × Counts) → List ℕ
 totals_text totals = flat_map entry_line totals ++ totals_line (sums_of totals)
 
--- totals are the counts of this list of happenings
+-- totals are the counts of this list of events
 abbrev pub IsCountOf : List Happened → List (ℕ × Counts) → Type 0
 IsCountOf happened totals = (method : ℕ) → counts_in totals method ≡ counts_of happened method
 
--- the text of a list of happenings: a line for each method of which a call was taken, by ascending number, and one
--- for all
+-- the text of a list of events: a line for each method of which a call was accepted, by ascending number, and one for
+-- all
 pub record IsTextOf (happened : List Happened) (text : List ℕ) : Type 0 where
   pub methods : List ℕ
   pub ascends : IsStrictlyIncreasing methods
   pub taken : (method : ℕ) → Contains methods method ↔ (0 < count_of happened method Took)
   pub lines : text ≡ flat_map (λ m. method_line m (counts_of happened m)) methods ++ totals_line (all_counts happened)
 
--- no happening has no counts
+-- an empty list has counts of zero
 abbrev pub NoneCounts : Type 0
 NoneCounts = (method : ℕ) → counts_of [] method ≡ no_counts
 
--- a happening adds one to a count of its method
+-- an event adds one to a count of its method
 abbrev pub OneCounts : Type 0
 OneCounts = (happened : List Happened) (one : Happened) (method : ℕ)
     → counts_of (happened ++ one ∷ []) method
@@ -78,12 +78,12 @@ abbrev pub JoinedCounts : Type 0
 JoinedCounts = (happened others : List Happened) (method : ℕ)
     → counts_of (happened ++ others) method ≡ plus (counts_of happened method) (counts_of others method)
 
--- the sums of totals are the counts of all that happened
+-- the sums of totals are the counts of all events
 abbrev pub SumsCount : Type 0
 SumsCount = (happened : List Happened) (totals : List (ℕ × Counts))
     → IsTotals totals → IsCountOf happened totals → sums_of totals ≡ all_counts happened
 
--- their text is the text of what happened
+-- their text is the text of the events
 abbrev pub TextCounts : Type 0
 TextCounts = (happened : List Happened) (totals : List (ℕ × Counts))
     → IsTotals totals → IsCountOf happened totals → IsTextOf happened (totals_text totals)

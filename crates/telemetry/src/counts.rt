@@ -2,29 +2,29 @@
 
 ghost use Rattle.std.specs.Prelude.{◌≡◌, ◌+◌, ◌^◌, ◌<◌};
 
-/// What happened to a call.
+/// What became of a call.
 #[derive(Clone, Copy)]
 pub enum What {
-    /// It was taken.
+    /// It was accepted.
     Took,
     /// It was sent.
     Sent,
     /// It was refused.
     Refused,
-    /// It stands at the end.
+    /// It is pending at the end.
     Standing,
 }
 
-// How often each of these happened.
+// How often each of these became of a call.
 #[derive(Clone, Copy)]
 pub(crate) struct Counts {
-    // How many calls were taken.
+    // Calls accepted.
     pub took: u64,
-    // How many were sent.
+    // Calls sent.
     pub sent: u64,
-    // How many were refused.
+    // Calls refused.
     pub refused: u64,
-    // How many stand at the end.
+    // Calls pending at the end.
     pub standing: u64,
 }
 
@@ -32,7 +32,7 @@ impl Counts {
     ghost use Rattle.std.specs.Prelude.{◌≡◌, ◌+◌, ◌^◌, ◌<◌};
     ghost use Rattle.telemetry.specs.Counts.{IsSmall, no_counts, number_of, one_more, plus};
 
-    // The counts of nothing.
+    // Counts of zero.
     pub(crate) fn none() -> Counts
         ensures { result ≡ no_counts }
     {
@@ -44,7 +44,7 @@ impl Counts {
         }
     }
 
-    // The counts after one happening more.
+    // The counts after one more event.
     pub(crate) fn one_more(mut self, what: What) -> Counts
         requires { number_of what self + 1 < 2 ^ 64 }
         ensures { result ≡ one_more what self }
@@ -58,7 +58,7 @@ impl Counts {
         self
     }
 
-    // The sums of the counts.
+    // The sums of the two counts.
     pub(crate) fn plus(self, other: Counts) -> Counts
         requires { IsSmall (plus self other) }
         ensures { result ≡ plus self other }

@@ -1,9 +1,9 @@
-//! Counts of what happened to calls, by method.
+//! Counts of what became of calls, by method.
 //!
-//! [`Totals`] counts what was taken, sent, refused and left standing, adds up with the counts of
-//! others, and prints itself as the last lines of a run's output. It stands on `mrpc_table` for lists
-//! of bytes. The layers above use one contract: totals are the counts of a list of happenings, and
-//! their text is the lines of those counts.
+//! [`Totals`] counts calls that were accepted, sent, refused and left pending. It adds up with other totals, and
+//! prints itself as the last lines of a run's output. The crate depends on `mrpc_table` for lists of bytes. The
+//! layers above use one contract: totals are the counts of a list of events, and their text is the lines of those
+//! counts.
 #![tactic(auto)]
 
 mod counts;

@@ -6,8 +6,7 @@ ghost use Rattle.telemetry.specs.Totals.{count_words, method_line, totals_line};
 use crate::counts::Counts;
 use mrpc_table::{Bytes, Memory};
 
-// Appends the line of a method's counts, or nothing where no call of it was taken. The only error is
-// `Memory`.
+// Appends the line of a method's counts, or nothing if no call of it was accepted. The only error is `Memory`.
 pub(crate) fn put_method(out: &mut Bytes, method: u16, counts: Counts) -> Result<(), Memory>
     ensures { OnOk result (out.new ≡ out.old ++ (if counts.took == 0 then [] else method_line method counts)) }
 {
@@ -29,7 +28,7 @@ pub(crate) fn put_totals(out: &mut Bytes, counts: Counts) -> Result<(), Memory>
     out.append(b"\n")
 }
 
-// Appends four counts as further words of a line.
+// Appends four counts as words of a line, each after a space.
 fn put_counts(out: &mut Bytes, counts: Counts) -> Result<(), Memory>
     ensures { OnOk result (out.new ≡ out.old ++ count_words counts) }
 {

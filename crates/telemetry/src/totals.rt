@@ -15,7 +15,7 @@ use std::alloc::Global;
 use std::collections::BTreeMap;
 use std::marker::Model;
 
-/// Counts of what happened to calls, by method.
+/// Counts of what became of calls, by method.
 #[derive(Drop)]
 pub struct Totals {
     counts: BTreeMap<u16, Counts>,
@@ -38,7 +38,7 @@ impl Totals {
     ghost use Rattle.telemetry.specs.Counts.{IsSmall, number_of, one_more, plus};
     ghost use Rattle.telemetry.specs.Totals.{IsTotals, counts_in, sums_of, totals_text};
 
-    /// The totals of nothing. It takes no memory.
+    /// Totals of zero. Doesn't allocate.
     pub fn new(alloc: Global) -> Totals
         ensures { result ≡ [] }
     {
@@ -47,7 +47,7 @@ impl Totals {
         }
     }
 
-    /// Counts what happened to a call of a method. The only error is `Memory`, which leaves the totals.
+    /// Counts what became of a call of a method. The only error is `Memory`, which leaves the totals unchanged.
     pub fn add(&mut self, method: u16, what: What) -> Result<(), Memory>
         requires { number_of what (sums_of self.old) + 1 < 2 ^ 64 }
         ensures counts { OnOk result ((m : ℕ) → counts_in self.new m
@@ -60,7 +60,7 @@ impl Totals {
         Ok(())
     }
 
-    /// Adds all counts of other totals. The only error is `Memory`, which leaves the totals.
+    /// Adds all counts of other totals. The only error is `Memory`, which leaves the totals unchanged.
     pub fn merge(&mut self, other: &Totals) -> Result<(), Memory>
         requires { IsSmall (plus (sums_of self.old) (sums_of other.now)) }
         ensures counts { OnOk result ((m : ℕ) → counts_in self.new m
@@ -73,8 +73,8 @@ impl Totals {
         Ok(())
     }
 
-    /// The lines of the counts: one for each method of which a call was taken, by ascending number, and
-    /// one for all. The only error is `Memory`.
+    /// The lines of the counts: one for each method of which a call was accepted, by ascending number, and one for
+    /// all. The only error is `Memory`.
     pub fn text(&self, alloc: Global) -> Result<Bytes, Memory>
         ensures text { IfOk result (λ text. text ≡ totals_text self.now) }
         ensures totals { IsTotals self.now }
@@ -85,7 +85,7 @@ impl Totals {
         Ok(out)
     }
 
-    /// How many calls were taken, sent, refused and left standing, over all methods.
+    /// The numbers of calls that were accepted, sent, refused and left pending, over all methods.
     pub fn sums(&self) -> (u64, u64, u64, u64)
         ensures took { result.0 ≡ (sums_of self.now).took }
         ensures sent { result.1 ≡ (sums_of self.now).sent }

@@ -1,4 +1,4 @@
--- Of tickets that are each drawn once, no more than the cap are below it.
+-- If tickets are each drawn once, at most the cap of them are below it.
 use Rattle.std.proofs.Common.{◌≡◌, ℕ, zero, suc, ◌+◌, ◌-◌, ◌<◌, ◌≤◌, ◌⊎◌, inl, inr, Bool, List, length, true, false, cond, ap, arith}
 use Rattle.std.specs.Prelude.{nat_lt}
 use Rattle.std.specs.List.{range_with_len}

@@ -1,11 +1,11 @@
--- Seats of a list that take in others, and that go on.
+-- Seats of a list that join others, and their later states.
 use Rattle.std.proofs.Common.{◌≡◌, ℕ, zero, suc, ◌+◌, ◌<◌, List, [], ◌∷◌, ◌++◌, length, All, refl, sym, ap, ◌∙◌, subst, append_assoc, append-nil, arith}
 use Rattle.std.specs.Prelude.{slice_index_or, slice_set}
 use Rattle.std.proofs.lemmas.List.Elements.{All-cons, All-head, All-tail}
 use Rattle.tenant_quota.specs.Splitting.{AreOfQuotas}
 use Rattle.tenant_quota.specs.Drawing.{Drawing, IsLater, AreLater, together, all_together}
 
--- ---- later on
+-- ---- later states
 
 is_itself : (s : Drawing) → IsLater s s
 is_itself s = record { quota = refl; share = refl; draws = ([], sym (append-nil s.draws)) }
@@ -35,7 +35,7 @@ one_is_later [] t d new is later = tt
 one_is_later (x ∷ seats) zero d new is later = (subst (λ s. IsLater s new) is later, are_themselves seats)
 one_is_later (x ∷ seats) (suc t) d new is later = (is_itself x, one_is_later seats t d new is later)
 
--- ---- the others that are left to be taken in, from the last on
+-- ---- the remaining others, joined from the last
 
 pub is_nil : (xs : List Drawing) → length xs ≡ 0 → xs ≡ []
 is_nil [] none = refl
@@ -62,7 +62,7 @@ module _ (last : Drawing) where
     is_together : new ≡ together d last
     is_together = λ i. record { quota = quota i; draws = draws i; share = share i }
 
-    -- the last is taken in first
+    -- the last is joined first
     pub one_joined : (seats others : List Drawing) → AreOfQuotas seats (others ++ last ∷ []) → d ≡ slice_index_or seats (length others) d
         → all_together (slice_set seats (length others) new) others ≡ all_together seats (others ++ last ∷ [])
     one_joined [] [] are is = absurd are

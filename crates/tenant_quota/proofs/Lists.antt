@@ -1,4 +1,4 @@
--- The tickets and the shares of all seats, after one view has changed or a seat has come.
+-- The tickets and the shares of all seats, after one view has changed or a seat was added.
 use Rattle.std.proofs.Common.{◌≡◌, ◌≢◌, ℕ, zero, suc, ◌+◌, List, [], ◌∷◌, ◌++◌, set, refl, sym, ap, ◌∙◌, subst, append_assoc, append-nil, arith}
 use Rattle.std.specs.Prelude.{IsPermutation, flat_map, sum_by}
 use Rattle.std.proofs.lemmas.List.Sorted.{IsPermutation-append_right, IsPermutation-append_comm}
@@ -8,7 +8,7 @@ use lib.ListN.{get_elem?}
 
 module _ {V : Type 0} where
   module _ (f : V → List ℕ) where
-    -- a seat's tickets become more
+    -- a seat gets more tickets
     pub out_more : (views : List V) (seat : ℕ) (v w : V) (more : List ℕ) → get_elem? views seat ≡ some v
         → f w ≡ f v ++ more → IsPermutation (flat_map f views ++ more) (flat_map f (set views seat w))
     out_more [] seat v w more at e = absurd (some-ne-none v (sym at))
@@ -26,7 +26,7 @@ module _ {V : Type 0} where
     out_nothing [] none = refl
     out_nothing (x ∷ xs) none = ap (λ l. l ++ flat_map f xs) (none zero x refl) ∙ out_nothing xs (λ j v e. none (suc j) v e)
 
-    -- where no other seat has tickets
+    -- if no other seat has tickets
     pub out_alone : (views : List V) (seat : ℕ) (v : V) → get_elem? views seat ≡ some v
         → ((j : ℕ) (u : V) → get_elem? views j ≡ some u → j ≢ seat → f u ≡ []) → flat_map f views ≡ f v
     out_alone [] seat v at others = absurd (some-ne-none v (sym at))
@@ -54,7 +54,7 @@ module _ {V : Type 0} where
         let r = one_of_sum xs seat v at in let e = r.1 in let c = sum_by-cons f x xs in
         (f x + r.0, omega (arith, e, c))
 
-    -- where one seat has all, the others have none
+    -- if one seat has all, the others have none
     pub others_none : (views : List V) (seat : ℕ) (v : V) → get_elem? views seat ≡ some v → f v ≡ sum_by f views
         → (j : ℕ) (u : V) → get_elem? views j ≡ some u → j ≢ seat → f u ≡ 0
     others_none [] seat v at all j u there apart = absurd (some-ne-none v (sym at))

@@ -16,7 +16,7 @@ of_one_window = refl
 each_once : EachOnce (1 ∷ 0 ∷ [])
 each_once = IsPermutation-append_comm (0 ∷ []) (1 ∷ [])
 
--- one ticket that was drawn twice, and one that nobody drew
+-- one ticket that was drawn twice, and one that no seat drew
 drawn_twice : EachOnce (0 ∷ 0 ∷ []) → ⊥
 drawn_twice once =
     let sums : 0 ≡ 1 = sum_by-IsPermutation (λ n. n) (0 ∷ 1 ∷ []) (0 ∷ 0 ∷ []) once in
@@ -55,6 +55,6 @@ two_draws = record { sized = refl; words = of_window; shares = refl; seats = eac
     each (suc zero) v e = subst (Fits 1) (some-injective _ _ e) (fits 1)
     each (suc (suc seat)) v e = absurd (some-ne-none v (sym e))
 
--- a draw by a load and a store: the second seat stored over what the first had drawn
+-- a draw by a load and a store: the second seat overwrote the first one's draw
 a_draw_is_lost : IsQuota 1 (after 1) → ⊥
 a_draw_is_lost q = let counted : 1 ≡ 2 = (q.words 0 (omega arith)).counted in absurd (omega (arith, counted))

@@ -1,4 +1,4 @@
--- What is left of all shares after some halvings.
+-- The remainder of all shares after some halvings.
 use Rattle.std.proofs.Common.{◌≡◌, ℕ, zero, suc, ◌+◌, ◌*◌, ◌/◌, ◌^◌, ◌<◌, ◌≤◌, ap, ◌∙◌, arith}
 use Rattle.std.proofs.Math.Nat.{pow-suc, mul-le-mul_right}
 use Rattle.std.proofs.Math.Pow.{pow_mono}

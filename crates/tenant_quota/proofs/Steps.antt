@@ -1,4 +1,4 @@
--- Each step keeps the rule of a quota.
+-- Each access preserves the rule of a quota.
 use Rattle.std.proofs.Common.{◌≡◌, ◌≢◌, ℕ, zero, suc, ◌+◌, ◌%◌, ◌^◌, ◌<◌, ◌≤◌, ◌⊎◌, inl, inr, ⊎_elim, List}
 use Rattle.std.proofs.Common.{[], ◌∷◌, ◌++◌, length, set, get_or, replicate, refl, sym, ap, ◌∙◌, subst, append-nil}
 use Rattle.std.proofs.Common.{length-set, arith}
@@ -39,7 +39,7 @@ begins words n zeros = record {
     one zero v e = subst (Fits n) (some-injective _ _ e) (record { knows = λ _. refl; none = λ h. absurd (omega (arith, h)) })
     one (suc seat) v e = absurd (some-ne-none v (sym e))
 
--- what a seat with all shares knows
+-- the knowledge of a seat with all shares
 pub once_with_all_shares : (windows id : ℕ) (s : State (Unit {0}) View) → IsQuota windows s → (v : View) → get_elem? s.views id ≡ some v → OnceWithAllShares v
 once_with_all_shares windows id s h v at = λ all window inside few.
     let positive : 0 < v.share = omega (arith, all) in
@@ -153,7 +153,7 @@ splits_it windows id v two s h at =
       seats = λ j u e. ⊎_elim (λ x. fits_set windows s.views id left fits_left h.seats j u x) (λ (x : right ≡ u). subst (Fits windows) x fits_right) (at_snoc vs right u j e);
     }
 
--- a seat's tickets are gone
+-- a seat's tickets are removed
 out_less : (f : View → List ℕ) (views : List View) (seat : ℕ) (u : View) → get_elem? views seat ≡ some u
     → f nobody ≡ [] → IsPermutation (flat_map f views) (flat_map f (set views seat nobody) ++ f u)
 out_less f views seat u at empty =

@@ -24,7 +24,7 @@ ticket_elsewhere window other n apart = ap (λ b. map (λ (d : ℕ × ℕ). d.1)
 pub counts_none : Counts 0 []
 counts_none = record { counted = refl; once = λ _. IsPermutation-refl [] }
 
--- the order of tickets does not matter
+-- the order of tickets doesn't matter
 pub counts_moved : (word : ℕ) (xs ys : List ℕ) → IsPermutation xs ys → Counts word xs → Counts word ys
 counts_moved word xs ys moved c =
     let same : length ys ≡ length xs = length_permutation xs ys moved in record {
@@ -41,7 +41,7 @@ range-more a (suc n) =
 mod_more : (n : ℕ) → (n % 2 ^ 64 + 1) % 2 ^ 64 ≡ (n + 1) % 2 ^ 64
 mod_more n = omega arith
 
--- one more draw, of the word as its ticket
+-- one more draw, with the word as its ticket
 pub counts_more : (word : ℕ) (xs : List ℕ) → Counts word xs → Counts ((word + 1) % 2 ^ 64) (xs ++ word ∷ [])
 counts_more word xs c =
     let len : length (xs ++ word ∷ []) ≡ length xs + 1 = length-append xs (word ∷ []) in record {

@@ -1,4 +1,4 @@
--- Seats of a list that come together: their draws and their shares.
+-- Seats of a list that are joined: their draws and their shares.
 use Rattle.std.proofs.Common.{◌≡◌, ℕ, zero, suc, ◌+◌, ◌-◌, ◌/◌, ◌<◌, ◌≤◌, List, [], ◌∷◌, ◌++◌, map, All, Some, refl, ap, ◌∙◌, arith}
 use Rattle.std.proofs.lemmas.List.Elements.{All-nil, All-cons, All-head, All-tail}
 use Rattle.tenant_quota.specs.Drawing.{Drawing, AreLater, WasSplit, all_shares, all_together, drawn_by, kept_half, new_half, quotas_of, shares_of}

@@ -1,5 +1,5 @@
--- The code's own: the rule of a quota's table, and what each step tells. A window's word is the number of its draws
--- modulo 2^64.
+-- The code's own: the rule of a quota's table, and what each access reveals. A window's word is the number of its
+-- draws modulo 2^64.
 use Rattle.std.specs.Prelude.{◌≡◌, ℕ, ◌+◌, ◌-◌, ◌/◌, ◌%◌, ◌^◌, ◌<◌, ◌≤◌, List, [], ◌∷◌, ◌++◌, length, slice_index, sum_by, flat_map}
 use mathlib.Core.Option.{some}
 use lib.ListN.{get_elem?}
@@ -24,7 +24,7 @@ tickets_out window views = flat_map (λ v. tickets_in window v.draws) views
 abbrev pub shares_out : List View → ℕ
 shares_out views = sum_by (λ v. v.share) views
 
--- a seat with a share knows how many windows there are, and one without has no draws
+-- a seat with a share knows the number of windows, and one without a share has no draws
 pub record Fits (windows : ℕ) (v : View) : Type 0 where
   pub knows : 0 < v.share → v.windows ≡ windows
   pub none : v.share ≡ 0 → v.draws ≡ []
@@ -39,38 +39,38 @@ pub record IsQuota (windows : ℕ) (s : State (Unit {0}) View) : Type 0 where
 abbrev pub Seated : Type 0
 Seated = Me (Unit {0}) View
 
--- where a seat has all shares, its tickets of each window are the numbers from 0 on, each once, if they are fewer than
--- 2^64; of a seat with fewer shares this says nothing
+-- if a seat has all shares, its tickets of each window are the numbers from 0, each once, provided that they are
+-- fewer than 2^64; for other seats nothing is required
 abbrev pub OnceWithAllShares : View → Type 0
 OnceWithAllShares v = v.share ≡ all_shares → AllOnce v.windows v.draws
 
 abbrev pub drew : View → ℕ → ℕ → View
 drew v window ticket = record { windows = v.windows; draws = v.draws ++ (window, ticket) ∷ []; share = v.share }
 
--- the draw of the ticket n in the step's window
+-- the draw of the ticket n in the accessed window
 pub record Drawn (st : Step (Unit {0})) (m : Seated) (n : ℕ) (m' : Seated) : Type 0 where
   pub view : m'.0 ≡ drew m.0 st.word n
   pub slots : m'.1 ≡ m.1
   pub once : OnceWithAllShares m'.0
 
--- a load that leaves the seat as it is; it tells that with all shares each ticket of a window was drawn once
+-- a load that leaves the seat unchanged; it reveals that with all shares each ticket of a window was drawn once
 pub record Settled (st : Step (Unit {0})) (m : Seated) (n : ℕ) (m' : Seated) : Type 0 where
   pub same : m' ≡ m
   pub once : OnceWithAllShares m'.0
 
--- what a seat keeps when it is split
+-- a seat after a split
 abbrev pub kept_view : View → View
 kept_view v = record { windows = v.windows; draws = v.draws; share = v.share - v.share / 2 }
 
--- what the new seat has
+-- the new seat
 abbrev pub new_view : View → View
 new_view v = record { windows = v.windows; draws = []; share = v.share / 2 }
 
--- a seat that has taken in another
+-- a seat after it joined another one
 abbrev pub joined_view : View → View → View
 joined_view v u = record { windows = v.windows; draws = v.draws ++ u.draws; share = v.share + u.share }
 
--- a seat that was taken in
+-- a seat that was joined to another one
 abbrev pub nobody : View
 nobody = record { windows = 0; draws = []; share = 0 }
 

@@ -1,4 +1,4 @@
--- The code's own: seats of which some first ones were split, and others that are taken in.
+-- The code's own: seats of which a prefix is split, and others that are joined.
 use Rattle.std.specs.Prelude.{◌≡◌, ℕ, zero, suc, List, [], ◌∷◌, ⊤}
 use Rattle.tenant_quota.specs.Drawing.{Drawing, kept_half, new_half}
 
@@ -12,12 +12,12 @@ halves_of zero seats = []
 halves_of (suc n) [] = []
 halves_of (suc n) (s ∷ seats) = new_half s ∷ halves_of n seats
 
--- the first of some seats were split, so many, and these are the halves that they gave
+-- the first `count` of some seats were split, and these are the halves
 pub record AreSplit (old : List Drawing) (count : ℕ) (new halves : List Drawing) : Type 0 where
   pub kept : new ≡ split_front count old
   pub given : halves ≡ halves_of count old
 
--- each of the others is of the quota of the seat at its place, which is there
+-- for each of the others there is a seat at its index, of the same quota
 abbrev pub AreOfQuotas : List Drawing → List Drawing → Type 0
 AreOfQuotas seats [] = ⊤
 AreOfQuotas [] (other ∷ others) = ⊥

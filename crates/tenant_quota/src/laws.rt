@@ -1,11 +1,11 @@
-//! The laws of seats and shares. The functions do nothing; their clauses hold.
+//! Laws of seats and shares. The functions have no effect: each clause is a law.
 
 ghost use Rattle.std.specs.Prelude.{◌≡◌, ◌≤◌, ◌+◌, ◌/◌, ◌<◌, ◌++◌, ℕ, List, All, Some, map};
 ghost use Rattle.tenant_quota.specs.Drawing.{AreLater, Drawing, WasSplit, all_shares, drawn_by};
 ghost use Rattle.tenant_quota.specs.Drawing.{all_together, kept_half, new_half, quotas_of, shares_of};
 
-/// A seat with all shares may be split 63 times, and what is left of its share each time may be split again, up to then.
-/// So may each of some seats.
+/// A seat with all shares may be split 63 times: each time the remaining share may be split again, up to that number.
+/// The same is true of each of several seats.
 pub fn shares_suffice()
     ensures whole { WasSplit 0 all_shares }
     ensures once_more { (times share kept : ℕ) → WasSplit times share → kept + share / 2 ≡ share
@@ -18,8 +18,8 @@ pub fn shares_suffice()
         → times < 64 → All (λ seat. 2 ≤ seat.share) seats }
 {}
 
-/// Seats that were split and come together again are as before. Where they drew meanwhile they have the quotas and the
-/// shares that they had, and the tickets of a tenant's window are those that both drew.
+/// Seats that were split and joined again are as before. If they drew meanwhile, they have the quotas and the shares
+/// that they had, and the tickets of a tenant's window are those that both drew.
 pub fn seats_come_together()
     ensures halves { (seats : List Drawing) → all_together (map kept_half seats) (map new_half seats) ≡ seats }
     ensures drawn { (seats others : List Drawing) (tenant window : ℕ) (mine theirs : List ℕ)
@@ -39,7 +39,7 @@ pub fn seats_come_together()
         → All (λ seat. seat.share ≡ all_shares) old → All (λ seat. seat.share ≡ all_shares) new }
 {}
 
-/// Seats are themselves, later on, and what is later than seats that are later is later.
+/// `AreLater` is reflexive and transitive.
 pub fn seats_stay()
     ensures themselves { (seats : List Drawing) → AreLater seats seats }
     ensures later { (first next last : List Drawing) → AreLater first next → AreLater next last → AreLater first last }

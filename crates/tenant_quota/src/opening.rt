@@ -1,4 +1,4 @@
-//! How a quota is opened.
+//! Opens quotas.
 
 ghost use Rattle.std.specs.Prelude.{◌≡◌, ◌≤◌, [], IfOk};
 ghost use Rattle.mrpc_base.specs.declared.tickets.TheConstants.{WINDOWS};
@@ -9,7 +9,7 @@ use crate::view::Table;
 use std::alloc::{AllocError, Global};
 use std::sync::Arc;
 
-/// Opens a quota of `windows` windows, from which nothing was drawn. Its one seat has all shares.
+/// Opens a quota of `windows` windows, without any draws. Its one seat has all shares.
 pub fn open(alloc: Global, windows: u64) -> Result<Seat, AllocError>
     requires at_least { 1 ≤ windows }
     requires at_most { windows ≤ WINDOWS }

@@ -9,14 +9,14 @@ use std::alloc::{AllocError, Global};
 use std::marker::Model;
 use std::sync::Arc;
 
-/// A place to draw tickets of a quota from. No call of it waits, and none but a split takes memory. It may go to any
-/// thread. Contracts see it as a `Drawing`: of which quota it is, its draws, and its share.
+/// A seat from which tickets of a quota are drawn. Its calls never block, and only a split allocates. It may go to
+/// any thread. Contracts see it as a `Drawing`: its quota, its draws, and its share.
 pub struct Seat {
     pub(crate) words: Arc<Table, Global>,
     pub(crate) seat: TableSeat<(), View>,
 }
 
-// By hand, so that a drop is one call where it is needed, and not a drop of each part.
+// Written by hand, so that a drop is one call instead of one for each field.
 impl Drop for Seat {
     fn drop(self) {
         let Seat {
@@ -41,8 +41,8 @@ impl Model for Seat {
 }
 
 impl Seat {
-    /// Draws a ticket in a window, which is counted from 0, and keeps it among the seat's draws. Which tickets there are
-    /// is told by [`Seat::tickets_are_distinct`]. It waits for nobody and takes no memory.
+    /// Draws a ticket in a window, counted from 0, and adds it to the seat's draws. [`Seat::tickets_are_distinct`] is
+    /// the law about the tickets. Never blocks or allocates.
     pub fn draw(&mut self, window: u64) -> u64
         requires { window < self.old.quota.words }
 
@@ -54,8 +54,8 @@ impl Seat {
         words.fetch_add::<Draw>(&mut self.seat, window as usize, 1)
     }
 
-    /// A new seat of the same quota, which has no draws and half of this one's share, rounded down. Where there is no
-    /// memory, nothing changes.
+    /// A new seat of the same quota, without draws and with half of this one's share, rounded down. If out of memory,
+    /// nothing changes.
     pub fn split(&mut self) -> Result<Seat, AllocError>
         requires { 2 ≤ self.old.share }
 
@@ -77,7 +77,7 @@ impl Seat {
         })
     }
 
-    /// Takes in another seat of the same quota, with its draws and its share. It waits for nobody and takes no memory.
+    /// Joins another seat of the same quota: adds its draws and its share. Never blocks or allocates.
     pub fn join(&mut self, other: Seat)
         requires { other.quota ≡ self.old.quota }
 
@@ -91,16 +91,16 @@ impl Seat {
         words.load::<Settle>(&mut self.seat, 0);
     }
 
-    /// The law of tickets: where a seat has all shares, the tickets of each window are 0, 1, 2 and so on, each once,
-    /// if they are fewer than 2^64.
+    /// The law of tickets: if a seat has all shares, the tickets of each window are 0, 1, 2 and so on, each once,
+    /// provided that they are fewer than 2^64.
     pub fn tickets_are_distinct(&self)
         ensures { self.now.share ≡ all_shares → AllOnce self.now.quota.words self.now.draws }
     {
         let _ = &self.seat;
     }
 
-    /// The law of a cap: where a seat has all shares and a window has fewer than 2^64 tickets, no more than `cap` of them
-    /// are below it, so that one cap over all seats allows no more calls than it says.
+    /// The law of a cap: if a seat has all shares and a window has fewer than 2^64 tickets, at most `cap` of them are
+    /// below it. So one cap over all seats allows at most that many calls.
     pub fn cap_is_kept(&self, window: u64, cap: u64)
         requires { window < self.now.quota.words }
         ensures { self.now.share ≡ all_shares → length (tickets_in window self.now.draws) < 2 ^ 64

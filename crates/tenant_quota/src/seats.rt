@@ -13,12 +13,13 @@ use mrpc_base::{Tickets, WINDOWS};
 use std::alloc::{AllocError, Global};
 use std::marker::Model;
 
-/// Seats of the quotas of tenants, one for each, which are numbered from 0. Contracts see it as the list of its seats.
+/// Seats of the quotas of tenants, one for each; tenants are numbered from 0. Contracts see it as the list of its
+/// seats.
 pub struct Seats {
     seats: Vec<Seat>,
 }
 
-// By hand, so that a drop is one call where it is needed, and not a drop of each part.
+// Written by hand, so that a drop is one call instead of one for each field.
 impl Drop for Seats {
     fn drop(self) {
         let Seats { seats: _seats } = self;
@@ -57,7 +58,7 @@ impl Seats {
         Ok(())
     }
 
-    /// New seats of the same quotas, which have no draws and half of the shares of these, rounded down. Where there is no
+    /// New seats of the same quotas, without draws and with half of the shares of these, rounded down. If out of
     /// memory, nothing changes.
     pub fn split(&mut self, alloc: Global) -> Result<Seats, AllocError>
         requires { All (λ seat. 2 ≤ seat.share) self.old }
@@ -78,8 +79,8 @@ impl Seats {
         }
     }
 
-    /// Takes in other seats of the same quotas, each by that of the same tenant, with their draws and their shares. It
-    /// waits for nobody and takes no memory.
+    /// Joins other seats of the same quotas, each to that of the same tenant, with their draws and their shares.
+    /// Never blocks or allocates.
     pub fn join(&mut self, other: Seats)
         requires { quotas_of other ≡ quotas_of self.old }
         ensures { self.new ≡ all_together self.old other }
@@ -87,7 +88,7 @@ impl Seats {
         self.take_in(other);
     }
 
-    // The same, where the others may be fewer.
+    // Like `join`, but the others may be fewer.
     fn take_in(&mut self, mut other: Seats)
         requires { AreOfQuotas self.old other }
         ensures { self.new ≡ all_together self.old other }
@@ -97,7 +98,7 @@ impl Seats {
         }
     }
 
-    /// The seats, from the first tenant's on.
+    /// The seats, by ascending tenant.
     pub fn into_vec(self) -> Vec<Seat>
         ensures { result.items ≡ self }
     {
@@ -105,8 +106,8 @@ impl Seats {
         seats
     }
 
-    /// The law of tickets: of each seat that has all shares of its quota, the tickets of each window are 0, 1, 2 and so
-    /// on, each once, if they are fewer than 2^64.
+    /// The law of tickets: for each seat that has all shares of its quota, the tickets of each window are 0, 1, 2 and
+    /// so on, each once, provided that they are fewer than 2^64.
     pub fn tickets_are_distinct(&self)
         ensures { All (λ seat. seat.share ≡ all_shares → AllOnce WINDOWS seat.draws) self.now }
     {
@@ -116,7 +117,7 @@ impl Seats {
     }
 }
 
-// Splits seats, from the first on, up to one for which there is no memory, and gives a half of each.
+// Splits seats in order and collects a half of each. It stops at the first one that runs out of memory.
 fn split_each(seats: &mut Vec<Seat>, halves: &mut Vec<Seat>) -> Result<(), AllocError>
     requires none { halves.old.items ≡ [] }
     requires room { length seats.old.items ≤ vec_capacity halves.old }
@@ -132,7 +133,7 @@ fn split_each(seats: &mut Vec<Seat>, halves: &mut Vec<Seat>) -> Result<(), Alloc
     Ok(())
 }
 
-// Adds a seat for which there is room.
+// Adds a seat, for which there must be capacity.
 fn push_reserved(seats: &mut Vec<Seat>, seat: Seat)
     requires { length seats.old.items < vec_capacity seats.old }
     ensures pushed { seats.new.items ≡ seats.old.items ++ seat ∷ [] }

@@ -1,16 +1,17 @@
-//! What each seat of a quota's table knows, and what its steps tell. No value of these types but the table is made.
+//! The knowledge of each seat of a quota's table, and what its accesses reveal. No value of these types but the table
+//! is ever made.
 
 use atomic_table::{Join, Play, Split, TableRule};
 use std::alloc::Global;
 use std::collections::LinkedList;
 
-// What one seat knows.
+// The knowledge of one seat.
 pub(crate) struct View {
-    // How many windows the quota has.
+    // The number of windows of the quota.
     pub windows: u64,
-    // Each draw of the seat, and of the seats that were joined to it: the window, and the ticket.
+    // The draws of the seat, and of the seats that were joined to it: the window, and the ticket.
     pub draws: LinkedList<(u64, u64)>,
-    // Its part of the shares, of which the table's seats have a fixed number together.
+    // Its part of the shares. The sum over all seats of the table is fixed.
     pub share: u64,
 }
 
@@ -34,7 +35,7 @@ impl Play<(), View> for Draw {
     ghost then = { Drawn };
 }
 
-// A load that tells what the draws of a seat with all shares are.
+// A load that reveals the draws of a seat with all shares.
 pub(crate) struct Settle;
 
 impl Play<(), View> for Settle {
@@ -43,7 +44,7 @@ impl Play<(), View> for Settle {
     ghost then = { Settled };
 }
 
-// A new seat, which has half of this one's share and no draws.
+// A new seat, with half of this one's share and no draws.
 pub(crate) struct Halves;
 
 impl Split<View> for Halves {

@@ -1,5 +1,5 @@
--- Small histories of one connection, worked out by hand: each is legal, its calls stand where they should, and its text
--- is this one.
+-- Small histories of one connection, calculated by hand: each is legal, its pending calls are at these
+-- positions, and its text is this one.
 use Rattle.std.proofs.Common.{◌≡◌, ℕ, ◌+◌, ◌<◌, ◌≤◌, zero, suc, false, true, List, [], ◌∷◌, ◌++◌, codes, length, map, reverse, get_or, arith, refl}
 use Rattle.std.proofs.Common.{sym, ap, subst, ◌∙◌}
 use Rattle.std.specs.Fmt.{digits}
@@ -110,7 +110,7 @@ normal-two = record {
 abbrev on_one : Happening → Happened
 on_one what = record { conn = 1; what = what }
 
--- what happened on connection 1, in order
+-- the events of connection 1, in order
 abbrev history_of : Behind → History
 history_of past = map on_one (reverse past)
 
@@ -118,7 +118,7 @@ long-7 : (seq : ℕ) → 18 ≡ HEADER_LEN + length (payload one_field (form_of 
 unfolding varint groups
 long-7 seq = refl
 
--- ---- happenings on a link that hasn't failed
+-- ---- events on a link that hasn't failed
 
 stands_open : (past : Behind) (next : Happening) → has_failed past ≡ false → IsLinkRefusal past next → EndsWithLink past next
 stands_open past next live refusal = (λ failed. absurd (let wrong : false ≡ true = sym live ∙ failed in cc), refusal)
@@ -192,7 +192,7 @@ may-attach u past at name policy live keeps malformed over = record {
   link_end = stands_open past (Op (Attach at name name policy)) live tt;
 }
 
--- ---- steps of an operator
+-- ---- operations of an operator
 
 in_nothing : (name : List ℕ) → Contains [] name → ⊥
 in_nothing name has = omega (arith, has.1)
@@ -268,7 +268,7 @@ sent_first = Sent 1 18 ∷ charged_second
 abbrev sent_second : Behind
 sent_second = Sent 2 18 ∷ sent_first
 
--- a millisecond before the level is as high as the cost
+-- a millisecond before the level reaches the cost
 abbrev held : Behind
 held = Moment 999 ∷ sent_second
 
@@ -393,7 +393,7 @@ prefix-sent = (
   may-send sent_first 2 refl sends-second tt tt,
 )
 
--- two calls are sent, and the third stands
+-- two calls are sent, and the third is pending
 legal-held : IsLegalBehind under held
 legal-held = record {
   prefix = (prefix-sent, may-pass sent_second 999 refl (omega (arith, moment-sent)) tt tt);
@@ -413,7 +413,7 @@ legal-all_sent = record {
   closed = record { malformed = λ z. z; quota = λ z. z; link = λ link. absurd (let wrong : false ≡ true = link.failed in cc) };
 }
 
--- two calls were charged and are behind the rate, and the third is before it
+-- two calls were charged and are past the rate, and the third is before it
 places-charged : ArePlaces under charged_second (1 ∷ 1 ∷ 0 ∷ [])
 places-charged = record {
   each = (
@@ -426,7 +426,7 @@ places-charged = record {
   never_rise = never-rise 1 (1 ∷ 1 ∷ 0 ∷ []) (omega arith, (omega arith, (omega arith, tt)));
 }
 
--- the third call stands before the rate, which holds it
+-- the third call is before the rate, which holds it
 places-held : ArePlaces under held (0 ∷ [])
 places-held = record {
   each = (record { within = omega arith; let_pass = All-nil _ }, tt);
@@ -452,7 +452,7 @@ settled-held = record {
         let positions : 0 ≡ position = in_only 0 position head.place head.at in
         subst (λ c. IsHeld under held c position 999 1000) calls (subst (λ p. IsHeld under held (seven 3) p 999 1000) positions third-held)
 
--- where the level is as high as the cost, the rate holds no call
+-- if the level reaches the cost, the rate holds no call
 no-hold : (l cost : ℕ) → Answers holding 1000 1000 (form_of 3) nothing (hold l cost) → ⊥
 no-hold l cost (allows p is lets e) = cc
 no-hold l cost (denies p is refused e) = cc
@@ -468,7 +468,7 @@ no-hold l cost (counts is none e) = cc
 no-hold l cost (is_clear clears is same e) = cc
 no-hold l cost (redacts clears is differs e) = cc
 
--- a second after the charges the third call can go on
+-- a second after the charges the third call can advance
 unsettled-filled : IsSettled under filled (0 ∷ []) → ⊥
 unsettled-filled settled = no-hold answer.0 answer.1 gives
   where
@@ -484,7 +484,7 @@ unsettled-filled settled = no-hold answer.0 answer.1 gives
     gives : Gives under filled rate_entry 3 (hold answer.0 answer.1)
     gives = subst (λ e. Gives under filled e 3 (hold answer.0 answer.1)) (sym entries) answer.2.holds
 
--- where all calls were sent, none stands, and nothing can go on
+-- after all calls were sent, none is pending, and nothing can advance
 places-all_sent : ArePlaces under all_sent []
 places-all_sent = record { each = tt; never_rise = never-rise 0 [] tt }
 
@@ -513,7 +513,7 @@ stands-attached_again : stands_line 1 3 0 rl (Some (record { level = 0; cost = 1
 unfolding digits
 stands-attached_again = refl
 
--- ---- a counted call, and a policy that is attached behind the count: the call stands between them
+-- ---- a counted call, and a policy that is attached after the count: the call is between them
 
 abbrev c : List ℕ
 c = codes "c"
@@ -551,7 +551,7 @@ audit-closed_off : audit one_field (history_of closed_off) ≡ codes "op 1 attac
 unfolding varint groups digits encode_with
 audit-closed_off = refl
 
--- ---- a field is cleared, and the policy before, which asks for it, denies the call
+-- ---- a field is cleared, and the policy before, which requires it, denies the call
 
 abbrev acl : List ℕ
 acl = codes "acl"
@@ -682,7 +682,7 @@ legal-denied = record {
   closed = record { malformed = λ z. z; quota = λ z. z; link = λ link. absurd (let wrong : false ≡ true = link.failed in cc) };
 }
 
--- the call stood before the redaction, and begins again behind it
+-- the call was before the redaction, and starts again after it
 places-whole : ArePlaces under_two one_taken (1 ∷ [])
 places-whole = record {
   each = (record { within = omega arith; let_pass = All-cons (Lets under_two one_taken 1) acl_entry [] lets-whole (All-nil _) }, tt);

@@ -1,4 +1,4 @@
--- The code's own: what holds of a connection with its heap and its tickets, whatever it was asked.
+-- The code's own: the invariant of a connection with its heap and its tickets.
 use Rattle.std.specs.Prelude.{◌≡◌, ℕ, ◌<◌, ◌^◌, ◌+◌, All, length}
 use Rattle.mrpc_table.specs.Valid.{IsValid}
 use Rattle.mrpc_table.specs.declared.table.Table.{Table}

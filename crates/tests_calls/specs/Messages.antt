@@ -1,4 +1,4 @@
--- The code's own: what holds of a table with a heap, whatever was stored and copied.
+-- The code's own: the invariant of a table with a heap.
 use Rattle.std.specs.Prelude.{◌≡◌, ℕ, ◌<◌, length}
 use Rattle.mrpc_table.specs.Valid.{IsValid}
 use Rattle.mrpc_table.specs.declared.table.Table.{Table}

@@ -1,4 +1,4 @@
--- The code's own: what holds of a receiver with its heap, whatever it was asked.
+-- The code's own: the invariant of a receiver with its heap.
 use Rattle.std.specs.Prelude.{◌≡◌, ℕ, ◌+◌, ◌*◌, ◌≤◌}
 use Rattle.mrpc_base.specs.Heap.{Heap}
 use Rattle.mrpc_table.specs.Valid.{IsValid}
@@ -6,7 +6,8 @@ use Rattle.mrpc_table.specs.declared.table.Table.{Table}
 use Rattle.frame_transport.specs.Feed.{total}
 use Rattle.receive_core.specs.Turns.{Receiving, IsReady}
 
--- the heap is the receiver's, which read under this table, and each call gave a block at most and 1000 bytes at most
+-- the heap is the receiver's, which read under this table, and each call added at most one block and at most
+-- 1000 bytes
 pub record Receives (T : Table) (heap : Heap) (inbound : Receiving) (calls : ℕ) : Type 0 where
   pub valid : IsValid T
   pub ready : IsReady T inbound

@@ -1,4 +1,4 @@
-//! Blocks that are taken back in every order.
+//! Blocks that are reclaimed in every order.
 
 use receive_heap::Extents;
 use std::alloc::Global;
@@ -16,7 +16,7 @@ fn full(rt: &impl Abort, alloc: Global) -> Extents {
     extents
 }
 
-// Takes the blocks back in the order that a number tells; whether each was held.
+// Reclaims the blocks in the order with this number; whether each was held.
 fn are_held(extents: &mut Extents, order: u32) -> bool {
     let mut left: [u64; 8] = [1, 2, 3, 4, 5, 6, 7, 8];
     let mut order = order;
@@ -32,7 +32,7 @@ fn are_held(extents: &mut Extents, order: u32) -> bool {
     true
 }
 
-// The words of the largest hole once the blocks were taken back in an order; 0 where one of them wasn't held.
+// The words of the largest hole after the blocks were reclaimed in an order; 0 if one of them wasn't held.
 fn largest_after(rt: &impl Abort, alloc: Global, order: u32) -> u64 {
     let mut extents = full(rt, alloc);
     if are_held(&mut extents, order) {

@@ -15,7 +15,7 @@ fn call_laws() {
 
 const PACKED: &[u8] = b"\x32\x06\x03\x8e\x02\x9e\xa7\x05";
 
-// What each test asserts stands in a function that borrows, so that no `assert!` has a drop behind it.
+// The assertions of each test are in a function that borrows, so that no `assert!` is followed by a drop.
 fn assert_encodes(rt: &impl Abort, alloc: Global, scene: &Scene, tree: &Tree) {
     assert!(rt; scene.encoded_len(rt, tree) == 8);
     assert!(rt; scene.encode(rt, alloc, tree).as_slice() == PACKED);
@@ -38,7 +38,7 @@ field 5 map:bool bytes e
 method 0 S Get C C
 ";
 
-// The slot of a field begins at this word.
+// The slot of a field starts at this word.
 fn assert_slot(rt: &impl Abort, scene: &Scene, field: u32, word: u64) {
     assert!(rt; scene.slot_of(field) == Some(word));
 }
@@ -53,7 +53,7 @@ fn assert_slots(rt: &impl Abort, scene: &Scene) {
     assert!(rt; scene.size_words() == 10);
 }
 
-// The oneofs stand behind the fields with slots of their own.
+// The oneofs come after the fields with slots of their own.
 #[test]
 fn a_field_takes_two_words_and_a_oneof_three(rt: HostRuntime) {
     let scene = Scene::open(&rt, rt.alloc(), FIVE_FIELDS);
@@ -102,7 +102,7 @@ fn assert_placed(rt: &impl Abort, scene: &Scene, placement: &Placement) {
     assert!(rt; scene.stored() == placement.placed.words.len());
 }
 
-// It is copied with a load for each of its stores, which all stand.
+// It is copied with one load for each of its stores, and each load reads what was stored.
 fn assert_copied(rt: &impl Abort, alloc: Global, scene: &mut Scene, placement: &Placement) {
     assert!(rt; scene.copied(rt, alloc, 3).as_slice() == OF_EACH_KIND);
     assert!(rt; scene.loaded() == scene.stored());

@@ -21,7 +21,7 @@ use std::alloc::Global;
 use std::marker::Model;
 use std::process::Abort;
 
-// What came of a step of an operator.
+// The outcome of an operator's operation.
 #[derive(Clone, Copy, PartialEq, Eq)]
 pub(crate) enum Stepped {
     Done,
@@ -45,8 +45,8 @@ fn stepped_by(step: &Result<(), ChainFault>) -> Stepped {
     }
 }
 
-// A connection with its heap of 16 words, the tickets of a tenant, and its link. What its calls require is its
-// invariant or is tried when they run, so that hardly a helper has a clause.
+// A connection with its heap of 16 words, the tickets of a tenant, and its link. What its calls require is
+// its invariant or is checked at run time, so that hardly any helper needs a clause.
 pub(crate) struct Scene<'t> {
     alloc: Global,
     table: &'t Table,
@@ -54,11 +54,11 @@ pub(crate) struct Scene<'t> {
     tickets: PlainTickets,
     link: MemLink,
     conn: Conn<'t>,
-    // How many records were compared.
+    // The number of records that were compared.
     told: usize,
 }
 
-// By hand, so that a drop is one call where it is needed, and not a drop of each part.
+// Written by hand, so that a drop is one call, not a drop of each part.
 impl<'t> Drop for Scene<'t> {
     fn drop(self) {
         let Scene {
@@ -93,7 +93,7 @@ fn assert_young(rt: &impl Abort, conn: &Conn)
     assert!(rt; conn.history().len() < 1000);
 }
 
-// Whether a policy is of no other tenant than the first.
+// Whether a policy is of no tenant other than the first.
 fn knows_tenant(policy: &Policy) -> bool
     ensures { OnTrue result (KnowsTenantOf (λ t. t ≡ 0) policy.now) }
 {
@@ -116,7 +116,7 @@ fn knows_tenants(chain: &Chain, tickets: &PlainTickets) -> bool
     true
 }
 
-// A link whose send of a number fails, counted from 1; none where it is 0.
+// A link whose send with this number, from 1, fails; if it is 0, none fails.
 fn link_of(rt: &impl Abort, alloc: Global, failing: u64) -> MemLink {
     let mut sends = Vec::new(alloc);
     if failing > 0 {
@@ -132,7 +132,8 @@ fn link_of(rt: &impl Abort, alloc: Global, failing: u64) -> MemLink {
 }
 
 impl<'t> Scene<'t> {
-    // A connection without a call, number 1. The link's send of a number fails, counted from 1; none where it is 0.
+    // A connection without a call, number 1. The link's send with number `failing`, from 1, fails; if it is
+    // 0, none fails.
     pub(crate) fn open(rt: &impl Abort, alloc: Global, table: &'t Table, failing: u64) -> Scene<'t>
         requires { IsValid table.now }
     {
@@ -167,7 +168,7 @@ impl<'t> Scene<'t> {
         }
     }
 
-    // Submits the message at place 2 as a request of the first method; why it isn't accepted.
+    // Submits the message at place 2 as a request of the first method; returns why it is rejected.
     fn submit(&mut self, rt: &impl Abort) -> Option<AcceptFault> {
         assert_young(rt, &self.conn);
         let ask = self.ask();
@@ -179,13 +180,13 @@ impl<'t> Scene<'t> {
         assert!(rt; self.submit(rt).is_none());
     }
 
-    // It isn't, since the link has failed.
+    // The message is rejected, because the link has failed.
     pub(crate) fn has_ended(&mut self, rt: &impl Abort) {
         assert!(rt; self.conn.ended());
         assert!(rt; matches!(self.submit(rt), Some(AcceptFault::Ended)));
     }
 
-    // It isn't, where the heap's reader finds no memory.
+    // The message is rejected, because the heap's reader is out of memory.
     pub(crate) fn finds_no_memory(&mut self, rt: &impl Abort) {
         assert_young(rt, &self.conn);
         let ask = self.ask();
@@ -199,7 +200,7 @@ impl<'t> Scene<'t> {
 
     // ---- operators
 
-    // What a step of an operator comes to.
+    // The outcome of an operator's operation.
     fn operate(&mut self, rt: &impl Abort, step: Op) -> Stepped
         requires { IfPolicy step IsPolicy }
     {
@@ -207,7 +208,7 @@ impl<'t> Scene<'t> {
         stepped_by(&self.conn.operate(self.alloc, step))
     }
 
-    // What the attachment of a policy of a kind comes to.
+    // The outcome of attaching a policy of a kind.
     pub(crate) fn attach(&mut self, rt: &impl Abort, at: u32, name: &[u8], kind: Kind) -> Stepped {
         let step = Op::Attach {
             at,
@@ -218,13 +219,13 @@ impl<'t> Scene<'t> {
         self.operate(rt, step)
     }
 
-    // What the detachment of the policy of a name comes to.
+    // The outcome of detaching the policy with this name.
     pub(crate) fn detach(&mut self, rt: &impl Abort, name: &[u8]) -> Stepped {
         let name = bytes_of(rt, self.alloc, name);
         self.operate(rt, Op::Detach { name })
     }
 
-    // What it comes to that a policy of a kind is put into the entry of a name.
+    // The outcome of upgrading the entry with this name to a policy of a kind.
     pub(crate) fn upgrade(&mut self, rt: &impl Abort, name: &[u8], kind: Kind) -> Stepped {
         let step = Op::Upgrade {
             name: bytes_of(rt, self.alloc, name),
@@ -234,21 +235,21 @@ impl<'t> Scene<'t> {
         self.operate(rt, step)
     }
 
-    // ---- turns and sendings
+    // ---- turns and sends
 
-    // Turns until no call can go on.
+    // Takes turns until no call can advance.
     pub(crate) fn judge(&mut self, rt: &impl Abort) {
         assert!(rt; knows_tenants(self.conn.chain(), &self.tickets));
         self.conn.judge(&mut self.tickets);
     }
 
-    // Turns until no call can go on, and then sendings: what they come to.
+    // Takes turns until no call can advance, then sends; returns the outcome.
     pub(crate) fn drain(&mut self, rt: &impl Abort) -> Drained {
         assert!(rt; knows_tenants(self.conn.chain(), &self.tickets));
         self.conn.drain(&mut self.tickets, &mut self.link)
     }
 
-    // The same to a link that finds no memory.
+    // Like `drain`, with a link that is out of memory.
     pub(crate) fn drain_without_memory(&mut self, rt: &impl Abort) -> Drained {
         assert!(rt; knows_tenants(self.conn.chain(), &self.tickets));
         self.conn.drain(&mut self.tickets, &mut NoFrames {})
@@ -268,7 +269,7 @@ impl<'t> Scene<'t> {
 
     // ---- steps
 
-    // Records that a call isn't accepted, while 64 stand.
+    // Records that a submission is rejected, because 64 calls are pending.
     fn turn_away(&mut self, rt: &impl Abort) {
         assert!(rt; matches!(self.submit(rt), Some(AcceptFault::Standing)));
         assert!(rt; self.conn.chain().calls().len() == MAX_CALLS);
@@ -308,7 +309,7 @@ impl<'t> Scene<'t> {
         }
     }
 
-    // The next record tells this.
+    // The next record is this.
     pub(crate) fn tells(&mut self, rt: &impl Abort, expected: Told) {
         let history = self.conn.history();
         assert!(rt; self.told < history.len());
@@ -316,7 +317,7 @@ impl<'t> Scene<'t> {
         self.told += 1;
     }
 
-    // Takes these steps, and behind all that was compared the history tells this, and nothing more.
+    // Takes these steps. After all that was compared before, the history has these records, and no more.
     pub(crate) fn does(&mut self, rt: &impl Abort, steps: &[Step], expected: &[Told]) {
         for step in steps {
             self.takes(rt, *step);
@@ -327,9 +328,10 @@ impl<'t> Scene<'t> {
         assert!(rt; self.told == self.conn.history().len());
     }
 
-    // ---- what came of it
+    // ---- outcomes
 
-    // The first call that stands has this number and is held at the first engine, at this level, where it costs 1000.
+    // The first pending call has this number and is held at the first engine, at this level, where it costs
+    // 1000.
     fn holds(&self, rt: &impl Abort, number: u32, wanted: u64) {
         let chain = self.conn.chain();
         let (seq, at) = chain.standing(0).expect(rt, "a call");
@@ -341,25 +343,25 @@ impl<'t> Scene<'t> {
         assert!(rt; cost == 1000);
     }
 
-    // How many records there are.
+    // The number of records.
     pub(crate) fn records(&self) -> usize {
         self.conn.history().len()
     }
 
-    // The record at a place.
+    // The record at an index.
     fn record(&self, rt: &impl Abort, place: usize) -> &Record {
         let history = self.conn.history();
         assert!(rt; place < history.len());
         history.at(place)
     }
 
-    // The record at a place tells that a call was sent.
+    // The record at an index is that a call was sent.
     pub(crate) fn tells_sent(&self, rt: &impl Abort, place: usize, number: u32) {
         let record = self.record(rt, place);
         assert!(rt; matches!(record, Record::Sent { seq, .. } if *seq == number));
     }
 
-    // The record at a place tells that a call was refused, since the link failed.
+    // The record at an index is that a call was refused, because the link failed.
     pub(crate) fn tells_lost(&self, rt: &impl Abort, place: usize, number: u32) {
         let record = self.record(rt, place);
         assert!(rt;
@@ -367,12 +369,12 @@ impl<'t> Scene<'t> {
         );
     }
 
-    // How many frames were handed over.
+    // The number of frames that were handed over.
     pub(crate) fn frames(&self) -> usize {
         self.link.handed().len()
     }
 
-    // This is the frame at a place among them.
+    // The frame at an index is this one.
     pub(crate) fn hands(&self, rt: &impl Abort, place: usize, frame: &[u8]) {
         let frames = self.link.handed();
         assert!(rt; place < frames.len());

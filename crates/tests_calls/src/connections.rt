@@ -1,5 +1,5 @@
-//! Connections whose steps are refused, that are judged without a sending, whose link fails, that end, and that find no
-//! memory.
+//! Connections whose operations are rejected, that are judged without a send, whose link fails, that end, and
+//! that run out of memory.
 
 use crate::connection::{Scene, Stepped};
 use crate::discard;
@@ -10,7 +10,8 @@ use std::process::Abort;
 
 const NAMES: [&[u8]; 8] = [b"a", b"b", b"c", b"d", b"e", b"f", b"g", b"h"];
 
-// What each test asks of its scene stands in a function that borrows it, so that no `assert!` has a drop behind it.
+// The assertions of each test are in a function that borrows its scene, so that no `assert!` is followed by a
+// drop.
 fn refuse_steps(rt: &impl Abort, scene: &mut Scene) {
     assert!(rt; scene.detach(rt, b"a") == Stepped::NoSuch);
     assert!(rt; scene.upgrade(rt, b"a", Kind::Rate(2)) == Stepped::NoSuch);
@@ -40,7 +41,7 @@ fn judge_before_a_drain(rt: &impl Abort, scene: &mut Scene) {
     scene.judge(rt);
     assert!(rt; scene.records() == 3);
     assert!(rt; scene.frames() == 0);
-    // The new count counts the call, and that behind it lets it pass by its mark.
+    // The new count policy counts the call, and the one after it lets the call pass by its mark.
     assert!(rt; scene.attach(rt, 0, b"d", Kind::Count) == Stepped::Done);
     scene.judge(rt);
     assert!(rt; scene.records() == 5);

@@ -17,7 +17,7 @@ pub(crate) const NUMBERS: &[u8] = b"message M\nfield 6 packed uint64 n\nmethod 0
 pub(crate) const FIRST_WITH_7: &[u8] =
     b"\x00\x00\x00\x02\x01\x01\x00\x00\x00\x00\x00\x01\x00\x00\x00\x01\x08\x07";
 
-// The same of call 2.
+// The frame of call 2, with the same content.
 pub(crate) const SECOND_WITH_7: &[u8] =
     b"\x00\x00\x00\x02\x01\x01\x00\x00\x00\x00\x00\x01\x00\x00\x00\x02\x08\x07";
 

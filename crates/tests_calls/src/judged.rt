@@ -1,4 +1,4 @@
-//! Connections whose calls are judged by policies, step by step, with all that their histories tell.
+//! Connections whose calls are judged by policies, step by step, with all records of their histories.
 
 use crate::connection::{Scene, Stepped};
 use crate::discard;
@@ -11,7 +11,7 @@ use std::process::Abort;
 const PAIR: &[u8] =
     b"message M\nfield 1 plain uint64 a\nfield 2 plain uint64 b\nmethod 0 S Get M M\n";
 
-// The history of a connection tells this behind these steps, and nothing more. The table is this text's.
+// After these steps the history of a connection has these records, and no more. This text is the table's.
 fn assert_steps(rt: &impl Abort, alloc: Global, text: &[u8], steps: &[Step], expected: &[Told]) {
     let table = table_of(rt, alloc, text);
     let mut scene = Scene::open(rt, alloc, &table, 0);
@@ -99,7 +99,7 @@ fn a_call_whose_ticket_is_the_cap_is_refused(rt: HostRuntime) {
     assert_steps(&rt, rt.alloc(), SMALL, &steps, &expected);
 }
 
-// ---- policies that come while calls stand
+// ---- policies that come while calls are pending
 
 const ALL: &[&[u8]] = &[b"default allow"];
 
@@ -160,7 +160,7 @@ fn a_counted_call_meets_a_later_attachment(rt: HostRuntime) {
 
 const SECOND: &[&[u8]] = &[b"clear method 0 2"];
 
-// A call with 7 and 9 comes to an access policy of these rules, and to one that clears its second field.
+// A call with 7 and 9 reaches an access policy with these rules, and one that clears its second field.
 fn assert_redacted<'x>(
     rt: &impl Abort,
     alloc: Global,

@@ -17,9 +17,9 @@ use std::process::Abort;
 pub(crate) enum Kind<'a> {
     // Rules, and then a default.
     Access(&'a [&'a [u8]]),
-    // A call a second, and so many at once, from 1 to 10; what comes short is held.
+    // One call a second, and this many at once, from 1 to 10; a call below its cost is held.
     Rate(u64),
-    // So many calls of the first tenant a second.
+    // This many calls of the first tenant a second.
     Quota(u64),
     // Calls are counted.
     Count,
@@ -27,30 +27,30 @@ pub(crate) enum Kind<'a> {
     Redact(&'a [&'a [u8]]),
 }
 
-// What a connection is asked, and what is looked at between.
+// The steps of a connection, and the checks between them.
 #[derive(Clone, Copy)]
 pub(crate) enum Step<'a> {
     // A value is stored at a place.
     Store(u64, u64),
-    // The message at place 2 is accepted so often.
+    // The message at place 2 is accepted this many times.
     Accept(u32),
-    // A call is turned away, since 64 stand.
+    // A submission is rejected, because 64 calls are pending.
     TurnAway,
     // A policy of a kind is attached at a position under a name.
     Attach(u32, &'a [u8], Kind<'a>),
-    // The policy of a name is detached.
+    // The policy with a name is detached.
     Detach(&'a [u8]),
-    // A policy of a kind is put into the entry of a name.
+    // The entry with a name is upgraded to a policy of a kind.
     Upgrade(&'a [u8], Kind<'a>),
-    // The clock shows a moment.
+    // The clock has a timestamp.
     Clock(u64),
-    // The engine at a position has so many turns.
+    // The engine at a position takes this many turns.
     Turn(u32, u32),
     // All is judged and sent.
     Drain,
-    // The first engine holds the call of a number, which is the first that stands, at a level that is below its cost.
+    // The first engine holds the call with this number, the first pending one, at a level below its cost.
     Hold(u32, u64),
-    // One frame was handed over in all, and it is this one.
+    // One frame was handed over so far, and it is this one.
     Hand(&'a [u8]),
 }
 

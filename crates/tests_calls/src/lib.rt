@@ -1,5 +1,5 @@
-//! Tests of what a call goes through: the codec, its graph in a heap, a chain, a connection, and the receive path. It
-//! has no code of its own, and nothing stands on it.
+//! Tests of the stages of a call: the codec, its graph in a heap, a chain, a connection, and the receive
+//! path. The crate has no other code, and nothing uses it.
 #![tactic(auto)]
 
 #[cfg(test)]
@@ -29,7 +29,7 @@ mod told;
 #[cfg(test)]
 mod wanting;
 
-// What a drop comes to is proved in each function that has one. In this one it is one call, so values are handed over
-// to it.
+// What dropping a value does is proved in each function that drops one. Through this function it is one call,
+// so values are moved into it.
 #[cfg(test)]
 pub(crate) fn discard<T: Drop>(_value: T) {}

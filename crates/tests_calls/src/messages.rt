@@ -17,14 +17,14 @@ use table_text::read_table;
 use wire_decode::decode;
 use wire_encode::{encode, encoded_len};
 
-// A table with a heap. What the functions on both require is its invariant, or is tried at each call, so that no test
-// has to know it. Contracts see the table.
+// A table with a heap. What functions on both require is its invariant, or is checked at each call, so that
+// no test has to know it. Contracts see the table.
 pub(crate) struct Scene {
     table: Table,
     heap: PlainWords,
 }
 
-// By hand, so that a drop is one call where it is needed, and not a drop of each part.
+// Written by hand, so that a drop is one call, not a drop of each part.
 impl Drop for Scene {
     fn drop(self) {
         let Scene {
@@ -45,7 +45,7 @@ impl Model for Scene {
     ghost invariant = { λ s. IsScene s.table s.heap.size };
 }
 
-// A message that was placed: its encoding by what stands there, its words with their places, and how many it takes.
+// A message that was placed: its encoding as read back, its words with their places, and its number of words.
 #[derive(Drop)]
 pub(crate) struct Placement {
     pub encoding: Bytes,
@@ -62,7 +62,7 @@ impl Scene {
         Scene { table, heap }
     }
 
-    // Where the slot of a field begins in a node of the first message, if the message has the field.
+    // The start of a field's slot in a node of the first message, if the message has the field.
     pub(crate) fn slot_of(&self, field: u32) -> Option<u64> {
         match self.table.field(0, field) {
             Some(_) => Some(slot_of(&self.table, 0, field)),
@@ -70,7 +70,7 @@ impl Scene {
         }
     }
 
-    // How many words a message takes without its content.
+    // The number of words of a message without its content.
     pub(crate) fn size_words(&self) -> u64 {
         size_words(&self.table, 0)
     }
@@ -108,7 +108,7 @@ impl Scene {
         }
     }
 
-    // Places a message at one of the first places, where there is room for it.
+    // Places a message at one of the first places, if there is room for it.
     fn placed(&mut self, rt: &impl Abort, alloc: Global, tree: &Tree, at: u64) -> Placed
         requires from_one { 1 ≤ at }
         requires in_front { at ≤ 6 }
@@ -121,7 +121,7 @@ impl Scene {
         place(alloc, tree, &self.table, 0, at, &mut self.heap).expect(rt, "a place")
     }
 
-    // The encoding of what a placed message is without its places.
+    // The encoding of a placed message's tree.
     fn forgotten(&self, rt: &impl Abort, alloc: Global, placed: &Placed) -> Bytes
         requires { (H : ℕ) × (P : PlacedTree) × AreWordsOf self.now H 0 P placed.now }
     {
@@ -165,17 +165,17 @@ impl Scene {
         self.place(rt, alloc, &tree, at)
     }
 
-    // How many stores were made.
+    // The number of stores so far.
     pub(crate) fn stored(&self) -> usize {
         self.heap.made() as usize
     }
 
-    // How many loads were made.
+    // The number of loads so far.
     pub(crate) fn loaded(&self) -> usize {
         self.heap.loads_made() as usize
     }
 
-    // Whether these words stand at their places, by a load of each.
+    // Whether these words are at their places, by a load of each.
     pub(crate) fn holds(&mut self, rt: &impl Abort, words: &[(u64, u64)]) -> bool {
         for &(place, value) in words {
             assert!(rt; place < 256);

@@ -1,4 +1,4 @@
-//! A receiver with its heap, and what its turns tell.
+//! A receiver with its heap, and the outcomes of its turns.
 
 ghost use Rattle.std.specs.Prelude.{◌≤◌};
 
@@ -15,7 +15,7 @@ use std::marker::Model;
 use std::process::Abort;
 use table_text::read_table;
 
-// What a turn told, without its tree.
+// The outcome of a turn, without its tree.
 #[derive(Clone, Copy, PartialEq, Eq)]
 pub(crate) enum Told {
     Nothing,
@@ -36,16 +36,16 @@ fn without_tree(arrival: &Arrival) -> Told {
     }
 }
 
-// A receiver with its heap. What its calls require of it is its invariant, so that none of them has a clause.
+// A receiver with its heap. What its calls require is its invariant, so that none of them needs a clause.
 pub(crate) struct Scene {
     table: Table,
     heap: PlainWords,
     inbound: Inbound,
-    // How often it was fed or took a turn.
+    // The number of feeds and turns so far.
     calls: u64,
 }
 
-// By hand, so that a drop is one call where it is needed, and not a drop of each part.
+// Written by hand, so that a drop is one call, not a drop of each part.
 impl Drop for Scene {
     fn drop(self) {
         let Scene {
@@ -69,7 +69,7 @@ impl Model for Scene {
 }
 
 impl Scene {
-    // The receiver of connection 1 with so many words.
+    // The receiver of connection 1 with this number of words.
     pub(crate) fn open(rt: &impl Abort, alloc: Global, table: &[u8], words: u64) -> Scene
         requires least { 4 ≤ words }
         requires most { words ≤ 65536 }
@@ -82,12 +82,12 @@ impl Scene {
         }
     }
 
-    // Feeds a piece of a stream, of 1000 bytes at most; whether there is no fault so far.
+    // Feeds at most 1000 bytes of a stream; whether there is no fault so far.
     pub(crate) fn feed(&mut self, piece: &[u8]) -> bool {
         self.fault_at(piece).is_none()
     }
 
-    // Feeds a piece of a stream, of 1000 bytes at most; the fault that it answers.
+    // Feeds at most 1000 bytes of a stream; the fault that it returns.
     pub(crate) fn fault_at(&mut self, piece: &[u8]) -> Option<FeedFault> {
         if self.calls > 1000 || piece.len() > 1000 {
             return Some(FeedFault::Memory);
@@ -96,7 +96,7 @@ impl Scene {
         self.inbound.bytes(piece).err()
     }
 
-    // What one turn tells.
+    // The outcome of one turn.
     fn turn(&mut self, policy: Option<&Access>) -> Result<Told, Memory> {
         if self.calls > 1000 || self.heap.made() > 1000 {
             return Err(Memory);
@@ -105,13 +105,13 @@ impl Scene {
         Ok(without_tree(&self.inbound.turn(&self.table, policy, &mut self.heap)?))
     }
 
-    // One turn without a policy tells this.
+    // One turn without a policy has this outcome.
     pub(crate) fn tells(&mut self, rt: &impl Abort, expected: Told) {
         let told = self.turn(None).expect(rt, "a turn");
         assert!(rt; told == expected);
     }
 
-    // One turn under the policy of a line tells this.
+    // One turn under the policy of a line has this outcome.
     pub(crate) fn tells_under(
         &mut self,
         rt: &impl Abort,
@@ -125,17 +125,17 @@ impl Scene {
         assert!(rt; told == expected);
     }
 
-    // Takes a block back.
+    // Reclaims a block.
     pub(crate) fn reclaim(&mut self, block: u64) -> Result<(), NotHeld> {
         self.inbound.reclaim(block)
     }
 
-    // The whole frame behind so many others.
+    // The whole frame after this number of others.
     pub(crate) fn waiting(&self, others: u64) -> Option<(u8, u16, u32)> {
         self.inbound.waiting(others)
     }
 
-    // The version and the length of the payload of the hello in front, which is taken.
+    // The version and the payload length of the hello that comes first; it is taken.
     pub(crate) fn take_hello(&mut self) -> Option<(u8, usize)> {
         let hello = self.inbound.take_hello()?;
         Some((hello.version, hello.payload.len()))
@@ -147,7 +147,7 @@ impl Scene {
         Some(first.version)
     }
 
-    // How many bytes lie in no whole frame.
+    // The number of bytes that are in no whole frame.
     pub(crate) fn rest(&self) -> u64 {
         self.inbound.left_over()
     }

@@ -13,7 +13,7 @@ use wire_decode::DecodeReason;
 // A request with 150 in its field.
 const REQUEST: &[u8] = b"\0\0\0\x03\x01\x01\0\0\0\0\0\x01\0\0\0\x01\x08\x96\x01";
 
-// The same, and another with 7.
+// The same request, and another with 7.
 const TWO_REQUESTS: &[u8] =
     b"\0\0\0\x03\x01\x01\0\0\0\0\0\x01\0\0\0\x01\x08\x96\x01\0\0\0\x02\x01\x01\0\0\0\0\0\x01\0\0\0\x02\x08\x07";
 
@@ -21,7 +21,7 @@ const TWO_REQUESTS: &[u8] =
 const LONG_REQUEST: &[u8] =
     b"\0\0\0\x08\x01\x01\0\0\0\0\0\x01\0\0\0\x01\x32\x06\x03\x8e\x02\x9e\xa7\x05";
 
-// A hello, a request of a method that isn't there, one whose payload ends inside a record, and a reply to none.
+// A hello, a request of an unknown method, one whose payload ends inside a record, and a reply to no request.
 const DROPPED: &[u8] = b"\0\0\0\0\x03\x02\0\0\0\0\0\x01\0\0\0\0\
     \0\0\0\0\x01\x01\0\x07\0\0\0\x01\0\0\0\x02\
     \0\0\0\x01\x01\x01\0\0\0\0\0\x01\0\0\0\x03\x08\
@@ -114,7 +114,7 @@ fn the_policy_of_the_turn_counts(rt: HostRuntime) {
     scene.tells(&rt, Told::Nothing);
 }
 
-// Two frames whose bytes come in two pieces, cut at a place, arrive, and nothing behind them.
+// Two frames whose bytes come in two parts, split at an offset, arrive, and nothing else.
 fn check_cut(rt: &impl Abort, alloc: Global, at: usize) {
     let second = Block {
         number: 2,
@@ -156,11 +156,11 @@ fn a_fault_comes_behind_the_frames_before_it(rt: HostRuntime) {
     scene.tells(&rt, Told::Nothing);
 }
 
-// A request, and behind it a header of kind 4.
+// A request, followed by a header of kind 4.
 const FAULTY: &[u8] =
     b"\0\0\0\x03\x01\x01\0\0\0\0\0\x01\0\0\0\x01\x08\x96\x01\0\0\0\0\x04\x01\0\0\0\0\0\x01\0\0\0\x02";
 
-// The fault of kind 4, which stands behind the request and the length of four bytes.
+// The fault of kind 4, after the request and the four bytes of the length.
 fn is_kind_four(fault: Option<FeedFault>) -> bool {
     matches!(
         fault,
@@ -171,8 +171,8 @@ fn is_kind_four(fault: Option<FeedFault>) -> bool {
     )
 }
 
-// A stream with a fault comes in two pieces, cut at a place. Its fault is told with the piece that has the kind, and
-// again from then on; the request in front of it arrives.
+// A stream with a fault comes in two parts, split at an offset. Its fault is returned with the part that has
+// the kind, and again from then on; the request before it arrives.
 fn check_faulty_cut(rt: &impl Abort, alloc: Global, at: usize) {
     let mut scene = Scene::open(rt, alloc, SMALL, 16);
     let (front, back) = FAULTY.split_at(at.min(FAULTY.len()));

@@ -1,17 +1,17 @@
-//! What a history tells, in a form that tests compare.
+//! Records of a history in a form that tests compare.
 
 ghost use Rattle.std.specs.Prelude.{◌<◌, length};
 
 use call_history::{History, Record, Refusal};
 use engine_core::Op;
 
-// What a record tells: the number of a call, the place of the step that put the policy into its engine, and then what
-// was noted.
+// A record: the number of a call, the index of the operation that put the policy into its engine, and then
+// what was noted.
 #[derive(Clone, Copy, PartialEq, Eq)]
 pub(crate) enum Told {
-    // A call was taken.
+    // A call was accepted.
     Took(u32),
-    // A call was turned away.
+    // A submission was rejected.
     Away,
     // A policy was attached.
     Attached,
@@ -19,27 +19,27 @@ pub(crate) enum Told {
     Detached,
     // A policy was upgraded.
     Upgraded,
-    // The clock shows a moment.
+    // The clock has a timestamp.
     Moment(u64),
-    // A call was charged, and this is the level after it.
+    // A call was charged; the level after it.
     Charged(u32, usize, u64),
-    // A ticket was drawn for a call in a window: the window, and the ticket.
+    // A ticket was drawn for a call in a window; the window, and the ticket.
     Drawn(u32, usize, u64, u64),
     // A call was counted.
     Counted(u32, usize),
-    // Fields were cleared from a call by a policy of this version.
+    // Fields were cleared from a call by this version of a policy.
     Redacted(u32, usize, u32),
-    // A call was sent in a frame of so many bytes.
+    // A call was sent in a frame of this many bytes.
     Sent(u32, u64),
-    // A call was denied in a version of a policy, by the rule at a place.
+    // A call was denied in a version of a policy, by the rule with this index.
     Denied(u32, usize, u32, u32),
-    // A call was refused, since its ticket isn't below the cap.
+    // A call was refused, because its ticket isn't below the cap.
     Over(u32, usize, u64, u64),
-    // A call was refused, since its graph is malformed, its level was below its cost, or the link failed.
+    // A call was refused, because its graph is malformed, its level was below its cost, or the link failed.
     Refused(u32),
 }
 
-// What a step tells.
+// The record of an operation.
 fn told_of_step(step: &Op) -> Told {
     match step {
         Op::Attach { .. } => Told::Attached,
@@ -48,7 +48,7 @@ fn told_of_step(step: &Op) -> Told {
     }
 }
 
-// What the refusal of a call tells.
+// The record of a call's refusal.
 fn told_of_refusal(seq: u32, by: Refusal) -> Told {
     match by {
         Refusal::Access {
@@ -61,7 +61,7 @@ fn told_of_refusal(seq: u32, by: Refusal) -> Told {
     }
 }
 
-// What the record at a place tells.
+// The record at an index.
 pub(crate) fn told_at(history: &History, place: usize) -> Told
     requires { place < length history.now.happenings }
 {

@@ -1,8 +1,8 @@
-//! A link and a heap that find no memory.
+//! A link and a heap that run out of memory.
 
 use mrpc_base::{Came, Handed, Link, PlainWords, Room, Words};
 
-// A link that finds no memory for any frame.
+// A link that is out of memory for each frame.
 #[derive(Drop)]
 pub(crate) struct NoFrames;
 
@@ -39,7 +39,7 @@ impl Link for NoFrames {
     fn finish(&mut self) {}
 }
 
-// A heap whose reader finds no memory for more loads than it has room for.
+// A heap whose reader is out of memory for more loads than it has room for.
 #[derive(Drop)]
 pub(crate) struct NoLoads {
     pub heap: PlainWords,

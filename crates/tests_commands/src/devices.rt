@@ -1,4 +1,4 @@
-//! What commands and views work on.
+//! The devices of commands and views.
 
 use mrpc_base::{MemSink, MemSource};
 use std::alloc::Global;
@@ -12,7 +12,7 @@ pub(crate) struct Failing<'a> {
     pub(crate) beside: &'a [u64],
 }
 
-// The devices in memory. The first read of the input gives at most ten bytes.
+// The devices in memory. The first read of the input returns at most ten bytes.
 pub(crate) struct Devices {
     pub(crate) input: MemSource,
     pub(crate) out: MemSink,
@@ -20,7 +20,7 @@ pub(crate) struct Devices {
     pub(crate) beside: MemSink,
 }
 
-// By hand, so that a drop is one call where it is needed, and not a drop of each part.
+// Written by hand, so that a drop is one call, not a drop of each part.
 impl Drop for Devices {
     fn drop(self) {
         let Devices {

@@ -1,5 +1,5 @@
-//! Tests of the commands and of the views over objects in memory, whose calls fail where a test says so. It has no code
-//! of its own, and nothing stands on it.
+//! Tests of the commands and of the views over objects in memory, whose calls fail where a test says so. The
+//! crate has no other code, and nothing uses it.
 #![tactic(auto)]
 
 #[cfg(test)]

@@ -1,4 +1,4 @@
--- The code's own: two links that a fabric has back.
+-- The code's own: two links that were returned to a fabric.
 use Rattle.std.specs.Prelude.{ℕ, List, [], ◌∷◌}
 
 -- two entries, whose links are the ends of one link

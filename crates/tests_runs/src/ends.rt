@@ -4,7 +4,8 @@ ghost use Rattle.std.specs.Prelude.{◌≡◌, ◌<◌, ◌+◌, ◌∷◌, IsPe
 use std::alloc::Global;
 use std::process::Abort;
 
-// The ends that a fabric has back, each with its connection, and how many it opened that it doesn't have back.
+// The ends that were returned to a fabric, each with its connection, and the number of opened ends that were
+// not.
 #[derive(Drop)]
 pub(crate) struct Ends<L> {
     pub back: Vec<(u32, L)>,
@@ -29,7 +30,7 @@ impl<L> Ends<L> {
 }
 
 impl<L: Drop> Ends<L> {
-    // Takes an end back.
+    // Takes back an end.
     pub(crate) fn keep(&mut self, rt: &impl Abort, conn: u32, end: L)
         requires opened { 0 < self.old.away }
         ensures back { IsPermutation self.new.back.items ((conn, end) ∷ self.old.back.items) }

@@ -1,4 +1,4 @@
-//! Gates that stay inside a call, and note which calls there were.
+//! Gates that block inside a call, and note their calls.
 
 use mrpc_base::Gate;
 use std::alloc::Global;
@@ -7,16 +7,16 @@ use std::sync::atomic::{AtomicBool, AtomicU64, Ordering};
 use std::sync::{Mutex, Wait};
 use std::thread;
 
-// How many turns a call waits at most for what is to come.
+// The most turns that a call waits for an event.
 const TURNS: u64 = 10_000_000;
 
-// How many turns a call lasts for which others are to wait.
+// The number of turns that a call lasts for which others are to wait.
 const LONG: u64 = 100_000;
 
-// How many calls in a row there are for one connection at most.
+// The most consecutive calls for one connection.
 const MOST_IN_A_ROW: u64 = 10_000_000;
 
-// Whether a count rises above a value within so many turns, in each of which the processor is given away.
+// Whether a count rises above a value within this many turns, each of which yields the processor.
 pub(crate) fn rises_above(count: &AtomicU64, before: u64) -> bool {
     for _ in 0..TURNS {
         if count.load(Ordering::SeqCst) > before {
@@ -27,7 +27,7 @@ pub(crate) fn rises_above(count: &AtomicU64, before: u64) -> bool {
     false
 }
 
-// A gate whose first calls for connections 1 and 2 each stay inside until the other one has begun.
+// A gate whose first calls for connections 1 and 2 each block until the other one has started.
 #[derive(Drop)]
 pub(crate) struct MeetingGate {
     first: AtomicU64,
@@ -44,12 +44,12 @@ impl MeetingGate {
         }
     }
 
-    // How many calls ran out of turns.
+    // The number of calls that ran out of turns.
     pub(crate) fn missed(&self) -> u64 {
         self.missed.load(Ordering::SeqCst)
     }
 
-    // Whether both first calls began.
+    // Whether both first calls started.
     pub(crate) fn has_begun(&self) -> bool {
         self.first.load(Ordering::SeqCst) > 0 && self.second.load(Ordering::SeqCst) > 0
     }
@@ -93,7 +93,7 @@ impl Gate for CountingGate {
     }
 }
 
-// The calls of a gate, by the connections that they were for.
+// The calls of a gate, by connection.
 #[derive(Drop)]
 struct Calls {
     conns: Vec<u32>,
@@ -113,7 +113,8 @@ impl Calls {
     }
 }
 
-// A gate that notes each call, during which no other one may begin. Its first call for connection 1 lasts long.
+// A gate that notes each call, and no other call may start during one. Its first call for connection 1 lasts
+// long.
 #[derive(Drop)]
 pub(crate) struct NotingGate<'r, R> {
     rt: &'r R,
@@ -135,7 +136,7 @@ impl<'r, R: Abort + Wait> NotingGate<'r, R> {
         }
     }
 
-    // The connections that it was asked for, in order.
+    // The connections that it was called for, in order.
     pub(crate) fn into_conns(self) -> Vec<u32> {
         let NotingGate {
             rt: _,

@@ -1,4 +1,4 @@
-//! Lines of what is left of a connection, as far as no run shows them.
+//! Lines for the remains of a connection, as far as no run prints them.
 
 use arrival_text::{append_cut, append_not_held, append_short, append_waits};
 use frame_transport::FeedFault;

@@ -1,5 +1,5 @@
-//! Tests of whole runs over fabrics, clocks and gates of their own: what no clause of a run says, and no case of the
-//! program can show. It has no code of its own, and nothing stands on it.
+//! Tests of whole runs over their own fabrics, clocks and gates: what no clause of a run states, and no case
+//! of the program can show. The crate has no other code, and nothing uses it.
 #![tactic(auto)]
 
 #[cfg(test)]
@@ -31,7 +31,7 @@ mod threads;
 #[cfg(test)]
 mod turns;
 
-// What a drop comes to is proved in each function that has one. In this one it is one call, so values are handed over
-// to it.
+// What dropping a value does is proved in each function that drops one. Through this function it is one call,
+// so values are moved into it.
 #[cfg(test)]
 pub(crate) fn discard<T: Drop>(_value: T) {}

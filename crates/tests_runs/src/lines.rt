@@ -1,4 +1,5 @@
-//! Lines of runs whose peers aren't this program. Connection 1 is given prepared bytes, and connection 2 none.
+//! Lines of runs whose peers aren't this program. Connection 1 receives prepared bytes, and connection 2
+//! none.
 
 ghost use Rattle.run_plan.specs.Plans.{IsPlan};
 
@@ -22,7 +23,7 @@ const LISTENER: &str =
     service S { rpc Get (M) returns (M); }'''}, {conn = 2, role = \"echo\"}]\n\
     link = [{a = 1, b = 2}]\n";
 
-// What is told behind the lines of connection 1.
+// The lines after those of connection 1.
 const REST: &[u8] = b"unbound 2 ended\ntotals 0 0 0 0\n";
 
 fn listener(rt: &impl Abort, alloc: Global) -> Plan
@@ -31,7 +32,7 @@ fn listener(rt: &impl Abort, alloc: Global) -> Plan
     plan_of(rt, alloc, "workers = 1\n", LISTENER)
 }
 
-// What a run tells in which connection 1 has this end of its link.
+// The report of a run in which connection 1 has this end of its link.
 fn ran_with<R: Abort + Threads + Wait + Sync>(
     rt: &R,
     alloc: Global,
@@ -45,14 +46,14 @@ fn ran_with<R: Abort + Threads + Wait + Sync>(
     ran(rt, alloc, plan, fabric, &CountingGate::new())
 }
 
-// The run told these lines of connection 1, and the rest.
+// The run prints these lines for connection 1, and then `REST`.
 fn assert_lines(rt: &impl Abort, alloc: Global, told: &Told, lines: &[u8]) {
     let mut expected = lines.to_vec(alloc).expect(rt, "memory");
     expected.extend_from_slice(REST).expect(rt, "memory");
     assert!(rt; told.text.as_slice() == expected.as_slice());
 }
 
-// A listener whose link is this one tells these lines, and no call of the link fails.
+// A listener with this link prints these lines, and no call of the link fails.
 fn assert_told<R: Abort + Threads + Wait + Sync>(
     rt: &R,
     alloc: Global,
@@ -64,7 +65,7 @@ fn assert_told<R: Abort + Threads + Wait + Sync>(
     assert_lines(rt, alloc, &told, lines);
 }
 
-// Bytes that a listener is given, and the lines that it tells then.
+// Bytes that a listener receives, and the lines that it then prints.
 type Row<'a> = (&'a [u8], &'a [u8]);
 
 fn assert_heard<R: Abort + Threads + Wait + Sync>(rt: &R, alloc: Global, rows: &[Row]) {
@@ -106,7 +107,7 @@ fn what_is_no_hello_leaves_a_connection_unbound(rt: HostRuntime) {
     assert_heard(&rt, rt.alloc(), &rows);
 }
 
-// The hello of a listener's peer, of a version.
+// The hello of a listener's peer, with a version.
 fn peer_hello(rt: &impl Abort, alloc: Global, version: u8) -> Vec<u8> {
     let plan = listener(rt, alloc);
     let hello = hello_of(rt, alloc, &plan, version);
@@ -114,7 +115,7 @@ fn peer_hello(rt: &impl Abort, alloc: Global, version: u8) -> Vec<u8> {
     hello
 }
 
-// A listener that is given a hello of a version, and these bytes behind it, tells these lines.
+// A listener that receives a hello with a version, and these bytes after it, prints these lines.
 fn assert_behind<R: Abort + Threads + Wait + Sync>(
     rt: &R,
     alloc: Global,
@@ -127,7 +128,7 @@ fn assert_behind<R: Abort + Threads + Wait + Sync>(
     assert_told(rt, alloc, Prepared::giving(alloc, stream), lines);
 }
 
-// The same of each row, behind a hello of version 2.
+// Like `assert_behind` for each row, after a hello of version 2.
 fn assert_each_behind<R: Abort + Threads + Wait + Sync>(rt: &R, alloc: Global, rows: &[Row]) {
     for (bytes, lines) in rows {
         assert_behind(rt, alloc, 2, *bytes, *lines);
@@ -142,7 +143,7 @@ fn a_hello_of_version_1_asks_for_the_same_text(rt: HostRuntime) {
     assert_behind(&rt, rt.alloc(), 1, b"", MISMATCH);
 }
 
-// An end that is given these bytes, nothing at first, and then one at a time.
+// An end that receives these bytes, nothing at first, and then one at a time.
 fn slowly(rt: &impl Abort, alloc: Global, bytes: Vec<u8>) -> Prepared {
     let mut end = Prepared::giving(alloc, bytes);
     for at in 0..200_usize {
@@ -233,7 +234,7 @@ fn each_fault_of_a_payload_is_told(rt: HostRuntime) {
     assert_behind(&rt, rt.alloc(), 2, bytes.as_slice(), lines);
 }
 
-// An end that is given this hello, and whose sends and receives of these numbers fail.
+// An end that receives this hello, and whose sends and receives with these numbers fail.
 fn failing(
     rt: &impl Abort,
     alloc: Global,
@@ -275,7 +276,7 @@ fn a_link_that_fails_before_the_hello_is_told(rt: HostRuntime) {
 const SENT_ONCE: &[u8] = b"took 1 1 0 0 2 1 1 copy 089601\nsent 1 1 19\nunbound 2 ended\n\
     method 0 1 1 0 0\ntotals 1 1 0 0\n";
 
-// Under version 1 it is bound by a hello with its own text.
+// Under version 1 a hello with its own text binds it.
 fn assert_sent_before_it_fails<R: Abort + Threads + Wait + Sync>(rt: &R, alloc: Global) {
     let plan = plan_of(rt, alloc, "workers = 1\n", ONE_CALL);
     let hello = hello_of(rt, alloc, &plan, 1);

@@ -1,4 +1,5 @@
-//! The two ends of a link that a run gave back to a fabric in memory: what each gave is what the other was handed.
+//! The two ends of a link that a run returned to a fabric in memory: what each received is what the other was
+//! handed.
 ghost use Rattle.std.specs.Prelude.{◌≡◌, [], IfOk, length};
 ghost use Rattle.mem_fabric.specs.Pair.{ArePair, IsHandedOn};
 ghost use Rattle.run_plan.specs.Plans.{IsPlan};
@@ -18,7 +19,7 @@ use std::process::Abort;
 use std::sync::Wait;
 use std::thread::Threads;
 
-// Takes back the two ends of a link, and has them meet.
+// Takes back the two ends of a link, and joins them by `meet`.
 fn meet_ends<'r, R: Wait>(fabric: &mut MemFabric<'r, R>) -> (PairLink<'r, R>, PairLink<'r, R>)
     requires { AreTwo ArePair fabric.old.back }
     ensures to_second { IsHandedOn result.0 result.1 }
@@ -30,7 +31,7 @@ fn meet_ends<'r, R: Wait>(fabric: &mut MemFabric<'r, R>) -> (PairLink<'r, R>, Pa
     (first, second)
 }
 
-// Runs a plan. The two ends that its fabric has back are those of one link.
+// Runs a plan. The two ends that are returned to its fabric are those of one link.
 fn run_over<'r, R: Threads + Wait + Sync>(
     rt: &'r R,
     alloc: Global,
@@ -47,7 +48,7 @@ fn run_over<'r, R: Threads + Wait + Sync>(
     Ok(())
 }
 
-// The ends of the one link of a plan, which met behind its run.
+// The ends of the one link of a plan, which met after its run.
 fn met<'r, R: Abort + Threads + Wait + Sync>(
     rt: &'r R,
     alloc: Global,
@@ -65,7 +66,7 @@ fn met<'r, R: Abort + Threads + Wait + Sync>(
     meet_ends(&mut fabric)
 }
 
-// An end has given all that it was to give.
+// An end has nothing left to receive.
 fn has_given_all<L: Link>(rt: &impl Abort, end: &mut L) {
     let mut buf = [0; 1];
     assert!(rt; end.receive(&mut buf) == Came::End);
@@ -81,7 +82,7 @@ fn assert_ends_met<R: Abort + Threads + Wait + Sync>(rt: &R, alloc: Global) {
     discard(second);
 }
 
-// That the bytes are the same, in order, is what `met` promises of them, and proved.
+// The contract of `met` proves that the bytes are equal, in order.
 #[test]
 fn the_ends_of_a_link_meet_behind_a_run(rt: HostRuntime) {
     assert_ends_met(&rt, rt.alloc());

@@ -1,4 +1,4 @@
-//! The moments of a run, as its clock gives them.
+//! The timestamps of a run, as its clock returns them.
 
 use crate::gates::CountingGate;
 use crate::runs::{ONE_CALL, plan_of, ran_at};
@@ -8,7 +8,7 @@ use std::process::Abort;
 use std::sync::Wait;
 use std::thread::Threads;
 
-// What a run of one call tells at a clock that stays 5.
+// The report of a run of one call with a clock that stays at 5.
 const AT_5: &[u8] = b"moment 1 5\ntook 1 1 0 0 2 1 1 copy 089601\nsent 1 1 19\n\
     arrived 1 2 0 1 089601\nmoment 2 5\ntook 2 1 0 1 2 1 1 copy 089601\nsent 2 1 19\n\
     arrived 2 1 0 1 089601\nmethod 0 2 2 0 0\ntotals 2 2 0 0\n";
@@ -19,7 +19,7 @@ fn assert_moments<R: Abort + Threads + Wait + Sync>(rt: &R, alloc: Global) {
     assert!(rt; told.text.as_slice() == AT_5);
 }
 
-// Each connection is shown its moment before its first call, and once.
+// Each connection gets its timestamp before its first call, and once.
 #[test]
 fn a_clock_that_stays_5_is_told_once(rt: HostRuntime) {
     assert_moments(&rt, rt.alloc());

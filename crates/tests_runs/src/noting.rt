@@ -1,4 +1,4 @@
-//! A fabric whose links note the bytes that they were handed, and those that they gave.
+//! A fabric whose links record the bytes that they were handed, and those that they returned.
 ghost use Rattle.std.specs.Prelude.{◌≡◌};
 
 use crate::discard;
@@ -13,7 +13,7 @@ use std::process::Abort;
 use std::sync::Wait;
 use std::thread::Threads;
 
-// A link over another one, with the bytes of the frames that were sent, and those that came.
+// A link over another one, with the bytes of the frames that were sent, and the bytes that were received.
 #[derive(Drop)]
 struct NotingLink<'r, R, L> {
     rt: &'r R,
@@ -63,7 +63,7 @@ impl<'r, R: Abort + Sync, L: Link> Link for NotingLink<'r, R, L> {
     }
 }
 
-// A fabric over another one, whose links it gives such notes.
+// A fabric over another one, whose links it wraps like this.
 #[derive(Drop)]
 struct NotingFabric<'r, R, F: Fabric> {
     rt: &'r R,
@@ -72,7 +72,7 @@ struct NotingFabric<'r, R, F: Fabric> {
     ends: Ends<NotingLink<'r, R, F::L>>,
 }
 
-// An end of which nothing is noted yet.
+// An end with nothing recorded.
 fn end<'r, R, L>(rt: &'r R, alloc: Global, inner: L) -> NotingLink<'r, R, L>
     ensures { result.inner ≡ inner }
 {
@@ -121,13 +121,13 @@ const REQUEST: &[u8] = b"\0\0\0\x03\x01\x01\0\0\0\0\0\x01\0\0\0\x01\x08\x96\x01"
 
 const REPLY: &[u8] = b"\0\0\0\x03\x02\x01\0\0\0\0\0\x02\0\0\0\x01\x08\x96\x01";
 
-// An end of connection 1 was given the reply, and one of connection 2 the request.
+// An end of connection 1 received the reply, and one of connection 2 the request.
 fn is_given<'r, R, L>(rt: &impl Abort, end: &(u32, NotingLink<'r, R, L>)) {
     let frame = if end.0 == 1 { REPLY } else { REQUEST };
     assert!(rt; end.1.given.ends_with(frame));
 }
 
-// What each end gave is what the other was handed.
+// What each end received is what the other was handed.
 fn are_noted<'r, R, L>(rt: &impl Abort, ends: &[(u32, NotingLink<'r, R, L>)]) {
     assert!(rt; ends.len() == 2);
     is_given(rt, &ends[0]);
@@ -137,7 +137,8 @@ fn are_noted<'r, R, L>(rt: &impl Abort, ends: &[(u32, NotingLink<'r, R, L>)]) {
     assert!(rt; ends[1].1.given.as_slice() == ends[0].1.handed.as_slice());
 }
 
-// Runs one call over a fabric. The fabric is owned here: what a drop comes to is proved in each function that has one.
+// Runs one call over a fabric. The fabric is owned here: what dropping a value does is proved in each
+// function that drops one.
 fn assert_noted<R: Abort + Threads + Wait + Sync, F: Fabric + Drop>(
     rt: &R,
     alloc: Global,

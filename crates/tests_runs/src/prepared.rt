@@ -1,4 +1,4 @@
-//! A fabric whose peers are prepared: what each end is given stands from the beginning.
+//! A fabric whose peers are prepared: what each end receives is fixed at the start.
 ghost use Rattle.std.specs.Prelude.{◌≡◌, [], false};
 
 use crate::ends::Ends;
@@ -6,7 +6,8 @@ use mrpc_base::{Fabric, MemLink, OpenFault};
 use std::alloc::Global;
 use std::process::Abort;
 
-// What one end of a link is given, in pieces of which lengths, and which of its sends and receives fail, counted from 1.
+// What one end of a link receives, in chunks of which lengths, and which of its sends and receives fail,
+// counted from 1.
 pub(crate) struct Prepared {
     pub bytes: Vec<u8>,
     pub lengths: Vec<usize>,
@@ -14,7 +15,7 @@ pub(crate) struct Prepared {
     pub failing_receives: Vec<u64>,
 }
 
-// By hand, as of the fabric below, so that a drop is one call where it is needed, and not a drop of each part.
+// Written by hand, like that of the fabric below, so that a drop is one call, not a drop of each part.
 impl Drop for Prepared {
     fn drop(self) {
         let Prepared {
@@ -27,7 +28,7 @@ impl Drop for Prepared {
 }
 
 impl Prepared {
-    // An end that is given these bytes, and then the end.
+    // An end that receives these bytes, and then the end of the stream.
     pub(crate) fn giving(alloc: Global, bytes: Vec<u8>) -> Prepared {
         Prepared {
             bytes,
@@ -53,7 +54,7 @@ impl Prepared {
     }
 }
 
-// A fabric that opens one link, of these two ends.
+// A fabric that opens one link, with these two ends.
 pub(crate) struct PreparedFabric<'r, R> {
     rt: &'r R,
     alloc: Global,
@@ -99,7 +100,7 @@ impl<'r, R: Abort> Fabric for PreparedFabric<'r, R> {
 
     ghost faults = { λ _. 0 };
 
-    // The ends tell nothing of each other.
+    // The ends claim nothing of each other.
     ghost pair = { λ _ _. ⊤ };
 
     ghost stays_pair = { λ _ _ _ _ _ _ _. tt };

@@ -1,4 +1,5 @@
-//! Rounds of one connection in a plain loop: no thread, no pool, and an application that ended before the first round.
+//! Rounds of one connection in a plain loop: no thread, no pool, and an application that ended before the
+//! first round.
 ghost use Rattle.std.specs.Prelude.{◌≡◌, [], false};
 ghost use Rattle.mrpc_table.specs.Valid.{IsValid};
 ghost use Rattle.descriptor_ring.specs.Rings.{IsOf};
@@ -28,18 +29,18 @@ use std::alloc::Global;
 use std::process::Abort;
 use std::sync::Wait;
 
-// How many words each heap has, and how many items each ring holds.
+// The number of words of each heap, and of items of each ring.
 const WORDS: u64 = 16;
 
 const ITEMS: u64 = 4;
 
-// How many bytes are received at once: three requests, and more.
+// The most bytes that are received at once: three requests, and more.
 const MOST_BYTES: usize = 64;
 
-// How many loads a call has at most.
+// The most loads of a call.
 const LOADS: u64 = 16;
 
-// How many rounds are made at most.
+// The most rounds.
 const ROUNDS: u32 = 16;
 
 // A call of method 0, whose message at word 2 is all zeros.
@@ -92,7 +93,7 @@ fn submissions<'t, R: Abort + Wait>(
     Submissions::new(conn, reader, calls, steps)
 }
 
-// What the application is told, to which nothing came, and which gives nothing back.
+// The deliveries to the application: nothing was received, and it returns no block.
 fn deliveries<'t, R: Abort + Wait>(rt: &R, alloc: Global, table: &'t Table) -> Deliveries<'t>
     requires { IsValid table.now }
     ensures delivering { AreDelivering result }
@@ -113,7 +114,7 @@ fn deliveries<'t, R: Abort + Wait>(rt: &R, alloc: Global, table: &'t Table) -> D
     Deliveries::new(alloc, arrivals, rings, 0)
 }
 
-// The connection with all that belongs to it.
+// The connection with all its parts.
 fn endpoint<'t, R: Abort + Wait, C: Clock, L: Link>(
     rt: &R,
     alloc: Global,
@@ -134,7 +135,7 @@ fn endpoint<'t, R: Abort + Wait, C: Clock, L: Link>(
     Endpoint::new(calls, messages, link, tickets, clock, buffer, None)
 }
 
-// Makes rounds until the connection is over, if it soon is.
+// Makes rounds until the connection is finished, at most `ROUNDS`.
 fn make_rounds<R: Abort + Wait, C: Clock, Q: Tickets, L: Link>(
     rt: &R,
     alloc: Global,
@@ -153,7 +154,8 @@ fn make_rounds<R: Abort + Wait, C: Clock, Q: Tickets, L: Link>(
     false
 }
 
-// What a connection comes to: how many frames were handed over, how many had their fates, and what was left.
+// The results of a connection: how many frames were sent, how many received frames were handled, and the
+// remains.
 #[derive(Drop)]
 struct Served {
     handed: usize,
@@ -161,7 +163,7 @@ struct Served {
     left: Bytes,
 }
 
-// What is left of a connection whose link failed, or didn't.
+// The lines for the remains of a connection whose link failed, or didn't.
 fn left(rt: &impl Abort, alloc: Global, failed: bool, arrivals: &Arrivals<'_>) -> Bytes
     requires { AreArriving arrivals.now }
 {
@@ -170,7 +172,7 @@ fn left(rt: &impl Abort, alloc: Global, failed: bool, arrivals: &Arrivals<'_>) -
     text
 }
 
-// What rounds make of a connection.
+// The results of a connection's rounds.
 fn tell<R: Abort + Wait>(
     rt: &R,
     alloc: Global,
@@ -192,7 +194,7 @@ fn tell<R: Abort + Wait>(
     }
 }
 
-// The same of one over this end of a link, under the table of a plan.
+// Like `tell`, for a connection over this end of a link, under the table of a plan.
 fn serve<R: Abort + Wait>(rt: &R, alloc: Global, plan: &Plan, link: MemLink) -> Served
     requires { IsPlan plan.now }
 {
@@ -204,7 +206,7 @@ fn serve<R: Abort + Wait>(rt: &R, alloc: Global, plan: &Plan, link: MemLink) -> 
     served
 }
 
-// The same of an end that is given three requests at once, and whose sends of these numbers fail.
+// Like `serve`, for an end that receives three requests at once, and whose sends with these numbers fail.
 fn served_with<R: Abort + Wait>(rt: &R, alloc: Global, failing: &[u64]) -> Served {
     let mut bytes = Vec::new(alloc);
     for number in 1..4 {
@@ -230,7 +232,7 @@ fn rounds_in_a_loop_serve_a_connection(rt: HostRuntime) {
 
 const WAITING: &[u8] = b"waits 1 1 0 2\nwaits 1 1 0 3\n";
 
-// Each round gives one frame its fate, and the second one sends the second call.
+// Each round handles one frame, and the second one sends the second call.
 #[test]
 fn frames_wait_whose_link_fails_at_a_send(rt: HostRuntime) {
     let served = served_with(&rt, rt.alloc(), &[2]);

@@ -13,16 +13,16 @@ use std::process::Abort;
 use std::sync::Wait;
 use std::thread::Threads;
 
-// The keys of the whole, which each scenario begins with.
+// The top-level keys, with which each scenario starts.
 const TOP: &str = "mrpc = 1\nservice = \"S\"\nschema = \"\"\"\nsyntax = \"proto3\";\n\
     message M { uint64 a = 1; }\nservice S { rpc Get (M) returns (M); }\n\"\"\"\n";
 
-// A client whose one message comes back from an echo.
+// A client whose one message is returned by an echo.
 pub(crate) const ONE_CALL: &str =
     "app = [{conn = 1, role = \"client\", program = [\"store 2 150\", \"submit 0 2\"]},\n\
     {conn = 2, role = \"echo\"}]\nlink = [{a = 1, b = 2}]\n";
 
-// The plan of a text behind the keys of the whole and a further key.
+// The plan of a text after the top-level keys and another key.
 pub(crate) fn plan_of(rt: &impl Abort, alloc: Global, key: &str, rest: &str) -> Plan
     ensures { IsPlan result }
 {
@@ -35,14 +35,14 @@ pub(crate) fn plan_of(rt: &impl Abort, alloc: Global, key: &str, rest: &str) -> 
         .expect(rt, "a plan")
 }
 
-// What a run told, and whether a link failed.
+// The report of a run, and whether a link failed.
 #[derive(Drop)]
 pub(crate) struct Told {
     pub text: Bytes,
     pub failed: bool,
 }
 
-// What a run of a plan tells, over links of a fabric, at a clock that stands still at 0.
+// The report of a run of a plan, over links of a fabric, with a clock that stays at 0.
 pub(crate) fn ran<R: Abort + Threads + Wait + Sync, F: Fabric + Drop, G: Gate>(
     rt: &R,
     alloc: Global,
@@ -55,8 +55,8 @@ pub(crate) fn ran<R: Abort + Threads + Wait + Sync, F: Fabric + Drop, G: Gate>(
     ran_at(rt, alloc, plan, fabric, 0, gate)
 }
 
-// The same at a clock that stands still at a moment. Plan and fabric are owned here: what a drop comes to is proved in
-// each function that has one.
+// Like `ran`, with a clock that stays at a timestamp. Plan and fabric are owned here: what dropping a value
+// does is proved in each function that drops one.
 pub(crate) fn ran_at<R: Abort + Threads + Wait + Sync, F: Fabric + Drop, G: Gate>(
     rt: &R,
     alloc: Global,
@@ -79,7 +79,7 @@ fn told_of(rt: &impl Abort, alloc: Global, run: Run) -> Told {
     Told { text, failed }
 }
 
-// The parts of what a run told, one behind another.
+// The parts of a run's report, joined.
 fn joined(rt: &impl Abort, alloc: Global, parts: &[Bytes]) -> Bytes {
     let mut text = Bytes::new(alloc);
     for part in parts {

@@ -1,4 +1,4 @@
-//! A fabric one of whose links stays inside its second send until a gate is asked again.
+//! A fabric in which the second send of one link blocks until a gate is called again.
 ghost use Rattle.std.specs.Prelude.{◌≡◌};
 
 use crate::ends::Ends;
@@ -8,7 +8,7 @@ use std::alloc::Global;
 use std::process::Abort;
 use std::sync::atomic::{AtomicU64, Ordering};
 
-// A link whose second send, the first behind its hello, waits for the next call of a gate, if it is so made.
+// A link whose second send, the first after its hello, may wait for the next call of a gate.
 #[derive(Drop)]
 pub(crate) struct SlowLink<'g, L> {
     inner: L,
@@ -16,7 +16,7 @@ pub(crate) struct SlowLink<'g, L> {
     sends: u64,
 }
 
-// A gate, and how many sends waited for it, and for how many of them it wasn't asked again.
+// A gate, how many sends waited for it, and how many of them waited in vain.
 #[derive(Drop)]
 pub(crate) struct Waits {
     pub gate: CountingGate,
@@ -117,7 +117,7 @@ impl<'g, 'r, R: Abort, F: Fabric> SlowFabric<'g, 'r, R, F> {
     }
 }
 
-// The end of the connection of this number.
+// The end of the connection with this number.
 fn end<'g, L>(waits: &'g Waits, conn: u32, inner: L) -> SlowLink<'g, L>
     ensures { result.inner ≡ inner }
 {

@@ -1,4 +1,4 @@
-//! What a peer sends.
+//! The bytes that a peer sends.
 ghost use Rattle.run_plan.specs.Plans.{IsPlan};
 
 use frame_transport::frame;
@@ -11,7 +11,7 @@ use std::process::Abort;
 // The most bytes of a payload.
 pub(crate) const LONGEST: usize = 262_144;
 
-// The hello of connection 2 with the table of the plan, of a version.
+// The hello of connection 2 with the table of the plan and a version.
 pub(crate) fn hello_of(rt: &impl Abort, alloc: Global, plan: &Plan, version: u8) -> Vec<u8>
     requires { IsPlan plan.now }
 {
@@ -23,7 +23,7 @@ pub(crate) fn hello_of(rt: &impl Abort, alloc: Global, plan: &Plan, version: u8)
     bytes
 }
 
-// A request of method 0, behind what there is.
+// Appends a request of method 0.
 pub(crate) fn push_request(
     rt: &impl Abort,
     alloc: Global,
@@ -38,7 +38,7 @@ pub(crate) fn push_request(
         .expect(rt, "memory");
 }
 
-// A message of the field 2, and so on, 33 in all, of which the last one is empty.
+// A message in field 2 of a message, and so on, 33 in all; the last one is empty.
 pub(crate) fn nested(rt: &impl Abort, alloc: Global) -> Vec<u8> {
     let mut bytes = Vec::new(alloc);
     for inner in 0..32_u8 {

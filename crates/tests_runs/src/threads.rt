@@ -1,4 +1,4 @@
-//! That workers run beside each other, and that frames leave in threads of their own.
+//! Workers run concurrently, and frames are sent in threads of their own.
 ghost use Rattle.std.specs.Prelude.{◌≡◌, []};
 
 use crate::gates::MeetingGate;
@@ -11,13 +11,13 @@ use std::sync::Wait;
 use std::sync::atomic::Ordering;
 use std::thread::Threads;
 
-// What a run of one call tells.
+// The report of a run of one call.
 const ONE_CALL_TOLD: &[u8] =
     b"took 1 1 0 0 2 1 1 copy 089601\nsent 1 1 19\narrived 1 2 0 1 089601\n\
     took 2 1 0 1 2 1 1 copy 089601\nsent 2 1 19\narrived 2 1 0 1 089601\n\
     method 0 2 2 0 0\ntotals 2 2 0 0\n";
 
-// Links in memory of which none fails.
+// Links in memory, none of which fails.
 pub(crate) fn memory<'r, R: Abort + Wait>(rt: &'r R, alloc: Global) -> MemFabric<'r, R>
     ensures { result.back ≡ [] }
 {
@@ -54,7 +54,8 @@ fn assert_worker_goes_on<R: Abort + Threads + Wait + Sync>(rt: &R, alloc: Global
     assert!(rt; told.text.as_slice() == ONE_CALL_TOLD);
 }
 
-// A send of connection 1 waits until the worker asks the gate again. A worker that sends itself never does.
+// A send of connection 1 waits until the worker calls the gate again. A worker that sends by itself never
+// does.
 #[test]
 fn a_worker_goes_on_while_a_frame_is_sent(rt: HostRuntime) {
     assert_worker_goes_on(&rt, rt.alloc());

@@ -1,4 +1,4 @@
-//! In which order one worker gives connections their rounds.
+//! The order in which one worker gives connections their rounds.
 
 use crate::discard;
 use crate::gates::NotingGate;
@@ -18,7 +18,8 @@ const TWO_CALLS: &str =
     {conn = 3, role = \"client\", program = [\"store 2 7\", \"submit 0 2\"]}]\n\
     link = [{a = 1, b = 2}, {a = 3, b = 4}]\n";
 
-// Whether between two calls for a connection there is one for the other, unless that one is asked for no more.
+// Whether between two calls for a connection there is one for the other, unless there are no more for that
+// one.
 fn stands_once(conns: &[u32], one: u32, other: u32) -> bool {
     let mut began = false;
     let mut between = 0_u64;
@@ -38,7 +39,7 @@ fn stands_once(conns: &[u32], one: u32, other: u32) -> bool {
     true
 }
 
-// Whether connections 1 to 4 take turns.
+// Whether connections 1 to 4 alternate.
 fn take_turns(conns: &[u32]) -> bool {
     for one in 1..5 {
         for other in 1..5 {
@@ -70,7 +71,7 @@ const WEIGHTED: &str =
     "weighted = true\napp = [{conn = 1, role = \"client\", weight = 3, program = []},\n\
     {conn = 2, role = \"echo\"}]\nlink = [{a = 1, b = 2}]\n";
 
-// A hello, and so many requests behind it.
+// A hello, followed by this number of requests.
 fn requests(rt: &impl Abort, alloc: Global, hello: &[u8], count: u32) -> Prepared {
     let mut bytes = hello.to_vec(alloc).expect(rt, "memory");
     for number in 0..count {
@@ -93,7 +94,7 @@ fn assert_weights<R: Abort + Threads + Wait + Sync>(rt: &R, alloc: Global) {
     );
 }
 
-// What came with the hello keeps both busy so long: each round gives one frame its fate.
+// The requests after the hello keep both busy for this long: each round handles one frame.
 #[test]
 fn rounds_go_by_weight_while_both_are_ready(rt: HostRuntime) {
     assert_weights(&rt, rt.alloc());

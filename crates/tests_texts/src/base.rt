@@ -1,4 +1,5 @@
-//! The lowest crates, each by itself: devices in memory and of the system, lists, totals, rates, and the weighted order.
+//! The lowest crates, each by itself: devices in memory and of the system, lists, totals, rates, and the
+//! weighted order.
 
 mod devices;
 mod lists;

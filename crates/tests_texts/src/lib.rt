@@ -1,6 +1,6 @@
-//! Tests of what stands below the commands, as far as no command shows it: devices and words, tables, records, links,
-//! tokens of proto files, lines of scripts, texts of histories, and plans. It has no code of its own, and nothing stands
-//! on it.
+//! Tests of the layers below the commands, for what no command shows: devices and words, tables, records,
+//! links, tokens of proto files, lines of scripts, texts of histories, and plans. The crate has no other
+//! code, and nothing uses it.
 #![tactic(auto)]
 
 #[cfg(test)]
@@ -14,7 +14,7 @@ mod scripts;
 #[cfg(test)]
 mod tables;
 
-// What a drop comes to is proved in each function that has one. In this one it is one call, so values are handed over
-// to it.
+// What dropping a value does is proved in each function that drops one. Through this function it is one call,
+// so values are moved into it.
 #[cfg(test)]
 pub(crate) fn discard<T: Drop>(_value: T) {}

@@ -1,3 +1,3 @@
-//! Scenarios: the plan that one says.
+//! Scenarios: the plan of one.
 
 mod plans;

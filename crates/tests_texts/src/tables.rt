@@ -1,4 +1,5 @@
-//! What is read and written as text or as bytes: tables, records, links over a sink, and what hellos compare.
+//! Texts and bytes that are read and written: tables, records, links over a sink, and the comparison of
+//! hellos.
 
 mod frames;
 mod hellos;

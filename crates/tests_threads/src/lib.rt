@@ -1,5 +1,5 @@
-//! Tests of what threads share and of what runs in threads: heaps, rings and quotas, links in memory and over TCP,
-//! pools of workers, and applications on a port. It has no code of its own, and nothing stands on it.
+//! Tests of what threads share and of what runs in threads: heaps, rings and quotas, links in memory and over
+//! TCP, pools of workers, and applications on a port. The crate has no other code, and nothing uses it.
 #![tactic(auto)]
 
 #[cfg(test)]
@@ -13,7 +13,7 @@ mod pool;
 #[cfg(test)]
 mod tcp;
 
-// What a drop comes to is proved in each function that has one. In this one it is one call, so values are handed over
-// to it.
+// What dropping a value does is proved in each function that drops one. Through this function it is one call,
+// so values are moved into it.
 #[cfg(test)]
 pub(crate) fn discard<T: Drop>(_value: T) {}

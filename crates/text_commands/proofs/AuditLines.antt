@@ -1,4 +1,4 @@
--- The lines of an audit that are named are among its lines, or the one behind them.
+-- The reported line numbers are those of lines of the audit, or of the one after its last.
 use Rattle.std.proofs.Common.{◌≡◌, ◌∙◌, ℕ, ◌+◌, ◌<◌, ◌≤◌, List, [], ◌∷◌, ◌++◌, length, length-append, flat_map, ap, arith}
 use Rattle.std.proofs.lemmas.List.Concat.{flat_map-cons}
 use Rattle.mrpc_table.specs.Text.{spaced}

@@ -1,4 +1,4 @@
--- What an input of `audit` says, as its check wants it.
+-- What an input of `audit` contains, in the form that its check takes.
 use Rattle.std.proofs.Common.{◌≡◌, ◌∙◌, sym, subst, ℕ, ◌+◌, ◌<◌, ◌^◌, ◌≤◌, ◌==◌, List, ◌∷◌, ◌++◌, All, length, length-append, ap, refl, arith}
 use Rattle.std.specs.Prelude.{codes}
 use Rattle.std.proofs.lemmas.List.Elements.{All-weaker}
@@ -22,7 +22,7 @@ all_policies d sound =
     All-weaker (λ (p : NamedPolicy). IsPolicy p.policy × KnowsTenantOf (λ place. place < length d.tenants) p.policy)
     (λ (p : NamedPolicy). IsPolicy p.policy) (λ p both. both.0) d.policies sound.policies
 
--- the text and the number of the lines in front of it are no more than the input has bytes
+-- the text, and the number of the lines before it, are at most as long as the input
 pub parts_short : (input : List ℕ) (loads : ℕ) (T : Table) (d : Declared) (text : List ℕ) (before : ℕ)
     → Says input loads T d text before → (length text ≤ length input) × (before ≤ length input)
 parts_short input loads T d text before says =

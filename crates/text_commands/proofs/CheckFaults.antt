@@ -1,4 +1,4 @@
--- What a fault that was found says of a text.
+-- The meaning of a detected fault for a text.
 use Rattle.std.proofs.Common.{◌≡◌, ℕ, ◌+◌, List}
 use Rattle.std.specs.Prelude.{codes}
 use Rattle.file_bundle.specs.Bundle.{File as PackedFile, IsBundle, Spells}

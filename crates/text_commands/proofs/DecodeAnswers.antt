@@ -1,4 +1,4 @@
--- A text that is a table's text and whole frames has no fault.
+-- A text that consists of a table's text and whole frames has no fault.
 use Rattle.std.proofs.Common.{◌≡◌, ℕ, ◌+◌, List, [], ◌∷◌, ◌++◌, length, refl, sym, ap, subst, ◌∙◌, append_assoc, arith}
 use Rattle.std.proofs.lemmas.List.Elements.{All-head, All-tail}
 use Rattle.mrpc_table.specs.declared.table.Table.{Table}
@@ -22,11 +22,11 @@ no_fault_in law T f line place word (line_of_call t other known means is)
     (in_payload reason at other' known' first at_is is') =
     law.not_both T (message_in T f) f.payload t reason at means first
 
--- whole frames stand in front of a stream
+-- a stream that splits into whole frames has them as a prefix
 pub whole_front : (start : ℕ) (stream : List ℕ) (fs : List Frame) (rest : List ℕ) → Splits start stream fs rest → StandInFront start stream fs
 whole_front start stream fs rest s = record { more = rest; whole = s.whole; each = s.each; places = s.places }
 
--- the first of two rows of frames is one, and both rows go on behind it
+-- the frames after the first one are a prefix of what follows it
 pub behind : (start : ℕ) (stream : List ℕ) (h : Frame) (hs : List Frame) (a : StandInFront start stream (h ∷ hs))
     → StandInFront (start + length (bytes_of h)) (joined hs ++ a.more) hs
 behind start stream h hs a = record { more = a.more; whole = refl; each = All-tail IsFrame h hs a.each; places = a.places.1 }
@@ -49,7 +49,7 @@ next law start stream h g hs gs a b =
 none_in_front : (start : ℕ) (stream : List ℕ) (g : Frame) (gs : List Frame) (a : StandInFront start stream []) → IsPartial a.more → StandInFront start stream (g ∷ gs) → ⊥
 none_in_front start stream g gs a partial b = partial g (joined gs ++ b.more) (All-head IsFrame g gs b.each) (sym a.whole ∙ b.whole ∙ append_assoc (bytes_of g) (joined gs) b.more)
 
--- where all whole frames of a stream have lines, each that stands in front has one
+-- if all whole frames of a stream have lines, each frame of a prefix has one
 line_of_frame : MeaningLaw → (T : Table) (start : ℕ) (stream text : List ℕ) (fs before : List Frame) (f : Frame) (a : StandInFront start stream fs)
     → IsPartial a.more → AreLinesOf T fs text → StandInFront start stream (before ++ f ∷ []) → (line : List ℕ) × IsLineOf T f line
 unfolding behind

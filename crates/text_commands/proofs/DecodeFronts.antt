@@ -1,4 +1,4 @@
--- Lines of frames that were written in front of a place are in front of all lines of their stream.
+-- Lines of frames before an offset are a prefix of all lines of their stream.
 use Rattle.std.proofs.Common.{◌≡◌, ◌≢◌, ◌∙◌, ◌<◌, inl, inr, ℕ, List, [], ◌++◌, drop, Option, Result, Ok, Err, ap, refl, subst}
 use Rattle.std.specs.Prelude.{All, IfErr, IfOk}
 use Rattle.std.specs.Io.KnownBytes.{Appends}
@@ -19,7 +19,7 @@ use Rattle.text_commands.proofs.DecodeNeither.{told_or_cut_from}
 use Rattle.text_commands.proofs.Decodings.{cut_behind, lines-append, splits_more, tells_more}
 use Rattle.text_commands.proofs.Fronts.{front-behind, front-on, front-whole}
 
--- some text behind the lines of the frames in front of a place makes all lines of the stream
+-- the lines of the frames before an offset, followed by some text, are all lines of the stream
 all_from : MeaningLaw → (T : Table) (stream : List ℕ) (mid : ℕ) (text : List ℕ) → All (λ byte. byte < 256) stream
     → Tells T stream 0 mid text → (more : List ℕ) × IsAllTold T stream (text ++ more)
 all_from law T stream mid text bytes x =
@@ -35,7 +35,7 @@ all_from law T stream mid text bytes x =
       | inr cut ↦ (cut.0, inr (cut.1, cut.2, cut_behind law.frames T stream 0 mid text cut.0 cut.1 cut.2 x cut.3))
     ]
 
--- these lines were written
+-- if these lines were written, a prefix of all lines was
 pub told_early : MeaningLaw → (T : Table) (stream : List ℕ) (mid : ℕ) (text : List ℕ) (out out' : Option (List ℕ))
     → All (λ byte. byte < 256) stream → Tells T stream 0 mid text → Appends out out' text → TellsEarly T stream out out'
 told_early law T stream mid text out out' bytes x a =
@@ -46,7 +46,7 @@ told_early law T stream mid text out out' bytes x a =
       written = front-on out out' text all.0 (front-whole out out' text a);
     }
 
--- they were, and a front of the lines behind them
+-- also if a prefix of the next lines was written after them
 pub piece_early : MeaningLaw → (T : Table) (stream : List ℕ) (mid : ℕ) (text old lines : List ℕ)
     (told : Result ℕ Cut) (out between out' : Option (List ℕ)) → All (λ byte. byte < 256) stream → Tells T stream 0 mid text
     → old ≡ [] → IfOk told (λ to. (piece : List ℕ) × (lines ≡ old ++ piece) × Tells T stream mid to piece)
@@ -75,7 +75,7 @@ piece_early law T stream mid text old lines (Err NoMemory) out between out' byte
 piece_early law T stream mid text old lines (Err Out) out between out' bytes x none ok cut memory failed a w =
     absurd (failed refl)
 
--- a front of all lines of a stream is one of what is written of its text
+-- a prefix of all lines of a stream is a prefix of what is written for its text
 pub decoded_early : (text stream : List ℕ) (T : Table) (out out' : Option (List ℕ)) → Holds text T stream
     → TellsEarly T stream out out' → EndsEarly (DecodesText text) (CutsText text) out out'
 decoded_early text stream T out out' holds t =

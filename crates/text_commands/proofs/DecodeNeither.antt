@@ -1,4 +1,4 @@
--- A text in front of a stream is of a table or has a fault, and a stream is decoded or cut.
+-- A text before a stream has a table or a fault, and a stream is decoded or cut.
 use Rattle.std.proofs.Common.{◌≡◌, ◌≢◌, ℕ, ◌+◌, ◌<◌, ◌⊎◌, inl, inr, List, [], ◌∷◌, ◌++◌, length, Option, Some, None}
 use Rattle.std.proofs.Common.{refl, sym, ap, subst, ◌∙◌, append_assoc}
 use Rattle.std.specs.Prelude.{All, codes}
@@ -57,7 +57,7 @@ abbrev IsHeldOrFaulty : List ℕ → Type 0
 IsHeldOrFaulty text = ((T : Table) × (stream : List ℕ) × Holds text T stream)
     ⊎ ((line : ℕ) × (word : List ℕ) × IsTextFault text line word)
 
--- what stands behind the first two lines
+-- what follows the first two lines
 table_behind : TextLaw → (text body : List ℕ) → text ≡ head ++ body
     → ((table : List ℕ) × (rest : List ℕ) × HasTableBehind head text table rest) ⊎ IsEndless head text body
 table_behind law text body e =
@@ -138,7 +138,7 @@ line_or_fault law T f =
       ]
     ]
 
--- the first of some frames that is at fault, and the lines of those in front of it
+-- the first frame at fault among these, and the lines of the frames before it
 record FirstFaulty (T : Table) (fs : List Frame) : Type 0 where
   before : List Frame
   frame : Frame
@@ -209,7 +209,7 @@ front_of start stream before f others rest s = record {
   places = front_places start before f others s.places;
 }
 
--- the stream, whose first byte has this place, is frames to its end, and the text is their lines
+-- the stream, whose first byte has this offset, is frames to its end, and the text is their lines
 pub record IsDecodedFrom (T : Table) (start : ℕ) (stream text : List ℕ) : Type 0 where
   pub frames : List Frame
   pub splits : Splits start stream frames []
@@ -235,7 +235,7 @@ empty_or_not : (bytes : List ℕ) → (bytes ≡ []) ⊎ (bytes ≢ [])
 empty_or_not [] = inl refl
 empty_or_not (x ∷ xs) = inr (λ e. cc)
 
--- where each whole frame has a line
+-- if each whole frame has a line
 told_to_end : (T : Table) (start : ℕ) (stream : List ℕ) (fault : Option FeedFault) (e : Ends start stream fault) (text : List ℕ)
     → AreLinesOf T e.frames text → IsToldOrCut T start stream
 told_to_end T start stream (Some fault) e text lines =
@@ -266,7 +266,7 @@ cut_in_front T start stream fs rest s u =
       in_frame u.before u.frame (front_of start stream u.before u.frame u.others rest splits) u.lines u.fault,
     )
 
--- from a place on, the bytes of a stream are decoded or cut
+-- from an offset on, the bytes of a stream are decoded or cut
 pub told_or_cut_from : MeaningLaw → (T : Table) (start : ℕ) (stream : List ℕ) → All (λ byte. byte < 256) stream
     → IsToldOrCut T start stream
 told_or_cut_from law T start stream bytes =

@@ -1,4 +1,4 @@
--- The faults of a text in front of a stream.
+-- The faults of a text before a stream.
 use Rattle.std.proofs.Common.{◌≡◌, ℕ, ◌+◌, eqb, true, List, ◌++◌, length, take, drop, Bor, Some, Result, Err, ap, subst, ◌∙◌}
 use Rattle.std.specs.Prelude.{IfErr}
 use Rattle.std.specs.Cmp.Lexicographic.{pointwise}
@@ -10,17 +10,17 @@ use Rattle.text_commands.specs.declared.decoding.Cut.{Cut}
 use Rattle.text_commands.specs.declared.decoding.Cut.TheVariants.{Fault, Memory as NoMemory, Out}
 use Rattle.text_commands.specs.DecodeInput.{OnFault, head, first_line, second_line}
 
--- what follows from a property of a fault, holds of it
+-- what follows from a property of a fault, holds for it
 pub on_fault : (P Q : ℕ → List ℕ → Type 0) (cut : Cut) → ((place : ℕ) (word : List ℕ) → P place word → Q place word) → OnFault P cut → OnFault Q cut
 on_fault P Q (Fault place word) then h = then place word.now h
 on_fault P Q NoMemory then h = tt
 on_fault P Q Out then h = tt
 
--- a front was taken off
+-- a prefix was removed
 abbrev pub IsTakenOff : List ℕ → List ℕ → List ℕ → Type 0
 IsTakenOff front text rest = (pointwise eqb (take (length front) text) front ≡ true) × (rest ≡ drop (length front) text) × (length rest + length front ≡ length text)
 
--- behind the first two lines no `end` line follows
+-- after the first two lines no `end` line follows
 pub endless_of : (text : List ℕ) (behind rest : Bor (List ℕ)) → IsTakenOff first_line text behind.now → IsTakenOff second_line behind.now rest.now
     → ((t stream : List ℕ) → HasTableBehind head text t stream → ⊥) → IsEndless head text rest.now
 endless_of text behind rest first second none =
@@ -28,7 +28,7 @@ endless_of text behind rest first second none =
     let second_is : behind.now ≡ second_line ++ rest.now = strip_prefix_is Decides-eqb behind.now second_line (Some rest) second in
     record { text_is = first_is ∙ ap (λ (t : List ℕ). first_line ++ t) second_is; endless = none }
 
--- what was told of a fault
+-- the reported fault
 pub told_fault : {X : Type 0} (P : ℕ → List ℕ → Type 0) (r : Result X Cut) (cut : Cut) (place : ℕ)
     (word : Bor (List ℕ)) → r ≡ Err cut → cut ≡ Fault place word → IfErr r (OnFault P) → P place word.now
 told_fault P r cut place word told is h = subst (OnFault P) is (IfErr-at_err (OnFault P) told h)

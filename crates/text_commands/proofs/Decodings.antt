@@ -1,4 +1,4 @@
--- Frames of a stream that are told one behind another.
+-- Consecutive frames of a stream, line by line.
 use Rattle.std.proofs.Common.{◌≡◌, ◌≢◌, ℕ, ◌+◌, ◌<◌, ◌≤◌, List, [], ◌∷◌, ◌++◌, length, drop, codes, Option, Some}
 use Rattle.std.proofs.Common.{None, refl, sym, ap, subst, ◌∙◌, arith, append_assoc, append-nil}
 use Rattle.std.specs.Prelude.{All}
@@ -23,7 +23,7 @@ use Rattle.text_commands.specs.declared.decoding.Cut.TheVariants.{Fault, Memory 
 use Rattle.text_commands.specs.Telling.{Tells}
 use Rattle.text_commands.specs.Laws.{FrameLaw}
 
--- what holds of each fault
+-- a property of each fault
 pub on_fault : (P Q : ℕ → List ℕ → Type 0) → ((place : ℕ) (word : List ℕ) → P place word → Q place word) → (cut : Cut) → OnFault P cut → OnFault Q cut
 on_fault P Q h (Fault place word) p = h place word.now p
 on_fault P Q h NoMemory p = tt
@@ -36,7 +36,7 @@ pub fault_of_payload : (T : Table) (f : Frame) (message : ℕ) (word : List ℕ)
 fault_of_payload T f message word reason at place call known m first place_is word_is =
     in_payload reason at call known (subst (λ (n : ℕ). IsFirstFault T n f.payload reason at) m first) (omega (arith, place_is)) word_is
 
--- the lines of frames, and of those behind them
+-- the lines of frames, followed by the lines of the next frames
 pub lines-append : (T : Table) (fs gs : List Frame) (a b : List ℕ) → AreLinesOf T fs a → AreLinesOf T gs b → AreLinesOf T (fs ++ gs) (a ++ b)
 lines-append T [] gs a b p q = subst (λ (x : List ℕ). AreLinesOf T gs (x ++ b)) (sym p) q
 lines-append T (f ∷ fs) gs a b p q = (p.0, p.1 ++ b, p.2, lines-append T fs gs p.1 b p.3 q, ap (λ (x : List ℕ). x ++ b) p.4 ∙ append_assoc p.0 p.1 b)
@@ -50,11 +50,11 @@ joined-append fs gs more = ap (λ (bs : List ℕ). bs ++ more) (flat_map-append 
 joined_alone : (f : Frame) → joined (f ∷ []) ≡ bytes_of f
 joined_alone f = append-nil (bytes_of f)
 
--- the fault of the same bytes at the same place
+-- the fault of the same bytes at the same offset
 fault_of : (place other : ℕ) (bytes : List ℕ) (fault : Option FeedFault) → place ≡ other → HasFault place bytes fault → HasFault other bytes fault
 fault_of place other bytes fault p h = subst (λ (n : ℕ). HasFault n bytes fault) p h
 
--- ---- what stands at a place
+-- ---- the next frame at an offset
 
 -- a frame
 pub tells_one : FrameLaw → (T : Table) (stream : List ℕ) (from to : ℕ) (line : List ℕ) (f : Frame)
@@ -103,11 +103,11 @@ pub cut_short : (T : Table) (start : ℕ) (bytes : List ℕ) (place : ℕ) (word
 cut_short T start bytes place word h some at short =
     in_short_frame [] bytes (no_frame start bytes h.partial) refl (fault_of start (start + length (joined [])) bytes None (at_start start) h.first) some (at ∙ at_start start) short
 
--- there is a byte
+-- the remainder has a byte
 pub some_left : (from : ℕ) (stream : List ℕ) → from < length stream → drop from stream ≢ []
 some_left from stream h none = omega (arith, h, length-drop from stream, ap length none)
 
--- ---- one behind another
+-- ---- consecutive frames
 
 pub tells_nothing : (T : Table) (stream : List ℕ) (from : ℕ) → Tells T stream from from []
 tells_nothing T stream from = record { frames = []; lines = refl; each = All-nil IsFrame; places = tt; whole = refl; end = at_start from }
@@ -123,7 +123,7 @@ tells_more law T stream from mid to text more x y = record {
   end = omega (arith, x.end, y.end, law.size_of_all x.frames y.frames);
 }
 
--- the frames told, with those of the stream behind them
+-- the decoded frames, followed by the other frames of the stream
 pub splits_more : FrameLaw
     → (T : Table) (stream : List ℕ) (from mid : ℕ) (text : List ℕ) (gs : List Frame) (rest : List ℕ)
     (x : Tells T stream from mid text) → Splits mid (drop mid stream) gs rest
@@ -136,7 +136,7 @@ place_more : FrameLaw → (T : Table) (stream : List ℕ) (from mid : ℕ) (text
     → mid + length (joined gs) ≡ from + length (joined (x.frames ++ gs))
 place_more law T stream from mid text gs x = omega (arith, x.end, law.size_of_all x.frames gs)
 
--- a fault behind the frames told is the first fault of the whole stream
+-- a fault after the decoded frames is the first fault of the whole stream
 pub cut_behind : FrameLaw
     → (T : Table) (stream : List ℕ) (from mid : ℕ) (text behind : List ℕ) (place : ℕ) (word : List ℕ)
     → Tells T stream from mid text → IsCutAt T mid (drop mid stream) behind place word
@@ -165,7 +165,7 @@ cut_behind law T stream from mid text behind place word x (in_short_frame frames
     (at ∙ place_more law T stream from mid text frames x)
     short
 
--- all of the stream was told
+-- all of the stream was decoded
 pub all_told : FrameLaw → (T : Table) (stream : List ℕ) (to : ℕ) (text : List ℕ) → Tells T stream 0 to text → length stream ≤ to → IsDecoded T stream text
 all_told law T stream to text x end = record {
   frames = x.frames;

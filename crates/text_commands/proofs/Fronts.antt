@@ -1,4 +1,4 @@
--- Fronts of texts that were written.
+-- Prefixes of texts that were written.
 use Rattle.std.proofs.Common.{◌≡◌, ◌≢◌, ◌⊎◌, inl, inr, ℕ, zero, suc, ◌+◌, List, [], ◌∷◌, ◌++◌, length, take, Option, refl, sym, ap, subst, arith}
 use Rattle.std.proofs.Math.Seq.{take-append-add, take-length}
 use Rattle.std.specs.Io.KnownBytes.{Appends}
@@ -6,7 +6,7 @@ use Rattle.text_commands.specs.FaultLines.{WritesFront}
 use Rattle.text_commands.specs.declared.status.TheConstants.{FAULTY_INPUT, NO_MEMORY, OUTPUT_FAILED}
 use Rattle.text_commands.proofs.KnownBytes.{appends-more}
 
--- what was written whole is a front of it
+-- a text that was written whole is a prefix of itself
 pub front-whole : (old new : Option (List ℕ)) (xs : List ℕ) → Appends old new xs → WritesFront old new xs
 front-whole old new xs a = (length xs, subst (Appends old new) (sym (take-length xs)) a)
 
@@ -18,13 +18,13 @@ front-of (x ∷ xs) more (suc n) =
     let rest = front-of xs more n in
     (suc rest.0, ap (λ (l : List ℕ). x ∷ l) rest.1)
 
--- a front of a text is one of the text with more behind it
+-- a prefix of a text is a prefix of a longer text
 pub front-on : (old new : Option (List ℕ)) (xs more : List ℕ) → WritesFront old new xs → WritesFront old new (xs ++ more)
 front-on old new xs more w =
     let front = front-of xs more w.0 in
     (front.0, subst (Appends old new) front.1 w.1)
 
--- behind what was written whole
+-- a prefix after a text that was written whole
 pub front-behind : (old mid new : Option (List ℕ)) (xs ys : List ℕ) → Appends old mid xs → WritesFront mid new ys
     → WritesFront old new (xs ++ ys)
 front-behind old mid new xs ys a w =

@@ -72,7 +72,7 @@ one_header (Kind at value) p q w v h k = (h.0 ∙ sym k.0, h.1 ∙ sym k.1)
 one_header (TooLong at value) p q w v h k = (h.0 ∙ sym k.0, h.1 ∙ sym k.1)
 one_header Memory p q w v h k = absurd h
 
--- behind the whole frames there is one fault of a header, or none
+-- after the whole frames there is one fault of a header, or none
 one_behind : MeaningLaw → (start : ℕ) (stream : List ℕ) (fs gs : List Frame) (rest more : List ℕ) (fault other : Option FeedFault)
     → Splits start stream fs rest → HasFault (start + length (joined fs)) rest fault
     → Splits start stream gs more → HasFault (start + length (joined gs)) more other → (fs ≡ gs) × (fault ≡ other)

@@ -7,7 +7,7 @@ use Rattle.file_bundle.specs.Bundle.{file_text, header_line, first_line, bundle_
 use Rattle.file_bundle.specs.Packed.{files_of}
 use Rattle.file_bundle.specs.declared.packed.Packed.{Packed}
 
--- what stands behind a header and a body is counted beside the body
+-- the bytes after a header and a body are counted besides the body
 with_rest : (header body rest : List ℕ) (n total : ℕ) → total ≡ length body + n → n ≤ length rest
     → total ≤ length ((header ++ body) ++ rest)
 with_rest header body rest n total sum short =

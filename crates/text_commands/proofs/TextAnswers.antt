@@ -1,4 +1,4 @@
--- A text in front of a stream is of one table, or has one fault.
+-- A text before a stream has one table, or one fault.
 use Rattle.std.proofs.Common.{◌≡◌, ◌≢◌, ℕ, ◌+◌, List, ◌++◌, inl, inr, sym, ap, subst, ◌∙◌}
 use Rattle.std.specs.Prelude.{codes}
 use Rattle.std.proofs.lemmas.List.{append_cancel_left}
@@ -14,7 +14,7 @@ use Rattle.text_commands.specs.DecodeInput.IsTextFault.{no_first_line, no_second
 
 -- ---- the table's text
 
--- where a table's text stands, the first two lines stand in front
+-- an input with a table's text starts with the first two lines
 begun : (text table : List ℕ) → IsTableBehind head text table → (more : List ℕ) × (text ≡ head ++ more)
 begun text table (inl has) = (table ++ (codes "end\n" ++ has.0), has.1.text_is)
 begun text table (inr rest) = (table, rest.text_is)
@@ -41,7 +41,7 @@ none_in_table law text table T line word valid own is fault =
 
 -- ---- the answers
 
--- a text is of one table and one stream
+-- a text has one table and one stream
 pub one_holding : TextLaw → (text : List ℕ) (T U : Table) (stream other : List ℕ) → Holds text T stream → Holds text U other → (T ≡ U) × (stream ≡ other)
 one_holding law text T U stream other h k =
     let same = law.one_behind head text (table_text U) other (table_text T) stream k.parts h.parts in
@@ -59,7 +59,7 @@ one_in_table law a b m n w v same h k =
     let one = law.one_first b h.at k.at h.reason k.reason (subst (λ (t : List ℕ). IsFirstFault t h.at h.reason) same h.first) k.first in
     (h.line_is ∙ ap (λ (i : ℕ). i + 2) one.0 ∙ sym k.line_is, h.word_is ∙ ap reason_word one.1 ∙ sym k.word_is)
 
--- a text has one fault at most
+-- a text has at most one fault
 pub one_text_fault : TextLaw → (text : List ℕ) (m n : ℕ) (w v : List ℕ) → IsTextFault text m w → IsTextFault text n v → (m ≡ n) × (w ≡ v)
 one_text_fault law text m n w v (no_first_line none at is) (no_first_line none' at' is') = (at ∙ sym at', is ∙ sym is')
 one_text_fault law text m n w v (no_first_line none at is) (no_second_line rest first none' at' is') = absurd (none rest first)

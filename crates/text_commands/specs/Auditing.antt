@@ -1,4 +1,4 @@
--- What `audit` tells of an audit: whether its history is legal, or the first fault of the input.
+-- What `audit` prints for an audit: whether its history is legal, or the first fault of the input.
 use Rattle.std.specs.Prelude.{◌≡◌, ℕ, ◌+◌, List, [], ◌∷◌, codes, Option, ◌<◌, ◌^◌}
 use Rattle.std.specs.Fmt.{decimal}
 use Rattle.std.specs.Io.KnownBytes.{Appends}
@@ -28,12 +28,12 @@ rule_word F = codes "f"
 rule_word G = codes "g"
 rule_word Stands = codes "stands"
 
--- what is written of a text that stands behind so many lines of the input
+-- what is written for a text that starts after so many lines of the input
 abbrev pub answer_line : ℕ → Checked → List ℕ
 answer_line before (Legal happenings stands) = line (codes "legal" ∷ decimal happenings ∷ decimal stands ∷ [])
 answer_line before (Illegal at rule) = line (codes "illegal" ∷ decimal (before + at) ∷ rule_word rule ∷ [])
 
--- the input says a table, policies, a limit of loads and the text of an audit, of which this is written
+-- the input has a table, policies, a limit of loads and the text of an audit, for which this is written
 pub record IsAnswer (input answer : List ℕ) : Type 0 where
   pub loads : ℕ
   pub table : Table
@@ -45,8 +45,8 @@ pub record IsAnswer (input answer : List ℕ) : Type 0 where
   pub is_checked : IsChecked table declared loads text checked
   pub answer_is : answer ≡ answer_line before checked
 
--- The first fault of an input, as it is printed: its line and a word. It is one of the lines up to `audit`, or the
--- first line behind that is no line of an audit text.
+-- The first fault of an input, as the command prints it: its line and a word. It is one of the lines up to
+-- `audit`, or the first line after that which is no line of an audit text.
 pub data IsAuditFault (input : List ℕ) (at : ℕ) (word : List ℕ) : Type 0 where
   in_front : (reason : ScriptReason) → IsFault input at reason → word ≡ reason_word reason
       → IsAuditFault input at word
@@ -54,20 +54,20 @@ pub data IsAuditFault (input : List ℕ) (at : ℕ) (word : List ℕ) : Type 0 w
       → Says input loads T d text before → IsFirstBad T d text bad → at ≡ before + bad
       → word ≡ codes "Audit" → IsAuditFault input at word
 
--- the code's own: what a fault says of an input; running out of memory says nothing
+-- the code's own: what a failure means for an input; running out of memory means nothing
 abbrev pub IsFailureOf : List ℕ → AuditFailure → Type 0
 IsFailureOf input (At at word) = IsAuditFault input at word.now
 IsFailureOf input Memory = Unit {0}
 
 -- ---- what the command does
 
--- an input was answered
+-- an input was checked, and the answer was written
 pub record AuditsText (input : List ℕ) (out out' : Option (List ℕ)) : Type 0 where
   pub answer : List ℕ
   pub is_answer : IsAnswer input answer
   pub written : Appends out out' answer
 
--- an input was refused: its first fault was written
+-- an input was rejected: its first fault was written
 pub record RefusesAudit (input : List ℕ) (out out' : Option (List ℕ)) : Type 0 where
   pub at : ℕ
   pub word : List ℕ
@@ -79,7 +79,7 @@ HasAuditFault input = (at : ℕ) × (word : List ℕ) × IsAuditFault input at w
 
 -- ---- numbers of lines
 
--- the code's own: the line that an answer names can be counted in 64 bits behind so many lines
+-- the code's own: after so many lines, the number of the line that an answer names fits 64 bits
 abbrev pub IsNear : ℕ → Checked → Type 0
 IsNear before (Legal happenings stands) = Unit {0}
 IsNear before (Illegal at rule) = before + at < 2 ^ 64

@@ -1,4 +1,4 @@
--- What `check` tells of a proto file or of a set of files: the table, or the first fault.
+-- What `check` prints for a proto file or a set of files: the table, or the first fault.
 use Rattle.std.specs.Prelude.{ℕ, ◌+◌, List, ◌∷◌, ◌++◌, codes, Option}
 use Rattle.std.specs.Fmt.{decimal}
 use Rattle.std.specs.Io.KnownBytes.{Appends}
@@ -30,14 +30,14 @@ pub data ChecksAs (text : List ℕ) (T : Table) : Type 0 where
   a_file : (F : File) → (IsBundle text → ⊥) → IsTextOf text F → Resolves F T → ChecksAs text T
   a_set : (files : List PackedFile) → IsBundle text → Spells text files → FilesResolve files T → ChecksAs text T
 
--- where a fault stands, as it is printed
+-- the location of a fault, as a command prints it
 abbrev pub spot_text : Spot → List ℕ
 spot_text (Line n) = decimal n
 spot_text (InFile file line) = decimal file ++ 58 ∷ decimal line
 spot_text (OfFile file) = decimal file
 
--- The first fault of a text, as it is printed: where it stands, and a word. In a proto file a token at fault counts
--- before all that stands against what the text says. Files of a set are numbered from 1.
+-- The first fault of a text, as the command prints it: its location, and a word. In a proto file a token at
+-- fault counts before all other faults. Files of a set are numbered from 1.
 pub data IsCheckFault (text : List ℕ) : Spot → List ℕ → Type 0 where
   unread : (q : ProtoReason) (s : Span) → (IsBundle text → ⊥) → HasFault text q s
       → IsCheckFault text (Line s.line) (proto_word q)
@@ -49,7 +49,7 @@ pub data IsCheckFault (text : List ℕ) : Spot → List ℕ → Type 0 where
   in_set : (files : List PackedFile) (file line : ℕ) (q : FilesReason) → IsBundle text → Spells text files
       → IsFirstFault files (files_fault.At file line q) → IsCheckFault text (InFile (file + 1) line) (files_word q)
 
--- the code's own: what a fault says of a text; running out of memory says nothing
+-- the code's own: what a fault means for a text; running out of memory means nothing
 abbrev pub IsFaultOf : List ℕ → CheckFault → Type 0
 IsFaultOf text (At spot word) = IsCheckFault text spot word.now
 IsFaultOf text Memory = Unit {0}
@@ -66,7 +66,7 @@ pub record ChecksText (text : List ℕ) (out out' : Option (List ℕ)) : Type 0 
 abbrev pub spot_line : Spot → List ℕ → List ℕ
 spot_line spot word = line_of_fault (spot_text spot) word
 
--- a text was refused as a proto file or a set of files: its first fault was written
+-- a text was rejected as a proto file or a set of files: its first fault was written
 pub record RefusesProto (text : List ℕ) (out out' : Option (List ℕ)) : Type 0 where
   pub spot : Spot
   pub word : List ℕ

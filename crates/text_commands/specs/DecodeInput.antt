@@ -11,7 +11,7 @@ use Rattle.table_text.specs.TableText.{HasTableBehind, IsEndless, IsTableBehind}
 use Rattle.text_commands.specs.declared.decoding.Cut.{Cut}
 use Rattle.text_commands.specs.declared.decoding.Cut.TheVariants.{Fault, Memory, Out}
 
--- the code's own: P holds of a fault's place and word
+-- the code's own: P holds of a fault's line or offset and of its word
 abbrev pub OnFault : (ℕ → List ℕ → Type 0) → Cut → Type 0
 OnFault P (Fault place word) = P place word.now
 OnFault P Memory = Unit {0}
@@ -27,7 +27,7 @@ second_line = codes "table\n"
 abbrev pub head : List ℕ
 head = codes "mrpc-decode 1\ntable\n"
 
--- the input is the text of this table, and this stream behind it
+-- the input is the text of this table, followed by this stream
 pub record Holds (text : List ℕ) (T : Table) (stream : List ℕ) : Type 0 where
   pub valid : IsValid T
   pub parts : HasTableBehind head text (table_text T) stream
@@ -40,7 +40,7 @@ pub record IsFaultOfTable (table : List ℕ) (line : ℕ) (word : List ℕ) : Ty
   pub line_is : line ≡ at + 2
   pub word_is : word ≡ reason_word reason
 
--- the fault of the text, with its line: of the first two lines, of the table, or a missing `end` line
+-- a fault of the text, with its line: in the first two lines, in the table, or a missing `end` line
 pub data IsTextFault (text : List ℕ) (line : ℕ) (word : List ℕ) : Type 0 where
   no_first_line :
       ((rest : List ℕ) → text ≢ first_line ++ rest) → line ≡ 1 → word ≡ codes "Header"

@@ -6,7 +6,7 @@ use Rattle.text_commands.specs.DecodeInput.{Holds, IsTextFault}
 use Rattle.text_commands.specs.Decoding.{IsDecoded, IsCutAt}
 use Rattle.text_commands.specs.FaultLines.{fault_line}
 
--- a text is a table's text and whole frames behind it, and their lines were written
+-- a text is a table's text followed by whole frames, and their lines were written
 pub record DecodesText (text : List ℕ) (out out' : Option (List ℕ)) : Type 0 where
   pub table : Table
   pub stream : List ℕ
@@ -15,8 +15,8 @@ pub record DecodesText (text : List ℕ) (out out' : Option (List ℕ)) : Type 0
   pub decoded : IsDecoded table stream lines
   pub written : Appends out out' lines
 
--- A text was decoded up to its first fault, whose line was written: a fault of the table's text, or of the frames,
--- behind the lines of those in front of it.
+-- A text was decoded up to its first fault, whose line was written: a fault of the table's text, or one of
+-- the frames, after the lines of the frames before it.
 pub data CutsText (text : List ℕ) (out out' : Option (List ℕ)) : Type 0 where
   in_text : (line : ℕ) (word : List ℕ) → IsTextFault text line word → Appends out out' (fault_line line word)
       → CutsText text out out'
@@ -24,7 +24,7 @@ pub data CutsText (text : List ℕ) (out out' : Option (List ℕ)) : Type 0 wher
       → IsCutAt table 0 stream lines place word → Appends out out' (lines ++ fault_line place word)
       → CutsText text out out'
 
--- a line is at fault, or the stream
+-- the text has a fault in a line, or in the stream
 pub data HasDecodeFault (text : List ℕ) : Type 0 where
   fault_in_text : (line : ℕ) (word : List ℕ) → IsTextFault text line word → HasDecodeFault text
   fault_in_stream : (table : Table) (stream lines : List ℕ) (place : ℕ) (word : List ℕ) → Holds text table stream

@@ -1,4 +1,4 @@
--- What `decode` tells of a stream of frames: a line for each frame, up to the first fault.
+-- What `decode` prints for a stream of frames: a line for each frame, up to the first fault.
 use Rattle.std.specs.Prelude.{◌≡◌, ◌≢◌, ℕ, ◌+◌, ◌<◌, ◌≤◌, List, [], ◌∷◌, ◌++◌, length, codes, All, None}
 use Rattle.std.specs.Fmt.{decimal}
 use Rattle.mrpc_table.specs.Node.{Node}
@@ -20,7 +20,7 @@ use Rattle.audit_text.specs.Lines.{hex_word}
 abbrev pub hello_line : Frame → List ℕ
 hello_line f = line (codes "hello" ∷ decimal f.conn ∷ decimal (length f.payload) ∷ [])
 
--- the line of a request or a reply whose message has this encoding
+-- the line of a request or a reply, given the encoding of its message
 abbrev pub call_line : Frame → List ℕ → List ℕ
 call_line f bytes = line (codes "frame" ∷ decimal f.kind ∷ decimal f.method ∷ decimal f.conn ∷ decimal f.number
     ∷ hex_word bytes ∷ [])
@@ -37,8 +37,8 @@ AreLinesOf T [] text = text ≡ []
 AreLinesOf T (f ∷ fs) text = (first : List ℕ) × (rest : List ℕ) × IsLineOf T f first × AreLinesOf T fs rest
     × (text ≡ first ++ rest)
 
--- The fault of a frame, as it is printed: its place in the stream and a word. A method that the table lacks is at
--- fault at the method's first byte, and counts before the payload.
+-- The fault of a frame, as the command prints it: its offset in the stream and a word. If the table lacks the
+-- method, the fault is at the method's first byte, and counts before the payload.
 pub data IsFaultIn (T : Table) (f : Frame) (place : ℕ) (word : List ℕ) : Type 0 where
   no_method : f.kind ≢ HELLO → length T.methods ≤ f.method → place ≡ f.place + METHOD_PLACE → word ≡ codes "NoMethod"
       → IsFaultIn T f place word
@@ -46,28 +46,29 @@ pub data IsFaultIn (T : Table) (f : Frame) (place : ℕ) (word : List ℕ) : Typ
       → IsFirstFault T (message_in T f) f.payload reason at → place ≡ f.place + HEADER_LEN + at
       → word ≡ reason_word reason → IsFaultIn T f place word
 
--- the fault of a header, as it is printed
+-- the fault of a header, as the command prints it
 abbrev pub IsFaultOfHeader : FeedFault → ℕ → List ℕ → Type 0
 IsFaultOfHeader (Version at value) place word = (place ≡ at) × (word ≡ codes "Version")
 IsFaultOfHeader (Kind at value) place word = (place ≡ at) × (word ≡ codes "Kind")
 IsFaultOfHeader (TooLong at value) place word = (place ≡ at) × (word ≡ codes "TooLong")
 IsFaultOfHeader Memory place word = ⊥
 
--- these frames stand at the front of the stream, whose first byte has this place
+-- these frames are a prefix of the stream, whose first byte has the offset `start`
 pub record StandInFront (start : ℕ) (stream : List ℕ) (frames : List Frame) : Type 0 where
   pub more : List ℕ
   pub whole : stream ≡ joined frames ++ more
   pub each : All IsFrame frames
   pub places : StandFrom start frames
 
--- the stream is frames to its end, and the text is their lines
+-- the stream is whole frames to its end, and the text is their lines
 pub record IsDecoded (T : Table) (stream text : List ℕ) : Type 0 where
   pub frames : List Frame
   pub splits : Splits 0 stream frames []
   pub lines : AreLinesOf T frames text
 
--- The stream, whose first byte has the place `start`, has this first fault, and the text is the lines of the frames in
--- front of it: a frame is at fault, or the header behind the whole frames, or the stream ends inside a frame.
+-- The stream, whose first byte has the offset `start`, has this first fault, and the text is the lines of the
+-- frames before it: a frame is at fault, or the header after the whole frames, or the stream ends inside a
+-- frame.
 pub data IsCutAt (T : Table) (start : ℕ) (stream text : List ℕ) (place : ℕ) (word : List ℕ) : Type 0 where
   in_frame : (before : List Frame) (f : Frame) → StandInFront start stream (before ++ f ∷ [])
       → AreLinesOf T before text → IsFaultIn T f place word → IsCutAt T start stream text place word

@@ -9,6 +9,6 @@ line_of_fault spot word = codes "fault " ++ (spot ++ (32 ∷ (word ++ 10 ∷ [])
 abbrev pub fault_line : ℕ → List ℕ → List ℕ
 fault_line place word = line_of_fault (decimal place) word
 
--- some of a text was written, from its front
+-- a prefix of a text was written
 abbrev pub WritesFront : Option (List ℕ) → Option (List ℕ) → List ℕ → Type 0
 WritesFront out out' text = (many : ℕ) × Appends out out' (take many text)

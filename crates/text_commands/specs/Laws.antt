@@ -1,4 +1,4 @@
--- The code's own: the laws of the crates below, as the proofs here use them together.
+-- The code's own: the laws of the crates below, as the proofs here combine them.
 use Rattle.std.specs.Prelude.{◌≡◌, ◌⊎◌, ℕ, ◌+◌, ◌<◌, ◌≤◌, List, [], ◌++◌, length, All}
 use Rattle.mrpc_table.specs.Node.{Node}
 use Rattle.mrpc_table.specs.Text.{table_text}
@@ -34,8 +34,8 @@ use Rattle.audit_check.specs.Checking.{IsChecked, IsFirstBad}
 use Rattle.audit_check.specs.declared.checked.Checked.{Checked}
 use Rattle.audit_check.specs.declared.checked.Checked.TheVariants.{Illegal}
 
--- behind a head one table's text stands or no `end` line follows; a text is canonical or has one first fault, and never
--- both
+-- after its head an input has the text of one table or lacks an `end` line; a text is canonical or has one
+-- first fault, never both
 pub record TextLaw : Type 0 where
   pub some_behind : (head body : List ℕ)
       → ((table : List ℕ) × (rest : List ℕ) × HasTableBehind head (head ++ body) table rest)
@@ -50,7 +50,7 @@ pub record TextLaw : Type 0 where
       → ⊥
   pub one_each : HaveOneTextEach
 
--- a stream of bytes splits in one way, and ends in one
+-- a stream of bytes splits into frames in one way, and ends in one way
 pub record FrameLaw : Type 0 where
   pub ends : AlwaysEnds
   pub splits_once : SplitsOnce
@@ -69,7 +69,7 @@ pub record FrameLaw : Type 0 where
       → StandFrom place frames → Splits (place + length (joined frames)) stream others rest
       → Splits place (joined frames ++ stream) (frames ++ others) rest
 
--- bytes mean one message or have one first fault, and never both
+-- bytes mean one message or have one first fault, never both
 pub record MeaningLaw : Type 0 where
   pub either : (T : Table) (msg : ℕ) (bytes : List ℕ) → ((t : Node) × Means T msg bytes t)
       ⊎ ((reason : DecodeReason) × (place : ℕ) × IsFirstFault T msg bytes reason place)
@@ -81,8 +81,8 @@ pub record MeaningLaw : Type 0 where
       → Means T msg bytes t → IsFirstFault T msg bytes reason place → ⊥
   pub frames : FrameLaw
 
--- a text is of one file or has one first fault, and never both; and a file that was read has one table or one first
--- offence, and never both
+-- a text is of one file or has one first fault, never both; and a file that was read has one table or one
+-- first violation, never both
 pub record FileLaw : Type 0 where
   pub either : (text : List ℕ) → ((f : File) × IsTextOf text f) ⊎ ((q : ProtoReason) × (s : Span) × HasFault text q s)
   pub never_neither : (text : List ℕ) (F : File) → IsTextOf text F → ((T : Table) → Resolves F T → ⊥)
@@ -98,8 +98,8 @@ pub record FileLaw : Type 0 where
       → HasOffence F q s → HasOffence F r t → (q ≡ r) × (s ≡ t)
   pub table_or_offence : (F : File) (T : Table) (q : ResolveReason) (s : Span) → Resolves F T → HasOffence F q s → ⊥
 
--- behind the first line an input is one set of files or breaks off at one file, and never both; and files have one table
--- or one first fault, and never both
+-- after the first line an input is one set of files or breaks off at one file, never both; and files have one
+-- table or one first fault, never both
 pub record SetLaw : Type 0 where
   pub either : SpellsOrBreaks
   pub never_neither : (files : List PackedFile) → 0 < length files → ((T : Table) → FilesResolve files T → ⊥)
@@ -113,8 +113,8 @@ pub record SetLaw : Type 0 where
   pub table_or_files_fault : (files : List PackedFile) (T : Table) (e : FilesFault) → FilesResolve files T
       → IsFilesFault files e → ⊥
 
--- an input of `audit` says one table, policies and text or has one fault, and never both; and a text is judged in one
--- way or has one first line that is none, and never both
+-- an input of `audit` has one table, policies and text or one fault, never both; and a text has one verdict
+-- or one first line that is no line of an audit, never both
 pub record AuditLaw : Type 0 where
   pub either : (input : List ℕ)
       → ((loads : ℕ) × (T : Table) × (d : Declared) × (text : List ℕ) × (before : ℕ) × Says input loads T d text before)
@@ -136,7 +136,7 @@ pub record AuditLaw : Type 0 where
   pub never_neither : (T : Table) (d : Declared) (limit : ℕ) (text : List ℕ) → IsValid T
       → ((checked : Checked) → IsChecked T d limit text checked → ⊥) → ((line : ℕ) → IsFirstBad T d text line → ⊥) → ⊥
 
--- the lines of a text that are named are among its lines, or the one behind them
+-- each reported line number is that of a line of the text, or of the one after its last
 pub record NearLaw : Type 0 where
   pub illegal : (T : Table) (d : Declared) (limit : ℕ) (text : List ℕ) (line : ℕ) (rule : Rule)
       → IsChecked T d limit text (Illegal line rule) → line ≤ length text + 1

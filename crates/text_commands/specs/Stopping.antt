@@ -3,9 +3,9 @@ use Rattle.std.specs.Prelude.{List, [], ℕ, Option, Some}
 use Rattle.std.specs.Io.KnownBytes.{Appends}
 use Rattle.text_commands.specs.FaultLines.{WritesFront}
 
--- A command ended early, and what it wrote is in front of what it writes at its end: nothing, or a front of a text. With
--- this text it works on its input, or refuses it: so say `Works` and `Refuses` of an output that had nothing, and has the
--- text then.
+-- A command ended early, and its output is a prefix of what it may write: nothing, or a prefix of a text. If
+-- all of the text were written to an empty output, the command would have worked on its input or rejected it,
+-- in the sense of `Works` and `Refuses`.
 pub data EndsEarly (Works Refuses : Option (List ℕ) → Option (List ℕ) → Type 0) (out out' : Option (List ℕ))
     : Type 0 where
   before_all : Appends out out' [] → EndsEarly Works Refuses out out'

@@ -1,4 +1,4 @@
--- The code's own: how the frames of a stream are told one behind another.
+-- The code's own: how the lines of frames are built up, frame by frame.
 use Rattle.std.specs.Prelude.{◌≡◌, ◌⊎◌, ℕ, ◌+◌, List, ◌++◌, length, drop, All, Option}
 use Rattle.mrpc_table.specs.declared.table.Table.{Table}
 use Rattle.frame_transport.specs.Frames.{IsFrame, joined, StandFrom}
@@ -6,7 +6,7 @@ use Rattle.frame_transport.specs.declared.format.Frame.{Frame}
 use Rattle.text_commands.specs.Decoding.{AreLinesOf, IsDecoded, IsCutAt}
 use Rattle.text_commands.specs.FaultLines.{WritesFront}
 
--- the stream is frames from one place to another, and the text is their lines
+-- the stream is frames from one offset to another, and the text is their lines
 pub record Tells (T : Table) (stream : List ℕ) (from to : ℕ) (text : List ℕ) : Type 0 where
   pub frames : List Frame
   pub lines : AreLinesOf T frames text
@@ -15,12 +15,12 @@ pub record Tells (T : Table) (stream : List ℕ) (from to : ℕ) (text : List �
   pub whole : drop from stream ≡ joined frames ++ drop to stream
   pub end : to ≡ from + length (joined frames)
 
--- the text is the lines of all frames of the stream, or of those in front of its first fault
+-- the text is the lines of all frames of the stream, or of the frames before its first fault
 abbrev pub IsAllTold : Table → List ℕ → List ℕ → Type 0
 IsAllTold T stream text =
     IsDecoded T stream text ⊎ ((place : ℕ) × (word : List ℕ) × IsCutAt T 0 stream text place word)
 
--- a front of all lines of the stream was written
+-- a prefix of all lines of the stream was written
 pub record TellsEarly (T : Table) (stream : List ℕ) (out out' : Option (List ℕ)) : Type 0 where
   pub lines : List ℕ
   pub all_told : IsAllTold T stream lines

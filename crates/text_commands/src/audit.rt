@@ -1,4 +1,4 @@
-//! Checking an audit: whether it is that of a legal history, or the first fault of the input.
+//! Checks an audit: prints whether its history is legal, or the first fault of the input.
 
 ghost use Rattle.std.specs.Prelude.{◌≡◌, ◌≢◌, ◌≤◌, ◌⊎◌, ◌++◌, List, ℕ, length, IfOk, IfErr, OnOk};
 ghost use Rattle.mrpc_base.specs.Faults.{HasCause};
@@ -22,12 +22,12 @@ use script_words::ScriptFault;
 use std::alloc::Global;
 use whole_input::INPUT_LIMIT;
 
-// Why an audit isn't judged.
+// Why an audit gets no verdict.
 #[derive(Drop, Clone, Copy)]
 enum AuditFailure {
-    // The input has its first fault on this line; this is the word of its reason.
+    // The input has its first fault on this line; `word` is the word of its reason.
     At { line: u64, word: &'static str },
-    // No memory was found.
+    // Out of memory.
     Memory,
 }
 
@@ -42,7 +42,7 @@ impl From<Memory> for AuditFailure {
     }
 }
 
-/// An input has one answer or one first fault, and never both.
+/// An input has one answer or one first fault, never both.
 pub fn one_audit()
     ensures answers { (input one other : List ℕ) → IsAnswer input one → IsAnswer input other → one ≡ other }
     ensures faults { (input word spelled : List ℕ) (line at : ℕ) → IsAuditFault input line word
@@ -55,8 +55,8 @@ pub fn one_audit()
     audit_law();
 }
 
-/// Reads an audit with the table and the policies that it is judged under, in an input of at most [`INPUT_LIMIT`] bytes,
-/// and writes whether its history is legal, or the first fault of the input as one line.
+/// Reads an audit with its table and policies from an input of at most [`INPUT_LIMIT`] bytes. Writes whether
+/// its history is legal, or the first fault of the input as one line.
 pub fn audit_to<K: Sink>(alloc: Global, text: &[u8], out: &mut K) -> u8
     requires short { length text.now ≤ INPUT_LIMIT }
     ensures statuses { result ≤ OUTPUT_FAILED }
@@ -80,7 +80,7 @@ pub fn audit_to<K: Sink>(alloc: Global, text: &[u8], out: &mut K) -> u8
     }
 }
 
-// The line that is written of an audit: whether it is that of a legal history.
+// The line for an audit: whether its history is legal.
 fn audited_text(alloc: Global, input: &[u8]) -> Result<Bytes, AuditFailure>
     requires short { length input.now ≤ INPUT_LIMIT }
     ensures answer { IfOk result (IsAnswer input.now) }
@@ -100,7 +100,7 @@ fn audited_text(alloc: Global, input: &[u8]) -> Result<Bytes, AuditFailure>
     }
 }
 
-// The same, of an input that was read.
+// Like `audited_text`, for an input that was already read.
 fn judged(alloc: Global, read: &AuditInput<'_>) -> Result<Bytes, AuditFailure>
     requires short { (input : List ℕ)
         × Says input read.now.loads read.now.table read.now.declared read.now.text.now read.now.line
@@ -125,7 +125,7 @@ fn judged(alloc: Global, read: &AuditInput<'_>) -> Result<Bytes, AuditFailure>
     }
 }
 
-// What is written of a text that stands behind so many lines of the input.
+// The line for a text that starts after `before` lines of the input.
 fn answer_line(alloc: Global, before: u64, checked: Checked) -> Result<Bytes, Memory>
     requires { IsNear before checked }
     ensures { IfOk result (λ line. line ≡ answer_line before checked) }

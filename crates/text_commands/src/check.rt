@@ -1,4 +1,4 @@
-//! Checking a proto file or a set of files: the table of what it says, or its first fault.
+//! Checks a proto file or a set of files: prints the table that it declares, or its first fault.
 
 ghost use Rattle.std.specs.Prelude.{◌≡◌, ◌≢◌, ◌≤◌, ◌⊎◌, List, ℕ, length, IfOk, IfErr};
 ghost use Rattle.mrpc_base.specs.Faults.{HasCause};
@@ -24,7 +24,7 @@ use std::alloc::Global;
 use table_lines::table_text;
 use whole_input::INPUT_LIMIT;
 
-/// Where a fault stands, as it is printed.
+/// The location of a fault, as a command prints it.
 #[derive(Drop, Clone, Copy)]
 pub enum Spot {
     /// On this line of a proto file.
@@ -38,9 +38,9 @@ pub enum Spot {
 // Why a text has no table.
 #[derive(Drop, Clone, Copy)]
 enum CheckFault {
-    // The text has its first fault here; this is the word of its reason.
+    // The text has its first fault here; `word` is the word of its reason.
     At { spot: Spot, word: &'static str },
-    // No memory was found.
+    // Out of memory.
     Memory,
 }
 
@@ -55,8 +55,8 @@ impl From<Memory> for CheckFault {
     }
 }
 
-/// Reads a proto file or a set of files, of at most [`INPUT_LIMIT`] bytes, and writes the text of its table, or its first
-/// fault as one line.
+/// Reads a proto file or a set of files of at most [`INPUT_LIMIT`] bytes. Writes the text of its table, or
+/// its first fault as one line.
 pub fn check_to<K: Sink>(alloc: Global, text: &[u8], out: &mut K) -> u8
     requires short { length text.now ≤ INPUT_LIMIT }
     ensures statuses { result ≤ OUTPUT_FAILED }
@@ -103,7 +103,7 @@ fn table_of(alloc: Global, text: &[u8]) -> Result<Table, CheckFault>
     }
 }
 
-// The table of a proto file. What the text says counts only where each token can stand.
+// The table of a proto file. Other faults count only if each token is at a legal position.
 fn table_of_file(alloc: Global, text: &[u8]) -> Result<Table, CheckFault>
     requires short { length text.now ≤ INPUT_LIMIT }
     requires alone { IsBundle text.now → ⊥ }
@@ -166,7 +166,7 @@ fn table_of_set(alloc: Global, text: &[u8]) -> Result<Table, CheckFault>
     }
 }
 
-/// A text has one table or one first fault, and never both.
+/// A text has one table or one first fault, never both.
 pub fn one_check()
     ensures tables { (text : List ℕ) (T U : Table) → ChecksAs text T → ChecksAs text U → T ≡ U }
     ensures faults { (text word spelled : List ℕ) (spot at : Spot) → IsCheckFault text spot word

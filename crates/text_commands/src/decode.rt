@@ -1,4 +1,4 @@
-//! Decoding the text of an input: a line for each frame, or the first fault.
+//! Decodes an input: prints a line for each frame, or the first fault.
 
 ghost use Rattle.std.specs.Prelude.{◌≡◌, ◌≢◌, ◌<◌, ◌≤◌, ◌⊎◌, List, ℕ, length, All};
 ghost use Rattle.mrpc_base.specs.Faults.{HasCause};
@@ -17,9 +17,9 @@ use mrpc_base::Sink;
 use std::alloc::Global;
 use whole_input::INPUT_LIMIT;
 
-/// Reads a table's text and the frames behind it, of at most [`INPUT_LIMIT`] bytes, and writes a line for each frame. The
-/// first fault of the text is written as a line `fault LINE REASON`, one of the frames as `fault PLACE REASON` behind the
-/// lines of those in front of it.
+/// Reads the text of a table and the frames after it, at most [`INPUT_LIMIT`] bytes, and writes a line for
+/// each frame. Writes the first fault of the text as a line `fault LINE REASON`. Writes the first fault of
+/// the frames as `fault PLACE REASON`, after the lines of the frames before it.
 pub fn decode_to<K: Sink>(alloc: Global, text: &[u8], out: &mut K) -> u8
     requires short { length text.now ≤ INPUT_LIMIT }
     ensures statuses { result ≤ OUTPUT_FAILED }
@@ -42,8 +42,9 @@ pub fn decode_to<K: Sink>(alloc: Global, text: &[u8], out: &mut K) -> u8
     }
 }
 
-/// A text has one decoding. It is of one table and one stream or has one first fault, and never both; and a stream of
-/// bytes is frames to its end, with their lines, or has one first fault, with the lines in front of it, and never both.
+/// A text has one decoding: either one table and one stream, or one first fault, never both. A stream of
+/// bytes is either whole frames to its end, with their lines, or has one first fault, with the lines of the
+/// frames before it, never both.
 pub fn one_decoding()
     ensures parts { (text stream other : List ℕ) (T U : Table) → Holds text T stream → Holds text U other
         → (T ≡ U) × (stream ≡ other) }

@@ -1,4 +1,4 @@
-//! The text in front of a stream of frames: two lines, the text of a table, and an `end` line.
+//! The text before a stream of frames: two lines, the text of a table, and an `end` line.
 
 ghost use Rattle.std.specs.Prelude.{◌≡◌, ◌≢◌, ◌<◌, ◌^◌, length, IfOk, IfErr, Err};
 ghost use Rattle.mrpc_table.specs.Valid.{IsValid};
@@ -16,7 +16,7 @@ const SECOND_LINE: &[u8] = b"table\n";
 
 const HEAD: &[u8] = b"mrpc-decode 1\ntable\n";
 
-// The table that an input's text has, and the stream behind it.
+// The table in an input's text, and the stream after it.
 pub(crate) fn read_head(alloc: Global, text: &[u8]) -> Result<(Table, &[u8]), Cut>
     requires short { length text.now < 2 ^ 63 }
     ensures read { IfOk result (λ parts. Holds text.now parts.0 parts.1.now) }
@@ -45,7 +45,7 @@ fn fault(place: u64, word: &'static str) -> Cut
     Cut::Fault { place, word }
 }
 
-// The table of a text that begins in the third line.
+// The table of a text whose first line is line 3 of the input.
 fn read_lines(alloc: Global, text: &[u8]) -> Result<Table, Cut>
     requires short { length text.now < 2 ^ 63 }
     ensures read { IfOk result (λ t. IsValid t × (text.now ≡ table_text t)) }

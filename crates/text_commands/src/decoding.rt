@@ -1,4 +1,4 @@
-//! Decoding a stream of frames: a line for each frame, up to the first fault.
+//! Decodes a stream of frames: a line for each frame, up to the first fault.
 
 ghost use Rattle.std.specs.Prelude.{◌≡◌, ◌≢◌, ◌<◌, ◌^◌, ◌⊎◌, ◌++◌, [], List, ℕ, length, drop, OnOk, IfOk, IfErr, Err};
 ghost use Rattle.std.specs.Io.KnownBytes.{Appends};
@@ -21,16 +21,16 @@ use std::alloc::Global;
 use wire_decode::{DecodeFault, decode_with};
 use wire_encode::{Output, encode_into};
 
-// How many bytes of lines are gathered at the least before they are written.
+// The fewest bytes of lines that are gathered before a write.
 const PIECE: usize = 65_536;
 
 // Why a decoding stops before the end of its input.
 #[derive(Drop, Clone, Copy)]
 pub(crate) enum Cut {
-    // The input has a fault at this place, a line of the text or a byte of the stream; this is the word
-    // of its reason.
+    // The input has a fault at `place`, a line of the text or an offset in the stream; `word` is the word of
+    // its reason.
     Fault { place: u64, word: &'static str },
-    // No memory was found.
+    // Out of memory.
     Memory,
     // A write failed.
     Out,
@@ -70,7 +70,7 @@ pub(crate) fn decode_stream<K: Sink>(
     while place < stream.len() {
         let mut lines = Bytes::new(alloc);
         let told = tell_piece(alloc, table, stream, place, &mut room, &mut lines);
-        // Without memory the lines may be cut anywhere, and none of them is written.
+        // After `Memory` the lines may be truncated anywhere, so none of them is written.
         if matches!(told, Err(Cut::Memory)) {
             return Err(Cut::Memory);
         }
@@ -82,11 +82,11 @@ pub(crate) fn decode_stream<K: Sink>(
     Ok(())
 }
 
-// Room that is used again for each frame.
+// Buffers that are reused for each frame.
 struct Room {
     // The encoding of a message.
     encoded: Output,
-    // What the trees of earlier messages were made of.
+    // Recycled trees of earlier messages.
     spare: Spare,
 }
 
@@ -108,8 +108,8 @@ impl Room {
     }
 }
 
-// Appends the lines of the frames of a stream from this place on, until they are a piece or the stream ends, and
-// answers the place behind these frames.
+// Appends the lines of frames from this offset until `PIECE` bytes are gathered or the stream ends. Returns
+// the offset after these frames.
 fn tell_piece(
     alloc: Global,
     table: &Table,
@@ -138,7 +138,7 @@ fn tell_piece(
     }
 }
 
-// Appends the line of the frame at this place of a stream, and answers the place behind it.
+// Appends the line of the frame at this offset of a stream, and returns the offset after the frame.
 fn tell_frame(
     alloc: Global,
     table: &Table,
@@ -223,7 +223,7 @@ fn tell(
     tell_call(alloc, table, frame, room, lines)
 }
 
-// Appends the line of a request or a reply, whose message is encoded in the place of the one before.
+// Appends the line of a request or a reply. The encoding of its message overwrites that of the previous one.
 fn tell_call(
     alloc: Global,
     table: &Table,
@@ -268,7 +268,7 @@ fn put_hello(frame: &FrameRef, lines: &mut Bytes) -> Result<(), Memory>
     lines.append(b"\n")
 }
 
-// Appends the line of a request or a reply whose message has this encoding.
+// Appends the line of a request or a reply, given the encoding of its message.
 fn put_call(frame: &FrameRef, bytes: &[u8], lines: &mut Bytes) -> Result<(), Memory>
     ensures { OnOk result (lines.new ≡ lines.old ++ call_line (frame_of frame.now) bytes.now) }
 {

@@ -1,4 +1,5 @@
-//! The laws of the crates below, as the proofs here use them together. These functions do nothing; their clauses hold.
+//! The laws of the crates below, as the proofs here combine them. These functions do nothing; their clauses
+//! are the laws.
 
 ghost use Rattle.text_commands.specs.Laws.{AuditLaw, FileLaw, FrameLaw, MeaningLaw, NearLaw, SetLaw, TextLaw};
 
@@ -12,7 +13,7 @@ use schema_resolve::{one_offence, one_table, table_or_offence};
 use table_text::{one_fault as one_table_fault, one_table_behind, one_text, table_or_fault};
 use wire_decode::{meaning_or_fault, one_fault, one_meaning};
 
-// What holds of the text of a table within a text.
+// Laws of a table's text within a text.
 pub(crate) fn text_law()
     ensures { TextLaw }
 {
@@ -22,7 +23,7 @@ pub(crate) fn text_law()
     table_or_fault();
 }
 
-// What holds of frames and streams.
+// Laws of frames and streams.
 pub(crate) fn frame_law()
     ensures { FrameLaw }
 {
@@ -31,7 +32,7 @@ pub(crate) fn frame_law()
     frames_join();
 }
 
-// What holds of the meaning of payloads, and of the frames that they stand in.
+// Laws of the meaning of payloads, and of the frames that hold them.
 pub(crate) fn meaning_law()
     ensures { MeaningLaw }
 {
@@ -41,7 +42,7 @@ pub(crate) fn meaning_law()
     meaning_or_fault();
 }
 
-// What holds of proto files and their tables.
+// Laws of proto files and their tables.
 pub(crate) fn file_law()
     ensures { FileLaw }
 {
@@ -54,7 +55,7 @@ pub(crate) fn file_law()
     table_or_offence();
 }
 
-// What holds of sets of files and their tables.
+// Laws of sets of files and their tables.
 pub(crate) fn set_law()
     ensures { SetLaw }
 {
@@ -64,7 +65,7 @@ pub(crate) fn set_law()
     table_or_files_fault();
 }
 
-// What holds of the input of `audit`, and of the text in it.
+// Laws of the input of `audit`, and of the text in it.
 pub(crate) fn audit_law()
     ensures { AuditLaw }
 {
@@ -72,7 +73,7 @@ pub(crate) fn audit_law()
     a_text_has_one_answer();
 }
 
-// What holds of the lines of an audit that are named.
+// Laws of the line numbers that a check of an audit reports.
 pub(crate) fn near_law()
     ensures { NearLaw }
 {}

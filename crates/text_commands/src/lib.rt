@@ -1,10 +1,10 @@
-//! What the commands `decode`, `check` and `audit` make of the text of an input. Each writes what the text comes to, or the
-//! line of its first fault.
+//! The commands `decode`, `check` and `audit` on the text of an input. Each writes its result, or the line of
+//! the first fault.
 //!
-//! It stands on the readers of tables, frames, messages, proto files and audits, by their public contracts. Each command
-//! is a function for the layer above, [`decode_to`], [`check_to`] and [`audit_to`], and beside it stands a law: a text has
-//! one decoding ([`one_decoding`]), one table ([`one_check`]) or one answer ([`one_audit`]), or else one first fault, and
-//! never both.
+//! The crate uses the readers of tables, frames, messages, proto files and audits through their public
+//! contracts. Each command is one function: [`decode_to`], [`check_to`] and [`audit_to`]. A law goes with
+//! each: a text has one decoding ([`one_decoding`]), one table ([`one_check`]) or one answer ([`one_audit`]),
+//! or else one first fault, and never both.
 #![tactic(auto)]
 
 mod audit;
@@ -24,5 +24,5 @@ pub use status::{
     DONE, FAULTY_INPUT, INPUT_FAILED, NO_COMMAND, NO_MEMORY, OUTPUT_FAILED, WIRE_FAILED,
 };
 
-// What a drop comes to is proved in each function that has one. In this one it is one call.
+// What dropping a value does is proved in each function that drops one. Through this function it is one call.
 fn discard<T: Drop>(_value: T) {}

@@ -12,7 +12,7 @@ use mrpc_base::{Sink, write_all};
 use mrpc_table::{Bytes, Memory};
 use std::alloc::Global;
 
-/// Writes the line of a fault at a place or on a line, `fault PLACE WORD`, and answers the status.
+/// Writes the line of a fault at an offset or on a line, `fault PLACE WORD`, and returns the exit status.
 pub fn refuse<K: Sink>(alloc: Global, place: u64, word: &[u8], out: &mut K) -> u8
     ensures statuses { (result ≡ FAULTY_INPUT) ⊎ ((result ≡ NO_MEMORY) ⊎ (result ≡ OUTPUT_FAILED)) }
     ensures written { result ≡ FAULTY_INPUT

@@ -1,15 +1,15 @@
-//! How a command ends: its exit status.
+//! The exit status of a command.
 
 /// The work is done.
 pub const DONE: u8 = 0;
 
-/// The words are no command.
+/// The words name no command.
 pub const NO_COMMAND: u8 = 1;
 
 /// The input has a fault, which was written.
 pub const FAULTY_INPUT: u8 = 2;
 
-/// No memory was found.
+/// Out of memory.
 pub const NO_MEMORY: u8 = 3;
 
 /// The input could not be read.

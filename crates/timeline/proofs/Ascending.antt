@@ -15,7 +15,7 @@ use Rattle.timeline.specs.declared.part.Row.{Row as TheRow}
 use Rattle.timeline.specs.declared.line.Event.{Event}
 use Rattle.timeline.specs.declared.line.What.TheVariants.{Sent}
 
--- ---- the happenings of one connection
+-- ---- the events of one connection
 
 abbrev whats : List Happening → List Told
 whats hs = map (λ h. h.what) hs
@@ -62,7 +62,7 @@ IsRow hs r = (r ≡ row_of r.conn (of_connection r.conn hs)) × (0 < r.happening
 lt_or_le : (a b : ℕ) → (a < b) ⊎ (b ≤ a)
 lt_or_le a b = elim (leb_tells (suc a) b) [ inl lt ↦ inl lt.1 | inr ge ↦ inr (let h = ge.1 in omega (arith, h)) ]
 
--- a row stands for a connection of which something was told
+-- a row is of a connection that has an event
 row_above : (c : ℕ) (hs : List Happening) (r : Row) → Above c hs → IsRow hs r → c < r.conn
 row_above c hs r above is =
     elim (lt_or_le c r.conn) [
@@ -74,7 +74,7 @@ rows_above : (c : ℕ) (hs : List Happening) (rs : List Row) → Above c hs → 
 rows_above c hs [] above each = tt
 rows_above c hs (r ∷ rs) above each = (row_above c hs r above each.0, rows_above c hs rs above each.1)
 
--- rows of what was told of other connections stay
+-- rows stay rows if the events of their connections stay the same
 rows_stay : (xs ys : List Happening) (c : ℕ) (rs : List Row)
     → ((d : ℕ) → c < d → of_connection d xs ≡ of_connection d ys) → AllByRecursion (λ r. c < r.conn) rs
     → AllByRecursion (IsRow xs) rs → AllByRecursion (IsRow ys) rs
@@ -82,7 +82,7 @@ rows_stay xs ys c [] same above each = tt
 rows_stay xs ys c (r ∷ rs) same above each =
     ((each.0.0 ∙ ap (row_of r.conn) (same r.conn above.0), each.0.1), rows_stay xs ys c rs same above.1 each.1)
 
--- the row of a connection in front of those of greater ones
+-- the row of a connection before those of greater ones
 one_row : (c : ℕ) (own hs : List Happening) (rs : List Row) (r : Row) → Only c own → Above c hs → 0 < length own
     → r ≡ row_of c (whats own) → AreRows hs rs → AreRows (own ++ hs) (r ∷ rs)
 one_row c own hs rs r only above some is rows =
@@ -106,7 +106,7 @@ one_row c own hs rs r only above some is rows =
     length-whats [] = refl
     length-whats (h ∷ hs) = ap (λ n. suc n) (length-whats hs)
 
--- what was told of each connection, in its order, makes the rows
+-- the rows depend only on each connection's events, in order
 pub same_rows : (xs ys : List Happening) (rs : List Row) → ((c : ℕ) → of_connection c xs ≡ of_connection c ys) → AreRows xs rs → AreRows ys rs
 same_rows xs ys rs same rows = record {
   rise = rows.rise;
@@ -118,7 +118,7 @@ same_rows xs ys rs same rows = record {
     stay [] each = tt
     stay (r ∷ rs) each = ((each.0.0 ∙ ap (row_of r.conn) (same r.conn), each.0.1), stay rs each.1)
 
--- ---- what the code has
+-- ---- the code's types
 
 take_none : (n : ℕ) → take {A = Event} n [] ≡ []
 take_none zero = refl
@@ -173,7 +173,7 @@ behind_both (e ∷ es) (suc m) n = let sum : suc (m + n) ≡ suc m + n = omega a
 
 -- ---- one more row
 
--- those of the first connection in front
+-- the events of the first connection come first
 front_only : (es : List Event) (c n : ℕ) → IsNonDecreasingBy (λ e. e.conn) es → n ≤ length es → 0 < length es → ((d : Event) → (get_or es 0 d).conn ≡ c)
     → ((k : ℕ) (d : Event) → k < n → (get_or es k d).conn ≡ c) → ((d : Event) → n < length es → (get_or es n d).conn ≢ c)
     → Above c (map happening (drop n es))
@@ -207,7 +207,7 @@ length-own : (es : List Event) → length (map happening es) ≡ length es
 length-own [] = refl
 length-own (e ∷ es) = ap (λ n. suc n) (length-own es)
 
--- the row of the happenings of a connection from a place on, in front of the rows of those behind them
+-- the row of a connection's events from an index on, before the rows of the later events
 pub row_at : (es : List Event) (at end conn : ℕ) (r : Row) (more : List Row) → IsNonDecreasingBy (λ e. e.conn) es → at < end → end ≤ length es
     → ((d : Event) → (get_or es at d).conn ≡ conn) → ((k : ℕ) (d : Event) → at ≤ k → k < end → (get_or es k d).conn ≡ conn)
     → ((d : Event) → end < length es → (get_or es end d).conn ≢ conn) → r ≡ row_of conn (all_told (take (end - at) (drop at es)))
@@ -239,7 +239,7 @@ pub pushed_row : (rows new : List TheRow) (r : TheRow) (more : List Row) → new
 pushed_row rows new r more is =
     sym (ap (λ (xs : List TheRow). map row xs ++ more) is ∙ ap (λ (xs : List Row). xs ++ more) (map-append row rows (r ∷ [])) ∙ append_assoc (map row rows) (row r ∷ []) more)
 
--- rows of what was sorted are rows of what there was
+-- rows of the sorted events are rows of the events
 pub sorted_rows : {A E : Type 0} (items : A → List Row) (r : Result A E) (xs ys : List Happening) → ((c : ℕ) → of_connection c xs ≡ of_connection c ys)
     → IfOk r (λ a. AreRows xs (items a)) → IfOk r (λ a. AreRows ys (items a))
 sorted_rows items (Ok a) xs ys same h = same_rows xs ys (items a) same h

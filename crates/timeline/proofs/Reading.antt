@@ -28,7 +28,7 @@ whole_cons text line behind cut =
     let long : length (pieces_of text) - 1 ≡ suc (length (pieces_of behind) - 1) = omega (arith, ap length cut, ap length p.2) in
     ap (λ (n : ℕ). take n (pieces_of text)) long ∙ ap (take (suc (length (pieces_of behind) - 1))) cut
 
--- one more line, which tells this
+-- one more line, with this event
 pub one_line : (text line behind : List ℕ) (told : Option Happening) (before : List Happening) → pieces_of text ≡ line ∷ pieces_of behind → happening_of line ≡ told
     → before ++ filter_map happening_of (whole_lines text) ≡ before ++ cons_option told (filter_map happening_of (whole_lines behind))
 one_line text line behind told before cut is =

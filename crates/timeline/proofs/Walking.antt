@@ -1,4 +1,4 @@
--- Happenings of a row, from the last one back.
+-- Events of a row, from the last one back.
 use Rattle.std.proofs.Common.{◌≡◌, ℕ, List, drop}
 use Rattle.timeline.specs.Rows.{Bar, end_from, bars_from}
 use Rattle.timeline.specs.Views.{all_told}
@@ -6,7 +6,7 @@ use Rattle.timeline.specs.Ends.{end_in}
 use Rattle.timeline.specs.declared.line.Event.{Event}
 use Rattle.timeline.specs.declared.part.End.{End as TheEnd}
 
--- what is known behind a place, and before the happening there
+-- what is known after an index, before the event there is taken
 pub record Behind (last : ℕ) (es : List Event) (at : ℕ) (ends : List (ℕ × TheEnd)) (bars : List Bar) : Type 0 where
   pub ends_are : (n : ℕ) → end_in last ends n ≡ end_from n at (all_told (drop at es))
   pub bars_are : bars ≡ bars_from at (all_told (drop at es))

@@ -4,24 +4,24 @@ use Rattle.timeline.specs.Pieces.{text, number, quote, svg}
 use Rattle.timeline.specs.Rows.{Mark, Fate, was_sent, was_refused, stands, Bar, Row}
 use Rattle.timeline.specs.declared.limits.TheConstants.{LEFT, STEP, RIGHT, ABOVE, LABEL, LABELS, LANE}
 
--- ---- where things stand
+-- ---- offsets
 
--- a place in a row
+-- the horizontal offset of an event in a row
 abbrev pub x_of : ℕ → ℕ
 x_of at = LEFT + at * STEP
 
--- a bar in a row
+-- the vertical offset of a bar in a row
 abbrev pub y_of : ℕ → ℕ
 y_of lane = ABOVE + lane * LANE
 
--- the words of a mark, by the number of marks before it
+-- the vertical offset of a tick's words, by the number of ticks before it
 abbrev pub label_y : ℕ → ℕ
 label_y label = LABEL + label % LABELS * LABEL
 
 abbrev pub height_of : Row → ℕ
 height_of row = y_of (length row.bars + 1)
 
--- ---- marks
+-- ---- ticks
 
 abbrev pub mark_word : Bool → List ℕ
 mark_word true = codes "step"
@@ -51,8 +51,7 @@ fate_word was_sent = codes "sent"
 fate_word (was_refused cause) = codes "refused"
 fate_word stands = codes "stands"
 
--- the bar of a call, from where it was taken to where it ends, with its number; and what is shown where somebody points
--- at it
+-- the bar of a call, from its acceptance to its end, with its number and a tooltip
 unfoldable pub rect_text : (lane : ℕ) → Bar → List ℕ
 rect_text lane b = svg (
     text (codes "<rect class=\"") ∷ text (fate_word b.end.fate) ∷ text (codes "\" x=\"") ∷ number (x_of b.from)
@@ -62,7 +61,7 @@ rect_text lane b = svg (
     ∷ number (x_of b.from + 4) ∷ text (codes "\" y=\"") ∷ number (y_of lane + 11) ∷ text (codes "\">")
     ∷ number b.seq ∷ text (codes "</text>\n") ∷ [])
 
--- the cause stands behind a call that was refused
+-- the cause after a call that was refused
 unfoldable pub cause_text : (x y : ℕ) → Fate → List ℕ
 cause_text x y (was_refused cause) = svg (
     text (codes "<text x=\"") ∷ number (x + 4) ∷ text (codes "\" y=\"") ∷ number (y + 11) ∷ text (codes "\">")
@@ -72,7 +71,7 @@ cause_text x y _ = []
 abbrev pub bar_text : (lane : ℕ) → Bar → List ℕ
 bar_text lane b = rect_text lane b ++ cause_text (x_of b.end.to) (y_of lane) b.end.fate
 
--- each bar is below the one before it
+-- each bar is below the previous one
 abbrev pub bars_text : (lane : ℕ) → List Bar → List ℕ
 bars_text lane [] = []
 bars_text lane (b ∷ bs) = bar_text lane b ++ bars_text (lane + 1) bs
@@ -91,7 +90,7 @@ abbrev pub row_text : (top : ℕ) → Row → List ℕ
 row_text top row =
     head_text top row.conn ++ (marks_text (y_of (length row.bars)) 0 row.marks ++ (bars_text 0 row.bars ++ foot_text))
 
--- each row is below the one before it
+-- each row is below the previous one
 abbrev pub rows_text : (top : ℕ) → List Row → List ℕ
 rows_text top [] = []
 rows_text top (row ∷ rows) = row_text top row ++ rows_text (top + height_of row) rows
@@ -106,7 +105,7 @@ abbrev pub longest : List Row → ℕ
 longest [] = 0
 longest (row ∷ rows) = max row.happenings (longest rows)
 
--- the first lines of the drawing, with its size and what the shapes look like
+-- the first lines of the drawing, with its size and the style of the shapes
 unfoldable pub front_text : (width height : ℕ) → List ℕ
 front_text width height = svg (
     text (codes "<svg xmlns=\"http://www.w3.org/2000/svg\" font-family=\"monospace\" font-size=\"11\" width=\"")

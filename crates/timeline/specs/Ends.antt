@@ -9,11 +9,11 @@ use Rattle.timeline.specs.Rows.{Bar, End, stands}
 use Rattle.timeline.specs.Views.{end_of}
 use Rattle.timeline.specs.declared.part.End.{End as TheEnd}
 
--- where a call ends, which stands up to the end of its row if no end of it is kept
+-- the end of a call; if no end of it is kept, it is pending up to the end of its row
 abbrev pub end_in : (last : ℕ) → List (ℕ × TheEnd) → (seq : ℕ) → End
 end_in last ends seq = option_map_or end_of (lookup (is_at (nat_cmp seq)) ends) (record { to = last; fate = stands })
 
--- the bar of a call that is taken at a place
+-- the bar of a call that is accepted at an index
 abbrev pub bar_in : (last : ℕ) → List (ℕ × TheEnd) → (at : ℕ) → Told → Option Bar
 bar_in last ends at (took seq method) = Some (record { seq = seq; method = method; from = at; end = end_in last ends seq })
 bar_in last ends at _ = None

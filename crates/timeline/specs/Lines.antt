@@ -1,11 +1,12 @@
--- What the lines of a text tell of connections.
+-- The events of connections that the lines of a text have.
 use Rattle.std.specs.Prelude.{ℕ, ◌^◌, ◌==◌, nat_lt, List, ◌∷◌, codes, Option, Some, None, option_map, if◌then◌else◌}
 use Rattle.std.specs.List.{filter_map, slice_split, join_with_byte}
 use Rattle.std.specs.Option.{option_and_then}
 use Rattle.std.specs.Str.{bytes_eq}
 use Rattle.mrpc_table.specs.Lines.{number_of, whole_lines}
 
--- a call was taken, sent, or refused for a cause; an operator's step, or a moment of the clock, in its words
+-- a call was accepted, sent, or refused for a cause; an operator's operation, or a timestamp of the clock, in
+-- its words
 pub data Told : Type 0 where
   took : (seq method : ℕ) → Told
   sent : (seq : ℕ) → Told
@@ -17,7 +18,7 @@ pub record Happening : Type 0 where
   pub conn : ℕ
   pub what : Told
 
--- what stands before the first space, and what behind it
+-- the part before the first space, and the part after it
 abbrev pub cut_front : List (List ℕ) → Option (List ℕ × List ℕ)
 cut_front (word ∷ next ∷ more) = Some (word, join_with_byte 32 (next ∷ more))
 cut_front _ = None
@@ -29,21 +30,21 @@ front_of words = cut_front (slice_split (λ c. c == 32) words)
 abbrev pub small : ℕ → Option ℕ
 small n = if nat_lt n (2 ^ 64) then Some n else None
 
--- the number that the first of several words spells, and what stands behind it
+-- the number that the first of several words spells, and what follows it
 abbrev pub spelled : List ℕ × List ℕ → Option (ℕ × List ℕ)
 spelled p = option_map (λ n. (n, p.1)) (option_and_then small (number_of p.0))
 
 abbrev pub number_front : List ℕ → Option (ℕ × List ℕ)
 number_front words = option_and_then spelled (front_of words)
 
--- what a word tells of a call, with what stands behind the call's number
+-- the event for a word, a call's number, and what follows that number
 abbrev pub told_call : (word : List ℕ) (seq : ℕ) (behind : List ℕ) → Option Told
 told_call word seq behind =
     if bytes_eq word (codes "took") then option_map (λ p. took seq p.0) (number_front behind)
     else (if bytes_eq word (codes "sent") then Some (sent seq)
     else (if bytes_eq word (codes "refused") then Some (refused seq behind) else None))
 
--- what a word tells of a connection, with what stands behind the connection's number
+-- the event for a word, and what follows a connection's number
 abbrev pub told : (word words : List ℕ) → Option Told
 told word words =
     if bytes_eq word (codes "op") then Some (step words)
@@ -53,10 +54,10 @@ told word words =
 abbrev pub told_of : (word : List ℕ) → ℕ × List ℕ → Option Happening
 told_of word p = option_map (λ w. record { conn = p.0; what = w }) (told word p.1)
 
--- what a line tells, if it begins with such a word and a connection's number
+-- the event of a line, if it starts with such a word and a connection's number
 abbrev pub happening_of : List ℕ → Option Happening
 happening_of line = option_and_then (λ p. option_and_then (told_of p.0) (number_front p.1)) (front_of line)
 
--- what the lines of a text tell, in their order
+-- the events of a text's lines, in order
 abbrev pub happenings_of : List ℕ → List Happening
 happenings_of text = filter_map happening_of (whole_lines text)

@@ -1,4 +1,4 @@
--- What the text of a drawing is made of.
+-- The pieces that a drawing's text is made of.
 use Rattle.std.specs.Prelude.{ℕ, ◌==◌, List, [], ◌∷◌, codes, take, if◌then◌else◌}
 use Rattle.std.specs.List.{AllByRecursion, flat_map}
 use Rattle.std.specs.Fmt.{decimal}
@@ -11,7 +11,7 @@ pub data Piece : Type 0 where
   number : (n : ℕ) → Piece
   quote : (words : List ℕ) → Piece
 
--- a byte of the input: marks of the drawing are escaped, and what a terminal doesn't show is `?`
+-- a byte of the input: markup characters are escaped, and what a terminal doesn't print is `?`
 abbrev pub quoted_byte : ℕ → List ℕ
 quoted_byte byte =
     if byte == 38 then codes "&amp;"
@@ -28,15 +28,15 @@ written (text bytes) = bytes
 written (number n) = decimal n
 written (quote words) = quoted words
 
--- the pieces, one behind another
+-- the pieces in order
 unfoldable pub svg : List Piece → List ℕ
 svg pieces = flat_map written pieces
 
--- the code's own: what stands as it is, is plain
+-- the code's own: a piece that is copied as it is, is plain
 abbrev pub IsPlainPiece : Piece → Type 0
 IsPlainPiece (text bytes) = IsPlain bytes
 IsPlainPiece _ = Unit {0}
 
--- the code's own: each is so
+-- the code's own: each piece is plain
 abbrev pub ArePlain : List Piece → Type 0
 ArePlain pieces = AllByRecursion IsPlainPiece pieces

@@ -1,4 +1,4 @@
--- Bytes that a terminal shows, and an SVG may have.
+-- Bytes that a terminal prints, and an SVG may have.
 use Rattle.std.specs.Prelude.{◌≡◌, ◌==◌, ◌&&◌, ◌||◌, nat_le, nat_lt, ℕ, Bool, true, List}
 use Rattle.std.specs.List.{list_all}
 

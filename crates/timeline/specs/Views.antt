@@ -1,4 +1,4 @@
--- The code's own: what the parts of a drawing are as data, as the code has them.
+-- The code's own: the parts of a drawing as data, from the code's types.
 use Rattle.std.specs.Prelude.{List, map}
 use Rattle.timeline.specs.Lines.{Told, took, sent, refused, step, moment, Happening}
 use Rattle.timeline.specs.Rows.{Mark, Fate, was_sent, was_refused, stands, End, Bar, Row}
@@ -25,7 +25,7 @@ told_by (Moment words) = moment words.now
 abbrev pub happening : Event → Happening
 happening e = record { conn = e.conn; what = told_by e.what }
 
--- what was told, in order
+-- the events, in order
 abbrev pub all_told : List Event → List Told
 all_told es = map (λ e. told_by e.what) es
 

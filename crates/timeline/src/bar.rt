@@ -13,7 +13,7 @@ use mrpc_table::Memory;
 use std::alloc::Global;
 use std::collections::BTreeMap;
 
-// The calls of a row's happenings, in the order in which they were taken.
+// The calls of a row's events, in the order in which they were accepted.
 pub(crate) fn bars_of<'a>(alloc: Global, events: &[Event<'a>]) -> Result<Vec<Bar<'a>>, Memory>
     requires { length events.now ≤ MAX_TEXT }
     ensures bars { IfOk result (λ bs. map bar bs.items ≡ bars_from 0 (all_told events.now)) }
@@ -23,7 +23,7 @@ pub(crate) fn bars_of<'a>(alloc: Global, events: &[Event<'a>]) -> Result<Vec<Bar
     let mut ends = BTreeMap::new(alloc);
     let mut bars = Vec::new(alloc);
     let mut at = events.len();
-    // From the last happening back, so that the end of each call is known where it is taken.
+    // Goes from the last event back, so that the end of each call is known when its acceptance is reached.
     while at > 0 {
         at -= 1;
         step_back(last, at as u64, events[at].what, &mut ends, &mut bars)?;
@@ -32,7 +32,7 @@ pub(crate) fn bars_of<'a>(alloc: Global, events: &[Event<'a>]) -> Result<Vec<Bar
     Ok(bars)
 }
 
-// Takes what happened at a place, where the ends behind it are known, and the calls that were taken there, the last first.
+// Takes the event at an index, given the ends after it and the calls accepted after it, the last first.
 fn step_back<'a>(
     last: u64,
     at: u64,
@@ -59,7 +59,7 @@ fn step_back<'a>(
     }
 }
 
-// A call is taken.
+// A call is accepted.
 fn push_bar<'a>(
     bars: &mut Vec<Bar<'a>>,
     seq: u64,
@@ -81,7 +81,7 @@ fn push_bar<'a>(
     Ok(())
 }
 
-// Where a call ends, by the ends behind; if there is none, it stands up to the end of the row.
+// The end of a call, from the ends after it; if it has none, it is pending up to the end of the row.
 fn end_of<'a>(ends: &BTreeMap<u64, End<'a>>, seq: u64, last: u64) -> End<'a>
     requires { last ≤ MAX_TEXT }
     ensures { end_of result ≡ end_in last ends.now.entries seq }

@@ -14,7 +14,7 @@ use crate::shape::{put_bar, put_mark, x_of, y_of};
 use mrpc_table::{Bytes, Memory};
 use std::alloc::Global;
 
-// Draws rows, each below the one before it.
+// Draws rows, each below the previous one.
 pub(crate) fn draw(alloc: Global, rows: &[Row<'_>]) -> Result<Bytes, Memory>
     requires { length rows.now ≤ MAX_TEXT }
     ensures drawn { IfOk result (λ svg. svg ≡ drawing (map row_view rows.now)) }
@@ -29,7 +29,7 @@ pub(crate) fn draw(alloc: Global, rows: &[Row<'_>]) -> Result<Bytes, Memory>
     Ok(picture.into_bytes())
 }
 
-// How high a row is, with some space below its last bar.
+// The height of a row, with some space below its last bar.
 fn height_of(row: &Row<'_>) -> u64
     ensures height { result ≡ height_of (row_view row.now) }
     ensures small { result < 2 ^ 30 }
@@ -59,8 +59,8 @@ fn longest(rows: &[Row<'_>]) -> u64
     length
 }
 
-// The first lines of the drawing: a sent call is green, a refused one red, and one that stands has no filling; a step is
-// blue, and a moment gray.
+// The first lines of the drawing: a sent call is green, a refused one red, and a pending one has no filling;
+// an operation is blue, and a timestamp gray.
 #[tactic(auto, unfolding(crate::specs::Drawing::front_text))]
 fn put_front(picture: &mut Picture, width: u64, height: u64) -> Result<(), Memory>
     ensures { OnOk result (picture.new ≡ picture.old ++ front_text width height) }

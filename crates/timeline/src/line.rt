@@ -1,4 +1,4 @@
-//! What lines tell of connections.
+//! The events in lines.
 
 ghost use Rattle.std.specs.Prelude.{◌≡◌, ◌≤◌, ◌+◌, ◌++◌, List, None, Some, IfOk, MatchOption, OnOk, length, map, option_map, vec_len};
 ghost use Rattle.std.specs.List.{cons_option};
@@ -8,29 +8,29 @@ ghost use Rattle.timeline.specs.Views.{happening, told_by};
 use mrpc_table::{Decimal, Memory, cut, is_word, number_of};
 use std::alloc::Global;
 
-// What a line tells of a connection.
+// The event of a connection that a line has.
 #[derive(Clone, Copy)]
 pub(crate) struct Event<'a> {
     pub conn: u64,
     pub what: What<'a>,
 }
 
-// What happened.
+// The kind of an event.
 #[derive(Clone, Copy)]
 pub(crate) enum What<'a> {
-    // A call was taken.
+    // A call was accepted.
     Took { seq: u64, method: u64 },
     // A call was sent.
     Sent { seq: u64 },
     // A call was refused, for this cause.
     Refused { seq: u64, cause: &'a [u8] },
-    // An operator's step, in its words.
+    // An operator's operation, in its words.
     Step { words: &'a [u8] },
-    // A moment of the clock, in its words.
+    // A timestamp of the clock, in its words.
     Moment { words: &'a [u8] },
 }
 
-// What the lines of a text tell, in their order.
+// The events of a text's lines, in order.
 pub(crate) fn events_of(alloc: Global, text: &[u8]) -> Result<Vec<Event<'_>>, Memory>
     ensures told { IfOk result (λ es. map happening es.items ≡ happenings_of text.now) }
     ensures few { IfOk result (λ es. vec_len es ≤ length text.now) }
@@ -44,7 +44,7 @@ pub(crate) fn events_of(alloc: Global, text: &[u8]) -> Result<Vec<Event<'_>>, Me
     Ok(events)
 }
 
-// Adds what a line tells, if it does.
+// Adds the event of a line, if it has one.
 fn add_line<'a>(events: &mut Vec<Event<'a>>, line: &'a [u8]) -> Result<(), Memory>
     ensures told { (more : List Happening) → OnOk result (map happening events.new.items ++ more
         ≡ map happening events.old.items ++ cons_option (happening_of line.now) more) }
@@ -56,7 +56,7 @@ fn add_line<'a>(events: &mut Vec<Event<'a>>, line: &'a [u8]) -> Result<(), Memor
     Ok(())
 }
 
-// What a line tells; None where it tells nothing that is drawn.
+// The event of a line; `None` if it has none that is drawn.
 fn event_of(line: &[u8]) -> Option<Event<'_>>
     ensures { option_map happening result ≡ happening_of line.now }
 {
@@ -66,7 +66,7 @@ fn event_of(line: &[u8]) -> Option<Event<'_>>
     Some(Event { conn, what })
 }
 
-// What stands behind a line's word and its connection.
+// The event, given a line's word and what follows its connection.
 fn what_of<'a>(word: &[u8], words: &'a [u8]) -> Option<What<'a>>
     ensures { option_map told_by result ≡ told word.now words.now }
 {
@@ -80,7 +80,7 @@ fn what_of<'a>(word: &[u8], words: &'a [u8]) -> Option<What<'a>>
     }
 }
 
-// What stands behind a line's word, its connection and the number of its call.
+// The event, given a line's word, the number of its call, and what follows that.
 fn of_call<'a>(word: &[u8], seq: u64, words: &'a [u8]) -> Option<What<'a>>
     ensures { option_map told_by result ≡ told_call word.now seq words.now }
 {
@@ -96,7 +96,7 @@ fn of_call<'a>(word: &[u8], seq: u64, words: &'a [u8]) -> Option<What<'a>>
     }
 }
 
-// The number that the first of several words spells, and what stands behind it.
+// The number that the first of several words spells, and what follows that word.
 fn number_front(words: &[u8]) -> Option<(u64, &[u8])>
     ensures { MatchOption result (number_front words.now ≡ None) (λ p. number_front words.now ≡ Some (p.0, p.1.now)) }
 {
@@ -107,7 +107,7 @@ fn number_front(words: &[u8]) -> Option<(u64, &[u8])>
     }
 }
 
-// The first of several words, and what stands behind it.
+// The first of several words, and what follows it.
 fn front_of(words: &[u8]) -> Option<(&[u8], &[u8])>
     ensures { MatchOption result (front_of words.now ≡ None) (λ p. front_of words.now ≡ Some (p.0.now, p.1.now)) }
 {

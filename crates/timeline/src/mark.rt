@@ -1,4 +1,4 @@
-//! What stands across a row.
+//! The lines across a row.
 
 ghost use Rattle.std.specs.Prelude.{◌≡◌, ◌≤◌, ◌++◌, List, IfOk, OnOk, length, map, option_map};
 ghost use Rattle.std.specs.List.{cons_option};
@@ -11,7 +11,7 @@ use crate::part::Mark;
 use mrpc_table::Memory;
 use std::alloc::Global;
 
-// The marks of a row's happenings, in order.
+// The ticks of a row's events, in order.
 pub(crate) fn marks_of<'a>(alloc: Global, events: &[Event<'a>]) -> Result<Vec<Mark<'a>>, Memory>
     requires { length events.now ≤ MAX_TEXT }
     ensures { IfOk result (λ ms. map mark ms.items ≡ marks_from 0 (all_told events.now)) }
@@ -25,7 +25,7 @@ pub(crate) fn marks_of<'a>(alloc: Global, events: &[Event<'a>]) -> Result<Vec<Ma
     Ok(marks)
 }
 
-// Adds the mark of what happened behind so many others, if it has one.
+// Adds the tick of the event with this index, if it has one.
 fn add_mark<'a>(marks: &mut Vec<Mark<'a>>, at: u64, what: What<'a>) -> Result<(), Memory>
     requires { at ≤ MAX_TEXT }
     ensures { (more : List MarkView) → OnOk result (map mark marks.new.items ++ more
@@ -37,7 +37,7 @@ fn add_mark<'a>(marks: &mut Vec<Mark<'a>>, at: u64, what: What<'a>) -> Result<()
     Ok(())
 }
 
-// The mark of what happened behind so many others.
+// The tick of the event with this index.
 fn mark_of(at: u64, what: What<'_>) -> Option<Mark<'_>>
     requires { at ≤ MAX_TEXT }
     ensures { option_map mark result ≡ mark_at at (told_by what.entry) }

@@ -1,4 +1,4 @@
-//! The parts of a row. All places are numbers of happenings before.
+//! The parts of a row. All positions are indices of events.
 
 ghost use Rattle.std.specs.Prelude.{◌≤◌, vec_len};
 ghost use Rattle.timeline.specs.declared.limits.TheConstants.{MAX_TEXT};
@@ -8,7 +8,7 @@ ghost use Rattle.timeline.specs.declared.limits.TheConstants.{MAX_TEXT};
 pub(crate) struct Mark<'a> {
     pub at: u64,
     pub words: &'a [u8],
-    // A step of an operator, and no moment.
+    // An operation of an operator, not a timestamp.
     pub is_step: bool,
     ghost near: { at ≤ MAX_TEXT },
 }
@@ -18,13 +18,13 @@ pub(crate) struct Mark<'a> {
 pub(crate) struct Bar<'a> {
     pub seq: u64,
     pub method: u64,
-    // Where it was taken.
+    // Where it was accepted.
     pub from: u64,
     pub end: End<'a>,
     ghost near: { from ≤ MAX_TEXT },
 }
 
-// Where a call ends, and how.
+// The end of a call, and its outcome.
 #[derive(Clone, Copy)]
 pub(crate) struct End<'a> {
     pub to: u64,
@@ -32,7 +32,7 @@ pub(crate) struct End<'a> {
     ghost near: { to ≤ MAX_TEXT },
 }
 
-// What became of a call.
+// The outcome of a call.
 #[derive(Clone, Copy)]
 pub(crate) enum Fate<'a> {
     Sent,
@@ -44,10 +44,10 @@ pub(crate) enum Fate<'a> {
 #[derive(Drop)]
 pub(crate) struct Row<'a> {
     pub conn: u64,
-    // How many happenings there were.
+    // The number of events.
     pub happenings: u64,
     pub marks: Vec<Mark<'a>>,
-    // The calls, in the order in which they were taken.
+    // The calls, in the order in which they were accepted.
     pub bars: Vec<Bar<'a>>,
     ghost near: { happenings ≤ MAX_TEXT },
     ghost few: { vec_len bars ≤ MAX_TEXT },

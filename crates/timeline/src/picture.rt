@@ -1,4 +1,4 @@
-//! The text of an SVG, which is plain whatever is quoted in it.
+//! The text of an SVG, which is plain ASCII whatever it quotes.
 
 ghost use Rattle.std.specs.Prelude.{◌≡◌, ◌++◌, [], OnOk, map};
 ghost use Rattle.std.specs.Fmt.{decimal};
@@ -13,7 +13,7 @@ use mrpc_table::{Bytes, Memory};
 use std::alloc::Global;
 use std::marker::Model;
 
-// Bytes that a terminal shows. Clauses see a list of bytes.
+// Bytes that a terminal prints. Clauses see a list of bytes.
 #[derive(Drop)]
 pub(crate) struct Picture {
     bytes: Bytes,
@@ -31,7 +31,7 @@ impl Model for Picture {
 }
 
 impl Picture {
-    // Nothing is drawn yet.
+    // An empty picture.
     pub(crate) fn new(alloc: Global) -> Picture
         ensures { result ≡ [] }
     {
@@ -48,7 +48,7 @@ impl Picture {
         self.bytes
     }
 
-    // Appends pieces, one behind another.
+    // Appends pieces in order.
     #[tactic(auto, unfolding(crate::specs::Pieces::svg))]
     pub(crate) fn put(&mut self, pieces: &[Piece<'_>]) -> Result<(), Memory>
         requires { ArePlain (map piece_view pieces.now) }
@@ -122,7 +122,7 @@ impl Picture {
     }
 }
 
-// Whether a terminal shows a byte.
+// Whether a terminal prints a byte.
 fn is_plain(byte: u8) -> bool
     ensures { result ≡ is_plain byte }
 {

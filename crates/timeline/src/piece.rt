@@ -1,11 +1,11 @@
-//! What the text of a drawing is made of.
+//! The pieces that a drawing's text is made of.
 
 // A piece of the text.
 #[derive(Clone, Copy)]
 pub(crate) enum Piece<'a> {
-    // What belongs to the drawing itself.
+    // The drawing's own text.
     Text(&'a [u8]),
     Number(u64),
-    // Words of the input, in which marks of the drawing are escaped. Long ones are cut.
+    // Words of the input, with the markup characters escaped. Long ones are truncated.
     Quote(&'a [u8]),
 }

@@ -14,7 +14,7 @@ use crate::part::Row;
 use mrpc_table::Memory;
 use std::alloc::Global;
 
-// The rows of what happened, by ascending connection.
+// The rows of events, by ascending connection.
 pub(crate) fn rows_of<'a>(alloc: Global, events: Vec<Event<'a>>) -> Result<Vec<Row<'a>>, Memory>
     requires { vec_len events ≤ MAX_TEXT }
     ensures rows { IfOk result (λ rs. AreRows (map happening events.entry.items) (map row rs.items)) }
@@ -25,7 +25,7 @@ pub(crate) fn rows_of<'a>(alloc: Global, events: Vec<Event<'a>>) -> Result<Vec<R
     rows_in(alloc, &sorted)
 }
 
-// The rows of what happened, which is given by ascending connection.
+// The rows of events that are given by ascending connection.
 fn rows_in<'a>(alloc: Global, events: &[Event<'a>]) -> Result<Vec<Row<'a>>, Memory>
     requires short { length events.now ≤ MAX_TEXT }
     requires sorted { IsNonDecreasingBy (λ e. e.conn) events.now }
@@ -43,7 +43,7 @@ fn rows_in<'a>(alloc: Global, events: &[Event<'a>]) -> Result<Vec<Row<'a>>, Memo
     Ok(rows)
 }
 
-// The connection of the happening at a place.
+// The connection of the event at an index.
 fn conn_at(events: &[Event<'_>], at: usize) -> u64
     requires { at < length events.now }
     ensures { (d : Event) → (slice_index_or events.now at d).conn ≡ result }
@@ -51,7 +51,7 @@ fn conn_at(events: &[Event<'_>], at: usize) -> u64
     events[at].conn
 }
 
-// The place behind the happenings of a connection from a place on.
+// The index after a connection's events that start at an index.
 fn end_of(events: &[Event<'_>], at: usize, conn: u64) -> usize
     requires there { at < length events.now }
     requires conn { (d : Event) → (slice_index_or events.now at d).conn ≡ conn }
@@ -67,7 +67,7 @@ fn end_of(events: &[Event<'_>], at: usize, conn: u64) -> usize
     end
 }
 
-// The row of a connection's happenings.
+// The row of a connection's events.
 fn row_of<'a>(alloc: Global, conn: u64, events: &[Event<'a>]) -> Result<Row<'a>, Memory>
     requires { length events.now ≤ MAX_TEXT }
     ensures { IfOk result (λ r. row r ≡ row_of conn (all_told events.now)) }

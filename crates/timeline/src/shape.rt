@@ -12,7 +12,7 @@ use crate::picture::Picture;
 use crate::piece::Piece::{Number, Quote, Text};
 use mrpc_table::Memory;
 
-// Where a place in a row stands.
+// The horizontal offset of an event in a row.
 pub(crate) fn x_of(at: u64) -> u64
     requires { at ≤ MAX_TEXT }
     ensures { result ≡ x_of at }
@@ -20,7 +20,7 @@ pub(crate) fn x_of(at: u64) -> u64
     LEFT + at * STEP
 }
 
-// Where a bar stands in a row.
+// The vertical offset of a bar in a row.
 pub(crate) fn y_of(lane: u64) -> u64
     requires { lane ≤ MAX_TEXT + 1 }
     ensures { result ≡ y_of lane }
@@ -28,14 +28,14 @@ pub(crate) fn y_of(lane: u64) -> u64
     ABOVE + lane * LANE
 }
 
-// Where the words of a mark stand.
+// The vertical offset of the words of a tick.
 fn label_y(label: u64) -> u64
     ensures { result ≡ label_y label }
 {
     LABEL + label % LABELS * LABEL
 }
 
-// Draws what stands across a row, down to its end.
+// Draws a line across a row, down to its end.
 #[tactic(auto, unfolding(crate::specs::Drawing::mark_text))]
 pub(crate) fn put_mark(
     picture: &mut Picture,
@@ -86,7 +86,7 @@ fn unit_of(is_step: bool) -> &'static [u8]
     if is_step { b"" } else { b" ms" }
 }
 
-// Draws a call, with its number, and the cause behind it where it was refused.
+// Draws a call with its number, and the cause after it if it was refused.
 pub(crate) fn put_bar(picture: &mut Picture, lane: u64, bar: &Bar<'_>) -> Result<(), Memory>
     requires { lane ≤ MAX_TEXT }
     ensures { OnOk result (picture.new ≡ picture.old ++ bar_text lane (bar_view bar.now)) }
@@ -139,7 +139,7 @@ fn fate_word(fate: &Fate<'_>) -> &'static [u8]
     }
 }
 
-// The cause behind a call that was refused.
+// The cause after a call that was refused.
 #[tactic(auto, unfolding(crate::specs::Drawing::cause_text))]
 fn put_cause(picture: &mut Picture, x: u64, y: u64, fate: &Fate<'_>) -> Result<(), Memory>
     requires x { x < 2 ^ 32 }

@@ -1,4 +1,4 @@
-//! The drawing of what a text tells.
+//! The drawing of a text's events.
 
 ghost use Rattle.std.specs.Prelude.{◌≡◌, ◌≤◌, List, length, IfOk};
 ghost use Rattle.timeline.specs.Drawing.{drawing};
@@ -13,7 +13,7 @@ use crate::row::rows_of;
 use mrpc_table::{Bytes, Memory};
 use std::alloc::Global;
 
-/// The drawing of what a text tells: its rows, written as an SVG. The only error is `Memory`.
+/// The drawing of a text's events: its rows, written as an SVG. The only error is `Memory`.
 pub fn timeline_of(alloc: Global, text: &[u8]) -> Result<Bytes, Memory>
     requires { length text.now ≤ MAX_TEXT }
     ensures drawn { IfOk result (λ svg. (rows : List Row) × AreRows (happenings_of text.now) rows

@@ -1,28 +1,28 @@
-//! Where a text of a list stands.
+//! The span of a text in a list.
 
 ghost use Rattle.std.specs.Prelude.{IfSome};
 ghost use Rattle.toml_places.specs.Places.{IsWithin};
 
 use crate::span::Span;
 
-// Where a scan of a list is.
+// The state of a scan of a list.
 #[derive(Clone, Copy)]
 enum Scan {
-    // In front of the list.
+    // Before the list.
     Before,
     // Between two of its texts.
     Between,
     Comment,
-    // In a text that began at a place.
+    // In a basic text that starts at this offset.
     Basic(usize),
-    // Behind the backslash of such a text.
+    // After the backslash of such a text.
     Escaped(usize),
-    // In a text in single quotation marks that began at a place.
+    // In a literal text, in single quotation marks, that starts at this offset.
     Literal(usize),
 }
 
-// Where the text of a number stands, from 1, in the list that begins behind a place; none where the list has fewer. One
-// that is spelled over lines counts as several.
+// The span of the text with a number, from 1, in the list that starts after an offset; `None` if the list has
+// fewer texts. A text that is spelled over several lines counts as several.
 pub(crate) fn item_of(text: &[u8], from: usize, number: u64) -> Option<Span>
     ensures { IfSome result (IsWithin text.now) }
 {
@@ -46,7 +46,7 @@ pub(crate) fn item_of(text: &[u8], from: usize, number: u64) -> Option<Span>
     None
 }
 
-// Where the text began that a byte ends, if it ends one.
+// The offset at which the text starts that this byte ends, if it ends one.
 fn ends(scan: Scan, byte: u8) -> Option<usize> {
     match scan {
         Scan::Basic(start) if byte == b'"' => Some(start),
@@ -55,7 +55,7 @@ fn ends(scan: Scan, byte: u8) -> Option<usize> {
     }
 }
 
-// Where the scan is behind a byte at a place that ends no text; none where the list ends.
+// The state after a byte that ends no text; `None` if the list ends.
 fn next(scan: Scan, byte: u8, at: usize) -> Option<Scan> {
     match scan {
         Scan::Before => Some(if byte == b'[' {
@@ -75,7 +75,7 @@ fn next(scan: Scan, byte: u8, at: usize) -> Option<Scan> {
     }
 }
 
-// Where the scan is behind a byte between two texts.
+// The state after a byte between two texts.
 fn between(byte: u8, at: usize) -> Option<Scan> {
     match byte {
         b'"' => Some(Scan::Basic(at)),

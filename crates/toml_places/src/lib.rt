@@ -1,9 +1,10 @@
-//! Where an entry of a list of tables stands in a TOML text, and its keys, and the texts of a list at one of them.
+//! Finds in a TOML text the spans of an entry of a list of tables, of its keys, and of the texts in a list at
+//! one of them.
 //!
-//! The kit's `toml` doesn't tell where a value stood. So a line is looked for that can be the one, and it is tried: the
-//! text up to there has to be TOML that says as much. What is spelled in another way isn't found, as an entry of a list in
-//! brackets, for which the line of its list is found. The crate stands on the kit's `toml` and on `scenario_values`. The
-//! layer above uses one contract: a place lies within the text.
+//! The kit's `toml` doesn't report where a value is. So this crate looks for a line that may be the one, and
+//! checks it: the text up to there must parse as TOML with as many entries. Other spellings aren't found; for
+//! an entry of a list in brackets, for example, it finds the line of the list. The crate uses the kit's
+//! `toml` and `scenario_values`. Its one contract for the layer above: a span lies within the text.
 #![tactic(auto)]
 
 mod item;

@@ -1,4 +1,5 @@
-//! Where what is looked for stands. What is found is tried: the text up to there has to say as much.
+//! Looks for the span of a key, an entry or a text. Each candidate is checked: the text up to there must have
+//! as many entries or texts.
 
 ghost use Rattle.std.specs.Prelude.{IfOk, IfSome};
 ghost use Rattle.toml_places.specs.Places.{IsWithin};
@@ -9,21 +10,21 @@ use crate::span::{Span, line_from};
 use mrpc_table::{Bytes, Memory};
 use std::alloc::Global;
 
-/// What is looked for in a text.
+/// What to look for in a text.
 #[derive(Clone, Copy)]
 pub struct Sought<'a> {
-    /// The key of a list of tables; the empty one where it is the whole.
+    /// The key of a list of tables; empty for the whole text.
     pub list: &'a str,
-    /// The number of an entry of it, from 1; 0 of the whole.
+    /// The number of an entry of the list, from 1; 0 for the whole text.
     pub number: u64,
-    /// A key of the entry; the empty one where it is the entry itself.
+    /// A key of the entry; empty for the entry itself.
     pub key: &'a str,
-    /// The number of a text in the list at the key, from 1; 0 where it is the key's whole line.
+    /// The number of a text in the list at the key, from 1; 0 for the key's whole line.
     pub item: u64,
 }
 
-/// Where it stands: the text of the list, or else the line of the key, or else the line `[[LIST]]` of the entry, or else
-/// the line of the list; none where none of these is found. It takes time in proportion to the text.
+/// Returns the first of these that is found: the text of the list, the line of the key, the line `[[LIST]]`
+/// of the entry, the line of the list. `None` if none is found. Takes time linear in the text.
 pub fn place_of(alloc: Global, text: &[u8], sought: Sought<'_>) -> Result<Option<Span>, Memory>
     ensures { IfOk result (λ place. IfSome place (IsWithin text.now)) }
 {
@@ -48,7 +49,7 @@ pub fn place_of(alloc: Global, text: &[u8], sought: Sought<'_>) -> Result<Option
     }
 }
 
-// Where a text of the list stands that is assigned at a place.
+// The span of a text of the list that is assigned at an offset.
 fn item_place(
     alloc: Global,
     text: &[u8],
@@ -69,7 +70,7 @@ fn item_place(
     Ok(if is_item { Some(place) } else { None })
 }
 
-// Where the line `[[LIST]]` of an entry stands.
+// The span of the line `[[LIST]]` of an entry.
 fn head_place(alloc: Global, text: &[u8], sought: Sought<'_>) -> Result<Option<Span>, Memory>
     ensures { IfOk result (λ place. IfSome place (IsWithin text.now)) }
 {
@@ -86,7 +87,7 @@ fn head_place(alloc: Global, text: &[u8], sought: Sought<'_>) -> Result<Option<S
     Ok(if is_head { Some(place) } else { None })
 }
 
-// The line of a number among those that begin with some bytes, behind blanks.
+// The line with this number among the lines that start with `head`, after blanks.
 fn head_of(text: &[u8], head: &[u8], number: u64) -> Option<Span>
     ensures { IfSome result (IsWithin text.now) }
 {
@@ -104,7 +105,7 @@ fn head_of(text: &[u8], head: &[u8], number: u64) -> Option<Span>
     None
 }
 
-// Where the line of a key stands behind a place and before the next table, if it is one of the entry's.
+// The span of the key's line after an offset and before the next table, if the key is one of the entry's.
 fn key_place(
     alloc: Global,
     text: &[u8],
@@ -123,7 +124,8 @@ fn key_place(
     Ok(if is_key { Some(place) } else { None })
 }
 
-// The first line behind a place that begins with a key and `=`, before one that begins with a table.
+// The first line after an offset that starts with the key and `=`, and is before the next line that starts a
+// table.
 fn key_of(text: &[u8], from: usize, key: &[u8]) -> Option<Span>
     ensures { IfSome result (IsWithin text.now) }
 {
@@ -140,7 +142,7 @@ fn key_of(text: &[u8], from: usize, key: &[u8]) -> Option<Span>
     None
 }
 
-// Whether only blanks of a line stand in front of the place behind a byte.
+// Whether only blanks of the line precede the offset after this byte.
 fn stays_begin(begins: bool, byte: u8) -> bool {
     byte == b'\n' || (begins && is_blank(byte))
 }
@@ -149,7 +151,7 @@ fn is_blank(byte: u8) -> bool {
     byte == b' ' || byte == b'\t'
 }
 
-// Whether a text begins with a key and `=`.
+// Whether a text starts with the key and `=`.
 fn assigns(text: &[u8], key: &[u8]) -> bool {
     match text.strip_prefix(key) {
         None => false,

@@ -1,4 +1,4 @@
-//! What the beginning of a text says as TOML.
+//! Checks what a prefix of a text means as TOML.
 
 use crate::place::Sought;
 use mrpc_table::Memory;
@@ -6,7 +6,7 @@ use scenario_values::{tables_at, texts_at};
 use std::alloc::Global;
 use toml::{Table, table_from_slice};
 
-// Whether a text is TOML with so many entries in the list of an entry.
+// Whether a text is TOML with this number of entries in the entry's list.
 pub(crate) fn has_entries(
     alloc: Global,
     text: &[u8],
@@ -22,7 +22,8 @@ pub(crate) fn has_entries(
     }
 }
 
-// Whether a text is TOML whose last entry in the list of an entry has as many texts at its key as are looked for.
+// Whether a text is TOML, and the last entry of the entry's list has as many texts at its key as are looked
+// for.
 pub(crate) fn has_texts(alloc: Global, text: &[u8], sought: Sought<'_>) -> Result<bool, Memory> {
     let Some(all) = table_in(alloc, text)? else {
         return Ok(false);
@@ -37,7 +38,7 @@ pub(crate) fn has_texts(alloc: Global, text: &[u8], sought: Sought<'_>) -> Resul
     }
 }
 
-// The table of a text; none where it is no TOML.
+// The table of a text; `None` if it isn't TOML.
 fn table_in(alloc: Global, text: &[u8]) -> Result<Option<Table>, Memory> {
     match table_from_slice(alloc, text) {
         Ok(all) => Ok(Some(all)),

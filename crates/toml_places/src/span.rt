@@ -3,14 +3,14 @@
 ghost use Rattle.std.specs.Prelude.{◌≡◌, ◌≤◌, length};
 ghost use Rattle.toml_places.specs.Places.{IsWithin};
 
-/// A part of a text, from its first byte up to the one behind its last.
+/// A part of a text, from its first byte up to the offset after its last.
 #[derive(Clone, Copy)]
 pub struct Span {
     pub start: usize,
     pub end: usize,
 }
 
-// From a place to the end of its line.
+// The part from an offset to the end of its line.
 pub(crate) fn line_from(text: &[u8], start: usize) -> Span
     requires { start ≤ length text.now }
     ensures { IsWithin text.now result }

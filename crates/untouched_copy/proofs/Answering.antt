@@ -1,4 +1,4 @@
--- An answer of which a law determines what its loads come to.
+-- A result of a copy whose loads have an outcome that a law determines.
 use Rattle.std.proofs.Common.{◌≡◌, ℕ, ◌≤◌, List, length, Result, Ok, Err, IfOk, refl, ap}
 use Rattle.mrpc_table.specs.declared.memory.Memory.{Memory}
 use Rattle.mrpc_table.specs.declared.table.Table.{Table}

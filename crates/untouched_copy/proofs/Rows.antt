@@ -1,4 +1,4 @@
--- A small graph that is stored to no more, and one that is.
+-- A small graph that is no longer modified, and one that is.
 use Rattle.std.proofs.Common.{◌≡◌, ℕ, List, [], ◌∷◌, ◌++◌, take, drop, refl, arith}
 use Rattle.std.proofs.lemmas.List.Elements.{All-from_recursion, recursion_from_All}
 use Rattle.mrpc_base.specs.Heap.{word_after}
@@ -14,7 +14,7 @@ testing = first (word 2 7 (first (word 3 4 (first (word 4 0x676e6974736574 nothi
 abbrev stored : List (ℕ × ℕ)
 stored = (2, 7) ∷ (3, 4) ∷ (4, 0x676e6974736574) ∷ (1, 0) ∷ (5, 9) ∷ []
 
--- a word's value is what so many of some stores made of its place, and no store of some goes to it
+-- a word has the value of its place after the first `after` of some stores; and no store of some goes to its place
 abbrev Made : ℕ → List (ℕ × ℕ) → ℕ × ℕ → Type 0
 Made after stores load = load.1 ≡ word_after (take after stores) load.0
 
@@ -54,7 +54,7 @@ touched s =
     let none = recursion_from_All (Apart 2) (drop 3 stored_again) each.0 in
     none.1.1.0 refl
 
--- its address isn't stored yet after one store
+-- after one store its address isn't stored yet
 early : StandsUntouched stored 1 testing → ⊥
 unfolding word_after
 early s =

@@ -1,4 +1,4 @@
--- What a reader's loads say of words to which nobody stores.
+-- What a reader's loads mean for words that nobody stores.
 use Rattle.std.proofs.Common.{◌≡◌, ℕ, zero, suc, ◌+◌, ◌-◌, ◌≤◌, if◌then◌else◌, ◌==◌, true, false, Bool, refl, sym, ap}
 use Rattle.std.proofs.Common.{List, [], ◌∷◌, ◌++◌, length, take, drop, subst, ◌∙◌, arith}
 use Rattle.std.proofs.Common.{append_assoc, append-nil, length-append}
@@ -14,7 +14,7 @@ use Rattle.untouched_copy.specs.Untouched.{StandsUntouched}
 abbrev pub Words : Type 0
 Words = List (ℕ × ℕ)
 
--- ---- what a reader knows goes on
+-- ---- what a reader knows is extended
 
 begins-further : (a b c : Words) → BeginsWith a b → BeginsWith b c → BeginsWith a c
 begins-further a b c h g = (g.0 ++ h.0, h.1 ∙ ap (λ z. z ++ h.0) g.1 ∙ append_assoc c g.0 h.0)
@@ -32,7 +32,7 @@ goes-on old new (load ∷ own) h =
     let rest = goes-on h.0 new own h.2 in
     record { known = begins-further new.known h.0.known old.known rest.known h.1.grows; heap = rest.heap ∙ h.1.heap }
 
--- ---- a load of a place to which no store goes past so many gives what these made of it
+-- ---- a load of a place to which no store after the first ones goes gives the value that those made
 
 module _ (all : Words) (after : ℕ) where
   abbrev made : ℕ → ℕ
@@ -54,7 +54,7 @@ module _ (all : Words) (after : ℕ) where
       let within' : after ≤ length h.0.known = omega (arith, within, length-begun h.0.known old.known h.1.grows) in
       (λ none. h.1.untouched all after here within none, steady h.0 new own h.2 begins within')
 
--- ---- one reading of places by which both the loads that were made and those of the graph go
+-- ---- one reading of places for both the loads that were made and those of the graph
 
 abbrev pub value_at : Words → (ℕ → ℕ) → ℕ → ℕ → ℕ
 value_at [] otherwise k place = otherwise place

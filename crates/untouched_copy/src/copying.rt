@@ -1,4 +1,4 @@
-//! The copy of a message that a reader loads.
+//! Copies a message that a reader loads.
 
 ghost use Rattle.std.specs.Prelude.{◌≡◌, ◌<◌, ◌≤◌, [], ◌∷◌, ◌++◌, ℕ, List, IfOk, length, map};
 ghost use Rattle.mrpc_base.specs.Heap.{AfterLoads};
@@ -18,8 +18,8 @@ use mrpc_table::{Memory, Table};
 use shared_heap::{Reader, calls_are_fresh, loads_change_no_more};
 use std::alloc::Global;
 
-/// Copies the message of a type, by its place in the table, at an address of a heap, from at most `limit` loads, while
-/// others may store. It waits for nobody. After `Memory` the loads that were made stand in the reader's list.
+/// Copies the message of type `msg` (its index in the table) at the address `addr` of a heap, with at most `limit`
+/// loads, while others may store. Never blocks. After `Memory`, the reader's list holds the loads that were made.
 pub fn copy_message(
     alloc: Global,
     reader: &mut Reader,
@@ -35,14 +35,15 @@ pub fn copy_message(
     requires least_limit { 1 ≤ limit }
     requires greatest_limit { limit ≤ MAX_LOADS }
 
-    // A sound graph within the limit that stands after so many stores as the reader knows, and to which no later store
-    // goes, whatever list of stores goes on from what the reader knows now, is copied, by a load of each word.
+    // A sound graph is copied, with one load of each word, under these conditions. It is within the limit, and lies
+    // in the heap after `after` stores, all of which the reader knew before. No later store goes to it, for any list
+    // of stores that extends what the reader now knows.
     ensures untouched { (P : Placed) (all : List (ℕ × ℕ)) (after : ℕ)
         → IsSound table.now reader.old.heap.words msg addr P → length (loads P) ≤ limit
         → BeginsWith all reader.new.known → after ≤ length reader.old.known → StandsUntouched all after P
         → IfOk result (λ answer. answer ≡ CopyResult.Copied (tree_of table.now msg P) (length (loads P))) }
 
-    // Whatever the answer is, the reader made these loads, and no other change.
+    // For each result, the reader made these loads, and nothing else changed.
     ensures adds { map word_of reader.new.loads
         ≡ map word_of reader.old.loads ++ since (map word_of reader.old.loads) (map word_of reader.new.loads) }
     ensures only_loads { AfterLoads AfterLoad reader.old
@@ -51,15 +52,15 @@ pub fn copy_message(
     ensures heap { reader.new.heap ≡ reader.old.heap }
     ensures grows { BeginsWith reader.new.known reader.old.known }
 
-    // They go on being fresh: as the loads of one more call, after as many stores as the reader knew, behind those of
-    // earlier calls.
+    // Fresh loads stay fresh: these join those of earlier calls as the loads of one more call, after at most as many
+    // stores as the reader knew.
     ensures fresh { (calls : List CallLoads) (after : ℕ) → Fresh calls reader.old.known
         → after ≤ length reader.old.known → Fresh (calls ++ (record {
           after = after;
           loads = since (map word_of reader.old.loads) (map word_of reader.new.loads);
         }) ∷ []) reader.new.known }
 
-    // It is the copy that `graph_copy` makes, of exactly these loads.
+    // It is the copy that `graph_copy` makes with exactly these loads.
     ensures copied { IfOk result (IfCopied (IsCopied table.now reader.old.heap.words msg addr
         (since (map word_of reader.old.loads) (map word_of reader.new.loads)))) }
     ensures malformed { IfOk result (IfMalformed (IsMalformed table.now reader.old.heap.words msg addr limit

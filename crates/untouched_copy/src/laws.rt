@@ -1,4 +1,4 @@
-//! The law of a graph that nobody stores to. The function does nothing; its clauses hold.
+//! The law of an unmodified graph. The function has no effect; its clause is the law.
 
 ghost use Rattle.std.specs.Prelude.{◌≡◌, ◌≤◌, ℕ, List, length};
 ghost use Rattle.mrpc_base.specs.Heap.{AfterLoads};
@@ -11,9 +11,9 @@ ghost use Rattle.untouched_copy.specs.Untouched.{StandsUntouched};
 
 use graph_form::reading_determines_outcome;
 
-/// Where a reader made loads that come to something at an address, a sound graph stands there after as many stores as
-/// the reader knew at first, within the limit, and no later store of the writer's list goes to it: the loads are those
-/// of that graph, and they come to its tree.
+/// A reader made loads at an address, and they have an outcome. A sound graph within the limit lay there after as
+/// many stores as the reader knew at first, and no later store of the writer's list goes to it. Then the loads are
+/// those of that graph, and the outcome is a copy of its tree.
 pub fn untouched_graph_is_copied()
     ensures { (T : Table) (msg address limit after : ℕ) (old new : Reading) (own all : List (ℕ × ℕ)) (P : Placed)
         (outcome : Outcome)

@@ -1,9 +1,9 @@
-//! Copies of messages that an application no longer stores to, by the reader of a heap that threads share.
+//! Copies of messages that an application no longer modifies, by the reader of a heap that threads share.
 //!
-//! It stands on `graph_copy`, whose `copy` takes any heap of words, on `shared_heap`, whose reader loads while the
-//! writer's thread goes on storing, and on `graph_form`, `mrpc_table` and `mrpc_base`. The layers above use one
-//! contract: where the words of a sound graph stand after as many stores as the reader knows, and no later store goes
-//! to a place of theirs, the copy is the tree of that graph, whatever is stored elsewhere meanwhile.
+//! The crate depends on `graph_copy`, whose `copy` takes any heap of words, on `shared_heap`, whose reader loads
+//! while the writer's thread keeps storing, and on `graph_form`, `mrpc_table` and `mrpc_base`. The layers above use
+//! one contract: if the words of a sound graph are in the heap after as many stores as the reader knows, and no later
+//! store goes to a place of theirs, the copy is the tree of that graph, whatever is stored elsewhere meanwhile.
 #![tactic(auto)]
 
 mod copying;

@@ -1,4 +1,4 @@
--- The views of an input, and what they write.
+-- The views of an input, and their output.
 use Rattle.std.specs.Prelude.{◌≡◌, ℕ, ◌⊎◌, List, [], ◌∷◌, codes, map, Option, String, string_bytes}
 use Rattle.std.specs.declared.alloc.Global.{Global}
 use Rattle.std.specs.Io.KnownBytes.{Appends}
@@ -20,27 +20,28 @@ view_word Frames = codes "frames"
 view_word Script = codes "script"
 view_word Timeline = codes "timeline"
 
--- the words are that of the view alone
+-- the words are the word of the view alone
 abbrev pub Names : List (String Global) → View → Type 0
 Names words view = map string_bytes words ≡ view_word view ∷ []
 
 abbrev pub IsView : List (String Global) → Type 0
 IsView words = (view : View) × Names words view
 
--- a text was shown: its frames, the script that makes them, or the drawing of what it tells
+-- the view of a text was written: its frames, the script that sends them, or the drawing of its events
 abbrev pub Shows : View → List ℕ → Option (List ℕ) → Option (List ℕ) → Type 0
 Shows Frames text out out' = ViewsText text out out'
 Shows Script text out out' = (script : List ℕ) × IsScriptOf text script × Appends out out' script
 Shows Timeline text out out' = (rows : List Row) × AreRows (happenings_of text) rows × IsPlain (drawing rows)
     × Appends out out' (drawing rows)
 
--- a text has a first fault at a place, and what was shown in front of it was written; every text has a drawing
+-- a text has a first fault at a line or an offset, and the view of what precedes it was written; every text
+-- has a drawing
 abbrev pub Cuts : View → List ℕ → Option (List ℕ) → Option (List ℕ) → ℕ → List ℕ → Type 0
 Cuts Frames text out out' place word = CutsView text out out' place word
 Cuts Script text out out' place word = HasStop text place word × Appends out out' []
 Cuts Timeline text out out' place word = ⊥
 
--- and its line was written behind that
+-- and the fault's line was written after that
 abbrev pub Refuses : View → List ℕ → Option (List ℕ) → Option (List ℕ) → Type 0
 Refuses view text out out' = (mid : Option (List ℕ)) × (place : ℕ) × (word : List ℕ)
     × Cuts view text out mid place word × Appends mid out' (fault_line place word)

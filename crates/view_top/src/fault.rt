@@ -1,4 +1,4 @@
-//! The line of a fault, and what is said of it.
+//! The line of a fault, and its diagnostic.
 
 ghost use Rattle.std.specs.Prelude.{◌≡◌, ◌≢◌, ◌⊎◌, IfOk};
 ghost use Rattle.std.specs.Io.KnownBytes.{Appends};
@@ -11,10 +11,10 @@ use mrpc_base::{Sink, write_all};
 use mrpc_table::{Bytes, Memory};
 use std::alloc::Global;
 
-// How many bytes of a line of the input are shown beside its fault.
+// The most bytes of an input line that a diagnostic quotes.
 const WIDTH: usize = 100;
 
-// Writes the line of a fault at a place or on a line, and on `error` what stands against the text there.
+// Writes the line of a fault at an offset or on a line, and its diagnostic on `error`.
 pub(crate) fn refuse<K: Sink, E: Sink>(
     alloc: Global,
     text: &[u8],
@@ -53,7 +53,7 @@ fn fault_text(alloc: Global, place: u64, word: &[u8]) -> Result<Bytes, Memory>
     Ok(line)
 }
 
-// Says what stands against the text. Where there is no memory for that, or it can't be written, no more is said.
+// Writes the diagnostic. If it runs out of memory or a write fails, it writes no more.
 fn tell<E: Sink>(alloc: Global, text: &[u8], line: &[u8], error: &mut E) {
     if let Ok(lines) = explained(alloc, b"decode", text, line, WIDTH) {
         write_all(error, lines.as_slice());

@@ -1,15 +1,15 @@
 //! The exit statuses, which are those of `mrpc`.
 
-/// The input was shown.
+/// The view of the input was written.
 pub const DONE: u8 = 0;
 
-/// The words are no view.
+/// The words name no view.
 pub const NO_COMMAND: u8 = 1;
 
 /// The input has a fault, which was written.
 pub const FAULTY_INPUT: u8 = 2;
 
-/// No memory was found.
+/// Out of memory.
 pub const NO_MEMORY: u8 = 3;
 
 /// The input could not be read.

@@ -1,4 +1,4 @@
-//! The views: the words that name them, and what they do with an input.
+//! The views: the words that name them, and what they write for an input.
 
 ghost use Rattle.std.specs.Prelude.{◌≡◌, ◌≢◌, ◌↔◌, ◌≤◌, length, OnOk, IfErr, IfSome, IfNone, Err};
 ghost use Rattle.std.specs.Io.KnownBytes.{Appends};
@@ -17,11 +17,12 @@ use std::alloc::Global;
 use timeline::timeline_of;
 use whole_input::{INPUT_LIMIT, Input, read_input};
 
-/// Shows an input as the words say, and answers the exit status: `frames`, `script` or `timeline`, each alone.
+/// Writes the view of an input that the words name, `frames`, `script` or `timeline`, each alone, and returns
+/// the exit status.
 ///
-/// `frames` and `script` read what `mrpc decode` reads, and `timeline` what `mrpc replay` or `mrpc run` wrote, or an input
-/// of `mrpc audit`. What stands against a faulty input is said on `error`, for a person; where it can't be written there,
-/// no more is said.
+/// `frames` and `script` read what `mrpc decode` reads. `timeline` reads the output of `mrpc replay` or
+/// `mrpc run`, or an input of `mrpc audit`. The diagnostic of a faulty input is written to `error`, for a
+/// person; if a write to it fails, no more is written there.
 pub fn run_view<S: Source, K: Sink, E: Sink>(
     alloc: Global,
     words: &Vec<String>,
@@ -31,22 +32,23 @@ pub fn run_view<S: Source, K: Sink, E: Sink>(
 ) -> u8
     ensures statuses { result ≤ OUTPUT_FAILED }
 
-    // Which words are a view. For others nothing is read and nothing written.
+    // Which words are a view. For all others nothing is read or written.
     ensures words { (result ≡ NO_COMMAND) ↔ (IsView words.now.items → ⊥) }
     ensures untouched { result ≡ NO_COMMAND → (input.new ≡ input.old) × (out.new ≡ out.old) × (error.new ≡ error.old) }
 
-    // The input was shown, or it has a first fault, which was written behind what was shown in front of it.
+    // The view of the input was written, or the input has a first fault, whose line was written after the
+    // view of what precedes it.
     ensures done { (view : View) → Names words.now.items view → result ≡ DONE
         → IsShown view (S.left input.old) (K.written out.old) (K.written out.new) }
     ensures faulty { (view : View) → Names words.now.items view → result ≡ FAULTY_INPUT
         → IsRefused view (S.left input.old) (S.left input.new) (K.written out.old) (K.written out.new) }
 
-    // The input and the output are each answered for by a status.
+    // A failure of the input and one of the output each have a status.
     ensures input_cause { HasCause (result ≡ INPUT_FAILED) (S.faults input.old) (S.faults input.new) }
     ensures out_cause { HasCause (result ≡ OUTPUT_FAILED) (K.faults out.old) (K.faults out.new) }
     ensures unread { result ≡ INPUT_FAILED → out.new ≡ out.old }
 
-    // Only of a faulty input more is said.
+    // Only a faulty input has a diagnostic.
     ensures quiet { result ≢ FAULTY_INPUT → error.new ≡ error.old }
 {
     match view_of(words) {
@@ -55,7 +57,7 @@ pub fn run_view<S: Source, K: Sink, E: Sink>(
     }
 }
 
-// Shows an input, or says its first fault.
+// Writes the view of an input, or its first fault.
 fn show_input<S: Source, K: Sink, E: Sink>(
     alloc: Global,
     view: View,
@@ -89,7 +91,7 @@ enum View {
     Timeline,
 }
 
-// The view that the words name.
+// The view that the words name; `None` if they name none.
 fn view_of(words: &[String]) -> Option<View>
     ensures some { IfSome result (λ view. Names words.now view) }
     ensures none { IfNone result (IsView words.now → ⊥) }
@@ -115,7 +117,7 @@ fn view_named(word: &str) -> Option<View>
     }
 }
 
-// Shows the text of an input, or says its first fault.
+// Writes the view of an input's text, or its first fault.
 fn show_text<K: Sink, E: Sink>(
     alloc: Global,
     view: View,
@@ -141,7 +143,7 @@ fn show_text<K: Sink, E: Sink>(
     }
 }
 
-// Shows the text of an input, up to its end or its first fault.
+// Writes the view of an input's text, up to its end or its first fault.
 fn show<K: Sink>(alloc: Global, view: View, text: &[u8], out: &mut K) -> Result<(), Stop>
     requires { length text.now ≤ INPUT_LIMIT }
     ensures done { OnOk result (Shows view text.now (K.written out.old) (K.written out.new)) }

@@ -1,4 +1,4 @@
--- Bytes that are known, up to the end.
+-- Known bytes, up to the end.
 use Rattle.std.proofs.Common.{ℕ, List, ◌++◌, Option, Some, None, ap, ◌∙◌, append-nil}
 use Rattle.std.specs.Io.KnownBytes.{Consumes, IsAtEnd}
 use Rattle.whole_input.specs.Reading.{IsAllOf}

@@ -1,8 +1,8 @@
-//! The whole input of a command, up to a limit of its bytes.
+//! Reads the whole input of a command, up to a limit in bytes.
 //!
-//! It stands on `mrpc_base`, whose `Source` gives the bytes. The layer above uses the contract of [`read_input`]: it gives
-//! all that a source had left, or says that this is more than the limit, that the source failed, or that no memory was
-//! found.
+//! It builds on the `Source` trait of `mrpc_base`. The layer above uses the contract of [`read_input`]: it
+//! returns all the remaining bytes of a source, or that they exceed the limit, that the source failed, or that it is
+//! out of memory.
 #![tactic(auto)]
 
 mod reading;

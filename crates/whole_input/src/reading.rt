@@ -10,27 +10,27 @@ use std::alloc::{AllocError, Global};
 /// The most bytes that an input may have.
 pub const INPUT_LIMIT: usize = 16_777_216;
 
-// How many bytes are asked for in one read, at the most.
+// The most bytes that one read asks for.
 const PIECE: usize = 65_536;
 
-/// How many bytes are copied at once, at the most. A longer copy is one string instruction in the C library, which goes
-/// byte by byte where instructions are counted.
+/// The most bytes that are copied at once. A longer copy is one string instruction in the C library, which counts as
+/// one instruction per byte in tools that count instructions.
 pub const CHUNK: usize = 2_048;
 
-/// How reading an input ended.
+/// The result of reading an input.
 #[derive(Drop)]
 pub enum Input {
-    /// It was read to its end; these are its bytes.
+    /// The input was read to its end; these are its bytes.
     Whole(Vec<u8>),
-    /// It has more than `INPUT_LIMIT` bytes: one byte more was read.
+    /// The input has more than `INPUT_LIMIT` bytes; one byte past the limit was read.
     TooLong,
     /// The source failed.
     Failed,
-    /// No memory was found.
+    /// Out of memory.
     Memory,
 }
 
-/// Reads an input to its end, or past its limit.
+/// Reads an input to its end, or one byte past its limit.
 pub fn read_input<S: Source>(alloc: Global, input: &mut S) -> Input
     ensures whole { OnWhole result (λ text. (length text ≤ INPUT_LIMIT) × IsAllOf (S.left input.old) text) }
     ensures too_long { result ≡ Input.TooLong → ReadsPast INPUT_LIMIT (S.left input.old) (S.left input.new) }
@@ -42,7 +42,7 @@ pub fn read_input<S: Source>(alloc: Global, input: &mut S) -> Input
     }
 }
 
-// A buffer of so many bytes.
+// A buffer of `size` bytes.
 fn buffer(alloc: Global, size: usize) -> Result<Vec<u8>, AllocError>
     requires { 0 < size }
     ensures { IfOk result (λ buffer. 0 < vec_len buffer) }
@@ -50,7 +50,7 @@ fn buffer(alloc: Global, size: usize) -> Result<Vec<u8>, AllocError>
     vec![in alloc; 0; size]
 }
 
-// Appends bytes to a text, by chunks.
+// Appends bytes to a text, in chunks.
 fn append(text: &mut Vec<u8>, bytes: &[u8]) -> Result<(), AllocError>
     ensures { OnOk result (text.new.items ≡ text.old.items ++ bytes.now) }
 {
@@ -60,7 +60,7 @@ fn append(text: &mut Vec<u8>, bytes: &[u8]) -> Result<(), AllocError>
     Ok(())
 }
 
-// The same, by pieces of at most the buffer's length.
+// Like `read_input`, with reads of at most the buffer's length.
 fn read_pieces<S: Source>(alloc: Global, input: &mut S, piece: &mut [u8]) -> Input
     requires { 0 < length piece.old }
     ensures whole { OnWhole result (λ text. (length text ≤ INPUT_LIMIT) × IsAllOf (S.left input.old) text) }

@@ -1,4 +1,4 @@
--- A varint stands at a place or a fault does; so does a payload, and a record.
+-- At an offset there is a varint or a fault; likewise a payload or a fault, and a record or a fault.
 use Rattle.std.proofs.Common.{◌≡◌, ◌≢◌, ℕ, suc, zero, ◌+◌, ◌-◌, ◌/◌, ◌%◌, ◌^◌, ◌<◌, ◌≤◌, ◌⊎◌, List, [], length, take}
 use Rattle.std.proofs.Common.{drop, All, get_or, refl, ap, subst, arith, inl, inr, ⊎_elim}
 use Rattle.std.specs.List.{slice_range}
@@ -20,7 +20,7 @@ use Rattle.wire_base.proofs.Varints.{top-more, VarintAt-last}
 abbrev pub VarintOr : List ℕ → ℕ → Type 0
 VarintOr bytes at = ((v : ℕ) × (next : ℕ) × VarintAt bytes at v next) ⊎ ((reason : WireReason) × NoVarintAt bytes at reason)
 
--- so many bytes with the top bit set were seen, and the next ones decide
+-- after this many bytes with the top bit set, the next ones decide
 scanned : (left : ℕ) (bytes : List ℕ) (at i : ℕ) → at ≤ i → i + left ≡ at + 10 → i ≤ length bytes → All (λ b. 128 ≤ b) (slice_range bytes at i) → VarintOr bytes at
 scanned zero bytes at i from near within top =
     let ten : i ≡ at + 10 = omega (arith, near) in
@@ -82,7 +82,7 @@ payload-or bytes at w known within =
     (⊎_elim (λ is. i64_payload bytes at w is) (⊎_elim (λ is. len_payload bytes at w is within) (λ is. i32_payload bytes at w is)))
     known
 
--- a wire type is known or it isn't
+-- a wire type is known or not
 abbrev TypeOr : ℕ → Type 0
 TypeOr w = IsWireType w ⊎ (IsWireType w → ⊥)
 
@@ -106,7 +106,7 @@ type-or w below =
 abbrev pub RecordOr : List ℕ → ℕ → Type 0
 RecordOr bytes at = ((r : Record) × RecordAt bytes at r) ⊎ ((f : WireFault) × FaultAt bytes at f)
 
--- behind a sound tag of a known wire type
+-- after a tag with a field number and a known wire type
 tagged : (bytes : List ℕ) (at tag start : ℕ) → TagAt bytes at tag start → IsWireType (tag % 8) → RecordOr bytes at
 tagged bytes at tag start h known =
     let within = h.stands.within in

@@ -8,7 +8,7 @@ use Rattle.wire_base.specs.declared.fault.WireFault.{WireFault}
 use Rattle.wire_base.proofs.OneReading.{VarintAt-moves, PayloadAt-ahead, PayloadAt-within, RecordAt-same, RecordAt-no_fault, FaultAt-same}
 use Rattle.wire_base.proofs.Choices.{record-or}
 
--- a record ends behind its place, and within the bytes
+-- a record ends after its start, and within the bytes
 record-ahead : (bytes : List ℕ) (at : ℕ) (r : Record) → RecordAt bytes at r → at < r.next
 record-ahead bytes at r h =
     let a = PayloadAt-ahead bytes h.start (h.tag % 8) r.payload r.next h.payload in

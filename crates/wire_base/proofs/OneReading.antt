@@ -1,4 +1,4 @@
--- One varint or fault, and one record or fault, stands at a place.
+-- At an offset there is at most one varint or fault, and at most one record or fault.
 use Rattle.std.proofs.Common.{◌≡◌, ℕ, ◌+◌, ◌-◌, ◌/◌, ◌%◌, ◌^◌, ◌<◌, ◌≤◌, ◌⊎◌, List, [], ◌∷◌, ◌++◌, length, take, drop}
 use Rattle.std.proofs.Common.{All, Result, Ok, Err, refl, ap, sym, subst, ◌∙◌, arith, inl, inr, ⊎_elim}
 use Rattle.std.specs.List.{slice_range}
@@ -19,7 +19,7 @@ use Rattle.wire_base.specs.declared.fault.WireReason.TheVariants.{Varint as NoVa
 use Rattle.wire_base.specs.declared.fault.WireFault.{WireFault}
 use Rattle.wire_base.proofs.Varints.{length-slice_range}
 
--- no varint begins another one
+-- no varint is a proper prefix of another
 pub same_front : (a b x y : List ℕ) → HasVarintForm a → HasVarintForm b → a ++ x ≡ b ++ y → a ≡ b
 same_front [] b x y f g e = absurd f
 same_front (c ∷ cs) [] x y f g e = absurd g
@@ -31,7 +31,7 @@ same_front (c ∷ c' ∷ cs) (d ∷ d' ∷ bs) x y f g e =
     let same = same_front (c' ∷ cs) (d' ∷ bs) x y f.1 g.1 rest in
     cc
 
--- the last byte of a varint hasn't the top bit set
+-- the last byte of a varint doesn't have the top bit set
 pub form_ends : (a : List ℕ) → HasVarintForm a → All (λ b. 128 ≤ b) a → ⊥
 form_ends [] f top = f
 form_ends (c ∷ []) f top = let h = All-head (λ b. 128 ≤ b) c [] top in omega (arith, h, f)
@@ -57,7 +57,7 @@ VarintAt-same {bytes} {at} {v} {m} {w} {n} a b =
       omega (arith, length-slice_range bytes at m (omega arith) within_m, length-slice_range bytes at n (omega arith) within_n, ap length same),
     )
 
--- where a varint stands there is no fault
+-- if there is a varint, there is no fault
 pub VarintAt-no_fault : {bytes : List ℕ} {at v next : ℕ} (reason : WireReason) → VarintAt bytes at v next → NoVarintAt bytes at reason → ⊥
 VarintAt-no_fault {bytes} {at} {v} {next} NoVarint here fault =
     let long = length-slice_range bytes at next (let e = VarintAt-moves here in omega arith) here.within in
@@ -72,7 +72,7 @@ VarintAt-no_fault TagRange here fault = fault
 VarintAt-no_fault NumberZero here fault = fault
 VarintAt-no_fault WireType here fault = fault
 
--- a varint's fault has one reason
+-- the fault of a varint has one reason
 pub NoVarintAt-same : (bytes : List ℕ) (at : ℕ) (r s : WireReason) → NoVarintAt bytes at r → NoVarintAt bytes at s → r ≡ s
 NoVarintAt-same bytes at NoVarint NoVarint f g = refl
 NoVarintAt-same bytes at Short Short f g = refl
@@ -88,7 +88,7 @@ NoVarintAt-same bytes at Short TagRange f g = absurd g
 NoVarintAt-same bytes at Short NumberZero f g = absurd g
 NoVarintAt-same bytes at Short WireType f g = absurd g
 
--- one payload of a wire type stands at a place
+-- there is at most one payload of a wire type at an offset
 pub PayloadAt-same : (bytes : List ℕ) (at w : ℕ) (p q : Payload) (m n : ℕ) → PayloadAt bytes at w p m → PayloadAt bytes at w q n → (p ≡ q) × (m ≡ n)
 PayloadAt-same bytes at w (Varint v) (Varint u) m n a b = let e = VarintAt-same a.1 b.1 in (ap Varint e.0, e.1)
 PayloadAt-same bytes at w (I64 v) (I64 u) m n a b = let e : m ≡ n = a.1 ∙ sym b.1 in (ap I64 (a.3 ∙ ap (λ k. from_le_bytes w64 (slice_range bytes at k)) e ∙ sym b.3), e)
@@ -110,11 +110,11 @@ PayloadAt-same bytes at w (Len s e) (Varint u) m n a b = absurd (omega (arith, a
 PayloadAt-same bytes at w (Len s e) (I64 u) m n a b = absurd (omega (arith, a.0, b.0))
 PayloadAt-same bytes at w (Len s e) (I32 u) m n a b = absurd (omega (arith, a.0, b.0))
 
--- a varint isn't told from its fault by the wire type alone
+-- the wire types whose payload starts with a varint
 abbrev IsVarintType : ℕ → Type 0
 IsVarintType w = (w ≡ 0) ⊎ (w ≡ 2)
 
--- the payload has no varint, or it is too short behind what it has
+-- the payload has no varint, or is too short after it
 pub NoPayloadAt-cases : {bytes : List ℕ} {at w : ℕ} {reason : WireReason} → NoPayloadAt bytes at w reason
     → (IsVarintType w × NoVarintAt bytes at reason) ⊎ ((reason ≡ Short) × ((s : WireReason) → NoVarintAt bytes at s
     → IsVarintType w → ⊥))
@@ -144,7 +144,7 @@ PayloadAt-known bytes at w (I64 v) next a = inr (inl a.0)
 PayloadAt-known bytes at w (I32 v) next a = inr (inr (inr a.0))
 PayloadAt-known bytes at w (Len s e) next a = inr (inr (inl a.0))
 
--- where a payload stands there is no fault
+-- if there is a payload, there is no fault
 pub PayloadAt-no_fault : (bytes : List ℕ) (at w : ℕ) (p : Payload) (next : ℕ) (reason : WireReason) → PayloadAt bytes at w p next → NoPayloadAt bytes at w reason → ⊥
 PayloadAt-no_fault bytes at w (Varint v) next reason a (no_varint e f) = VarintAt-no_fault reason a.1 f
 PayloadAt-no_fault bytes at w (Varint v) next reason a (no_length e f) = omega (arith, a.0, e)
@@ -173,7 +173,7 @@ fault_same f g p q = λ i. record { reason = p i; place = q i }
 record_same : (r s : Record) → r.number ≡ s.number → r.payload ≡ s.payload → r.next ≡ s.next → r ≡ s
 record_same r s p q e = λ i. record { number = p i; payload = q i; next = e i }
 
--- one record stands at a place
+-- there is at most one record at an offset
 pub RecordAt-same : (bytes : List ℕ) (at : ℕ) (r s : Record) → RecordAt bytes at r → RecordAt bytes at s → r ≡ s
 RecordAt-same bytes at r s a b =
     let same = VarintAt-same a.tagged.stands b.tagged.stands in
@@ -183,7 +183,7 @@ RecordAt-same bytes at r s a b =
     let payloads = PayloadAt-same bytes a.start (a.tag % 8) r.payload s.payload r.next s.next a.payload other in
     record_same r s (a.number ∙ ap (λ t. t / 8) same.0 ∙ sym b.number) payloads.0 payloads.1
 
--- where a record stands there is no fault
+-- if there is a record, there is no fault
 pub RecordAt-no_fault : (bytes : List ℕ) (at : ℕ) (r : Record) (f : WireFault) → RecordAt bytes at r → FaultAt bytes at f → ⊥
 RecordAt-no_fault bytes at r f a (no_tag p v) = VarintAt-no_fault f.reason a.tagged.stands v
 RecordAt-no_fault bytes at r f a (tag_range t s p e v h) = let same = VarintAt-same a.tagged.stands v in omega (arith, a.tagged.small, same.0, h)
@@ -198,7 +198,7 @@ RecordAt-no_fault bytes at r f a (no_payload t s p v h) =
     (subst (λ (t : ℕ). PayloadAt bytes a.start (t % 8) r.payload r.next) same.0 a.payload) in
     PayloadAt-no_fault bytes s (t % 8) r.payload r.next f.reason other h
 
--- one fault stands at a place
+-- there is at most one fault at an offset
 pub FaultAt-same : (bytes : List ℕ) (at : ℕ) (f g : WireFault) → FaultAt bytes at f → FaultAt bytes at g → f ≡ g
 FaultAt-same bytes at f g (no_tag p v) (no_tag p' v') = fault_same f g (NoVarintAt-same bytes at f.reason g.reason v v') (p ∙ sym p')
 FaultAt-same bytes at f g (no_tag p v) (tag_range t' s' p' e' v' h') = absurd (VarintAt-no_fault f.reason v' v)
@@ -235,7 +235,7 @@ FaultAt-same bytes at f g (no_payload t s p v h) (no_payload t' s' p' v' h') =
     (subst (λ (u : ℕ). NoPayloadAt bytes s' (u % 8) g.reason) (sym same.0) h') in
     fault_same f g (NoPayloadAt-same bytes s (t % 8) f.reason g.reason h other) (p ∙ same.1 ∙ sym p')
 
--- what was read is the one varint, or the one fault
+-- what was read is the only varint, or the only fault
 pub varint-each : (bytes : List ℕ) (at : ℕ) (r : Result (ℕ × ℕ) WireFault) → IfOk r (λ x. VarintAt bytes at x.0 x.1)
     → IfErr r (λ f. (f.place ≡ at) × NoVarintAt bytes at f.reason) → (v next : ℕ) → VarintAt bytes at v next
     → r ≡ Ok (v, next)
@@ -248,7 +248,7 @@ pub varint-each_fault : (bytes : List ℕ) (at : ℕ) (r : Result (ℕ × ℕ) W
 varint-each_fault bytes at (Ok x) found fault reason here = absurd (VarintAt-no_fault reason found here)
 varint-each_fault bytes at (Err f) found fault reason here = ap Err (fault_same f (record { reason = reason; place = at }) (NoVarintAt-same bytes at f.reason reason fault.1 here) fault.0)
 
--- what was read is the one record, or the one fault
+-- what was read is the only record, or the only fault
 pub record-each : (bytes : List ℕ) (at : ℕ) (r : Result Record WireFault) → IfOk r (λ x. RecordAt bytes at x)
     → IfErr r (λ f. FaultAt bytes at f) → (s : Record) → RecordAt bytes at s → r ≡ Ok s
 record-each bytes at (Ok x) found fault s here = ap Ok (RecordAt-same bytes at x s found here)
@@ -259,7 +259,7 @@ pub record-each_fault : (bytes : List ℕ) (at : ℕ) (r : Result Record WireFau
 record-each_fault bytes at (Ok x) found fault g here = absurd (RecordAt-no_fault bytes at x g found here)
 record-each_fault bytes at (Err f) found fault g here = ap Err (FaultAt-same bytes at f g fault here)
 
--- a payload ends behind its place, and within the bytes
+-- a payload ends after its start, and within the bytes
 pub PayloadAt-ahead : (bytes : List ℕ) (at w : ℕ) (p : Payload) (next : ℕ) → PayloadAt bytes at w p next → at < next
 PayloadAt-ahead bytes at w (Varint v) next a = VarintAt-moves a.1
 PayloadAt-ahead bytes at w (I64 v) next a = omega (arith, a.1)

@@ -24,20 +24,20 @@ pub groups-last : (n : ℕ) → groups 0 n ≡ n ∷ []
 unfolding groups
 groups-last n = refl
 
--- the groups that are left once one more was written
+-- the remaining groups after one more was written
 pub groups-step : (i n : ℕ) → i < 9 → 128 ≤ n → groups (9 - i) n ≡ (n % 128 + 128) ∷ groups (9 - (i + 1)) (n / 128)
 groups-step i n h large =
     let e : 9 - i ≡ suc (9 - (i + 1)) = omega arith in
     ap (λ m. groups m n) e ∙ groups-large (9 - (i + 1)) n large
 
--- the number that is left stays below what is written behind it
+-- the remaining number stays below what its position allows
 pub rest-small : (i n v : ℕ) → n * 128 ^ i ≤ v → n / 128 * 128 ^ (i + 1) ≤ v
 rest-small i n v h =
     let power : 128 ^ (i + 1) ≡ 128 ^ i * 128 = pow-add 128 i 1 in
     let fewer : 128 ^ i * (n / 128 * 128) ≤ 128 ^ i * n = mul-le-mul_left (128 ^ i) (let e : n / 128 * 128 ≤ n = omega arith in e) in
     omega (arith, ap (λ p. n / 128 * p) power, fewer)
 
--- one more byte with the top bit set in front
+-- one more byte with the top bit set at the start
 HasVarintForm-front : (b : ℕ) (bs : List ℕ) → 128 ≤ b → HasVarintForm bs → HasVarintForm (b ∷ bs)
 HasVarintForm-front b [] h f = absurd f
 HasVarintForm-front b (c ∷ bs) h f = (h, f)
@@ -58,7 +58,7 @@ group_sum-last (x ∷ bs) b =
     let moved : b % 128 * (128 * 2 ^ (7 * length bs)) ≡ 128 * (b % 128 * 2 ^ (7 * length bs)) = omega arith in
     omega (arith, again, ap (λ p. b % 128 * p) power, moved)
 
--- one more byte of a part
+-- one more byte of a range
 pub slice_range-more : (bytes : List ℕ) (at i b : ℕ) → at ≤ i → i < length bytes → b ≡ get_or bytes i 0 → slice_range bytes at (i + 1) ≡ slice_range bytes at i ++ b ∷ []
 slice_range-more bytes at i b from within is =
     let step = take_more (drop at bytes) (i - at) 0 (omega (arith, length-drop at bytes)) in
@@ -68,7 +68,7 @@ slice_range-more bytes at i b from within is =
 pub length-slice_range : (bytes : List ℕ) (at i : ℕ) → at ≤ i → i ≤ length bytes → length (slice_range bytes at i) ≡ i - at
 length-slice_range bytes at i from within = length-take-le (i - at) (drop at bytes) (omega (arith, length-drop at bytes))
 
--- the value once one more group was added
+-- the value after one more group was added
 pub value-more : (bytes : List ℕ) (at i g v : ℕ) → at ≤ i → i < length bytes → g ≡ get_or bytes i 0 % 128
     → v ≡ group_sum (slice_range bytes at i) % 2 ^ 64
     → (v + (g * 2 ^ (7 * (i - at))) % 2 ^ 64) % 2 ^ 64 ≡ group_sum (slice_range bytes at (i + 1)) % 2 ^ 64
@@ -100,7 +100,7 @@ VarintAt-last bytes at i b v from near within is low top value = record {
   };
 }
 
--- the bytes that were written, and one more behind them
+-- the bytes that were written, and one more after them
 pub groups-written : (bytes : List ℕ) (i b n m v : ℕ) → i < 9 → i < length bytes → 128 ≤ n → b ≡ n % 128 + 128
     → m ≡ n / 128 → take i bytes ++ groups (9 - i) n ≡ groups 9 v
     → take (i + 1) (set bytes i b) ++ groups (9 - (i + 1)) m ≡ groups 9 v
@@ -170,7 +170,7 @@ IsVarint-varint v h =
       value = let sum = group_sum-groups 9 v below in let e : v % 2 ^ 64 ≡ v = omega arith in sym (ap (λ s. s % 2 ^ 64) sum ∙ e);
     }
 
--- what was written as a varint is read back, whatever stands before it and behind it
+-- what was written as a varint is read back, whatever precedes and follows it
 pub VarintAt-varint : (before after : List ℕ) (v : ℕ) → v < 2 ^ 64 → VarintAt (before ++ (varint v ++ after)) (length before) v (length before + length (varint v))
 VarintAt-varint before after v h =
     let at = length before in
@@ -224,7 +224,7 @@ written-shortest written v is bytes other = omega (arith, ap length is, varint-s
 groups-longer : (m n : ℕ) → 128 ≤ n → length (groups (suc m) n) ≡ 1 + length (groups m (n / 128))
 groups-longer m n large = omega (arith, ap length (groups-large m n large))
 
--- as many groups as it has, where there is room for them
+-- as many groups as the number has, if there is room for them
 length-groups-at : (k m n : ℕ) → k ≤ m → 128 ^ k ≤ n → n < 128 * 128 ^ k → length (groups m n) ≡ k + 1
 length-groups-at zero m n le least below = ap length (groups-small m n (omega (arith, below)))
 length-groups-at (suc k) zero n le least below = absurd (omega (arith, le))
@@ -242,7 +242,7 @@ length-groups-at (suc k) (suc m) n le least below =
         let power : 128 ^ suc k ≡ 128 * 128 ^ k = ap (λ j. 128 ^ j) (let e : suc k ≡ 1 + k = omega arith in e) ∙ pow-add 128 1 k in
         omega (arith, power, pow-some k)
 
--- a number of k groups of seven bits and of no fewer
+-- a number with exactly k + 1 groups of seven bits
 pub length-varint-at : (k v : ℕ) → k ≤ 9 → 128 ^ k ≤ v → v < 128 * 128 ^ k → length (varint v) ≡ k + 1
 unfolding varint
 length-varint-at k v le least below = length-groups-at k 9 v le least below
@@ -271,7 +271,7 @@ length-left : (bytes : List ℕ) (i n v : ℕ) → i ≤ length bytes → length
 length-left bytes i n v within sized spelled =
     omega (arith, sized, ap length spelled, length-append (take i bytes) (groups (9 - i) n), length-take-le i bytes within)
 
--- what the loop keeps
+-- the invariant of the loop
 pub record AreFilled (bytes : List ℕ) (i n v : ℕ) : Type 0 where
   pub sized : length bytes ≡ length (varint v)
   pub small : n * 128 ^ i ≤ v

@@ -61,7 +61,7 @@ too_long = record { ten = lit≤ tt; top = All-replicate (λ b. 128 ≤ b) 10 12
 eleven_bytes : FaultAt (replicate 10 128 ++ 0 ∷ []) 0 (record { reason = NoVarint; place = 0 })
 eleven_bytes = no_tag refl too_long
 
--- the bytes end in the tag, and behind a length of 2
+-- the bytes end in the tag, and after a length of 2
 ends_in_tag : FaultAt (128 ∷ 128 ∷ []) 0 (record { reason = Short; place = 0 })
 ends_in_tag = no_tag refl (record { fewer = lit< tt; top = All-replicate (λ b. 128 ≤ b) 2 128 (lit≤ tt) })
 
@@ -85,7 +85,7 @@ ends_in_payload = record {
   );
 }
 
--- bits above 64 are dropped: the tenth byte has 1 bit left
+-- bits above 64 are dropped: only 1 bit of the tenth byte counts
 dropped : IsVarint (replicate 9 255 ++ 127 ∷ []) (2 ^ 64 - 1)
 dropped = record { form = search arith; short = lit≤ tt; value = refl }
 

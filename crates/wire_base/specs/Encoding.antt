@@ -26,7 +26,7 @@ varint n = groups 9 n
 abbrev pub tag : ℕ → ℕ → List ℕ
 tag n wire_type = varint (8 * n + wire_type)
 
--- bytes behind their length
+-- a length, and then the bytes
 abbrev pub delimited : List ℕ → List ℕ
 delimited bytes = varint (length bytes) ++ bytes
 
@@ -69,7 +69,7 @@ abbrev mutual
   item_bytes T k (run bytes) = delimited bytes
   item_bytes T k (node t) = delimited (fields_bytes T (fields_of T (nested_message k)) t)
 
-  -- the elements of a packed field, one after another
+  -- the concatenated elements of a packed field
   pub joined_bytes : Table → Kind → Items → List ℕ
   joined_bytes T k no_items = []
   joined_bytes T k (item i is) = item_bytes T k i ++ joined_bytes T k is
@@ -87,6 +87,6 @@ abbrev mutual
       ++ delimited ((tag 1 (wire_type_of key) ++ item_bytes T key i) ++ (tag 2 (wire_type_of k) ++ item_bytes T k j)))
       ++ entries_bytes T n key k ps
 
--- the encoding of a tree of the message at a place of the table
+-- the encoding of a tree of the message at an index of the table
 abbrev pub encoding : Table → ℕ → Node → List ℕ
 encoding T msg t = fields_bytes T (fields_of T msg) t

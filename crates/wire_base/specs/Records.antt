@@ -1,5 +1,5 @@
--- The records of a byte string (Protocol Buffers, "Encoding": "Base 128 Varints", "Message Structure"),
--- and the first place where no record stands.
+-- The records of a byte string (Protocol Buffers, "Encoding": "Base 128 Varints", "Message Structure"), and the first
+-- offset without a record.
 use Rattle.std.specs.Prelude.{◌≡◌, ◌≢◌, ℕ, ◌+◌, ◌*◌, ◌/◌, ◌%◌, ◌^◌, ◌<◌, ◌≤◌, ◌⊎◌, List, [], ◌∷◌, length, drop, All, slice_range}
 use Rattle.std.specs.Int.{w32, w64, from_le_bytes}
 use Rattle.mrpc_table.specs.WireTypes.{wire_varint, wire_i64, wire_len, wire_i32}
@@ -28,12 +28,12 @@ pub record IsVarint (bytes : List ℕ) (v : ℕ) : Type 0 where
   pub short : length bytes ≤ MAX_VARINT
   pub value : v ≡ group_sum bytes % 2 ^ 64
 
--- a varint stands at this place, and the next place is behind it
+-- a varint is at this offset, and ends before the next
 pub record VarintAt (bytes : List ℕ) (at v next : ℕ) : Type 0 where
   pub within : next ≤ length bytes
   pub spelled : IsVarint (slice_range bytes at next) v
 
--- ten bytes with the top bit set stand at this place
+-- ten bytes with the top bit set are at this offset
 pub record TooLongAt (bytes : List ℕ) (at : ℕ) : Type 0 where
   pub ten : at + MAX_VARINT ≤ length bytes
   pub top : All (λ b. 128 ≤ b) (slice_range bytes at (at + MAX_VARINT))
@@ -43,7 +43,7 @@ pub record EndsAt (bytes : List ℕ) (at : ℕ) : Type 0 where
   pub fewer : length bytes < at + MAX_VARINT
   pub top : All (λ b. 128 ≤ b) (drop at bytes)
 
--- why no varint stands at this place
+-- why there is no varint at this offset
 abbrev pub NoVarintAt : List ℕ → ℕ → WireReason → Type 0
 NoVarintAt bytes at NoVarint = TooLongAt bytes at
 NoVarintAt bytes at Short = EndsAt bytes at
@@ -51,7 +51,7 @@ NoVarintAt bytes at TagRange = ⊥
 NoVarintAt bytes at NumberZero = ⊥
 NoVarintAt bytes at WireType = ⊥
 
--- a payload of the wire type stands at this place, and the next place is behind it
+-- a payload of the wire type is at this offset, and ends before the next
 abbrev pub PayloadAt : List ℕ → ℕ → ℕ → Payload → ℕ → Type 0
 PayloadAt bytes at wire_type (Varint v) next = (wire_type ≡ wire_varint) × VarintAt bytes at v next
 PayloadAt bytes at wire_type (I64 v) next = (wire_type ≡ wire_i64) × (next ≡ at + 8) × (next ≤ length bytes)
@@ -61,20 +61,20 @@ PayloadAt bytes at wire_type (I32 v) next = (wire_type ≡ wire_i32) × (next �
 PayloadAt bytes at wire_type (Len start end) next = (wire_type ≡ wire_len) × (n : ℕ) × VarintAt bytes at n start
     × (end ≡ start + n) × (end ≤ length bytes) × (next ≡ end)
 
--- the bytes of a payload are within the first bytes of this number
+-- the bytes of a payload are within the first `len` bytes
 abbrev pub IsWithin : ℕ → Payload → Type 0
 IsWithin len (Len start end) = (start ≤ end) × (end ≤ len)
 IsWithin len (Varint v) = Unit {0}
 IsWithin len (I64 v) = Unit {0}
 IsWithin len (I32 v) = Unit {0}
 
--- a tag with a number stands at this place
+-- a tag with a field number is at this offset
 pub record TagAt (bytes : List ℕ) (at tag start : ℕ) : Type 0 where
   pub stands : VarintAt bytes at tag start
   pub small : tag < 2 ^ 32
   pub numbered : tag / 8 ≢ 0
 
--- a record stands at this place: a tag, and a payload of the tag's wire type behind it
+-- a record is at this offset: a tag, followed by a payload of the tag's wire type
 pub record RecordAt (bytes : List ℕ) (at : ℕ) (r : Record) : Type 0 where
   pub tag : ℕ
   pub start : ℕ
@@ -82,19 +82,19 @@ pub record RecordAt (bytes : List ℕ) (at : ℕ) (r : Record) : Type 0 where
   pub number : r.number ≡ tag / 8
   pub payload : PayloadAt bytes start (tag % 8) r.payload r.next
 
--- the records, one behind another, are the bytes from this place to the end
+-- the bytes from this offset to the end are these records, in order
 abbrev pub RecordsFrom : List ℕ → ℕ → List Record → Type 0
 RecordsFrom bytes at [] = at ≡ length bytes
 RecordsFrom bytes at (r ∷ rs) = RecordAt bytes at r × RecordsFrom bytes r.next rs
 
--- the spellings of the records, joined, are the bytes
+-- the bytes are these records, in order
 abbrev pub AreRecords : List ℕ → List Record → Type 0
 AreRecords bytes rs = RecordsFrom bytes 0 rs
 
 abbrev pub IsWireType : ℕ → Type 0
 IsWireType w = (w ≡ wire_varint) ⊎ (w ≡ wire_i64) ⊎ (w ≡ wire_len) ⊎ (w ≡ wire_i32)
 
--- why no payload of the wire type stands at this place
+-- why there is no payload of the wire type at this offset
 pub data NoPayloadAt (bytes : List ℕ) (at wire_type : ℕ) (reason : WireReason) : Type 0 where
   no_varint : wire_type ≡ wire_varint → NoVarintAt bytes at reason → NoPayloadAt bytes at wire_type reason
   no_length : wire_type ≡ wire_len → NoVarintAt bytes at reason → NoPayloadAt bytes at wire_type reason
@@ -103,7 +103,7 @@ pub data NoPayloadAt (bytes : List ℕ) (at wire_type : ℕ) (reason : WireReaso
   short_len : (n start : ℕ) → wire_type ≡ wire_len → reason ≡ Short → VarintAt bytes at n start
       → length bytes < start + n → NoPayloadAt bytes at wire_type reason
 
--- why no record stands at this place, and which place is at fault: that of the tag, or of the payload
+-- why there is no record at this offset, and the offset of the fault: that of the tag, or of the payload
 pub data FaultAt (bytes : List ℕ) (at : ℕ) (f : WireFault) : Type 0 where
   no_tag : f.place ≡ at → NoVarintAt bytes at f.reason → FaultAt bytes at f
   tag_range : (tag start : ℕ) → f.place ≡ at → f.reason ≡ TagRange → VarintAt bytes at tag start → 2 ^ 32 ≤ tag
@@ -115,7 +115,7 @@ pub data FaultAt (bytes : List ℕ) (at : ℕ) (f : WireFault) : Type 0 where
   no_payload : (tag start : ℕ) → f.place ≡ start → TagAt bytes at tag start
       → NoPayloadAt bytes start (tag % 8) f.reason → FaultAt bytes at f
 
--- records stand one behind another from this place on, and no record stands at the place behind them
+-- these records follow each other from this offset on, and there is no record after them
 abbrev pub FaultFrom : List ℕ → ℕ → List Record → WireFault → Type 0
 FaultFrom bytes at [] f = (at < length bytes) × FaultAt bytes at f
 FaultFrom bytes at (r ∷ rs) f = RecordAt bytes at r × FaultFrom bytes r.next rs f

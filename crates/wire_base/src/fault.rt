@@ -3,16 +3,16 @@
 use std::fmt;
 use thiserror::Error;
 
-/// Why no record stands at a place.
+/// Why there is no record at an offset.
 #[derive(Clone, Copy, Debug, PartialEq, Eq)]
 pub enum WireReason {
-    /// Ten bytes with the top bit set stand where a varint should.
+    /// Ten bytes with the top bit set are in place of a varint.
     Varint = 1,
     /// The value of a tag is 2^32 or more.
     TagRange = 2,
     /// The field number of a tag is 0.
     NumberZero = 3,
-    /// The wire type of a tag is none of 0, 1, 2 and 5.
+    /// The wire type of a tag isn't 0, 1, 2 or 5.
     WireType = 4,
     /// The bytes end inside a tag or a payload.
     Short = 5,
@@ -32,7 +32,7 @@ impl fmt::Display for WireReason {
 
 impl std::error::Error for WireReason {}
 
-/// The first fault of some bytes: the reason, and the place that is at fault, counted from 0.
+/// The first fault of some bytes: the reason, and the offset of the fault, counted from 0.
 #[derive(Clone, Copy, Debug, Error)]
 #[error("byte {place}: {reason}")]
 pub struct WireFault {

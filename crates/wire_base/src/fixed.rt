@@ -5,8 +5,7 @@ ghost use Rattle.mrpc_table.specs.WireTypes.{wire_i64, wire_i32};
 ghost use Rattle.wire_base.specs.Records.{PayloadAt};
 ghost use Rattle.wire_base.specs.declared.records.Payload.TheVariants.{I64, I32};
 
-/// The number of the eight bytes at the place `at`, and the place behind them. `None` comes exactly where fewer bytes
-/// stand there.
+/// The number in the eight bytes at offset `at`, and the offset after them. `None` exactly if fewer bytes remain.
 #[inline(always)]
 pub fn read_fixed64(bytes: &[u8], at: usize) -> Option<(u64, usize)>
     requires { at ≤ length bytes.now }
@@ -19,8 +18,7 @@ pub fn read_fixed64(bytes: &[u8], at: usize) -> Option<(u64, usize)>
     }
 }
 
-/// The number of the four bytes at the place `at`, and the place behind them. `None` comes exactly where fewer bytes
-/// stand there.
+/// The number in the four bytes at offset `at`, and the offset after them. `None` exactly if fewer bytes remain.
 #[inline(always)]
 pub fn read_fixed32(bytes: &[u8], at: usize) -> Option<(u32, usize)>
     requires { at ≤ length bytes.now }

@@ -1,4 +1,4 @@
-//! Laws of varints and records. These functions do nothing; their clauses hold.
+//! Laws of varints and records. These functions do nothing; their clauses are the laws.
 
 ghost use Rattle.std.specs.Prelude.{◌≡◌, ◌⊎◌, ℕ, ◌+◌, ◌<◌, ◌≤◌, ◌^◌, List, ◌++◌, length};
 ghost use Rattle.wire_base.specs.Encoding.{varint};
@@ -9,7 +9,7 @@ ghost use Rattle.wire_base.specs.declared.records.Record.{Record};
 ghost use Rattle.wire_base.specs.declared.fault.WireReason.{WireReason};
 ghost use Rattle.wire_base.specs.declared.fault.WireFault.{WireFault};
 
-/// The shortest varint of a number has one to ten bytes, and is read as the number wherever it stands.
+/// The shortest varint of a number has one to ten bytes, and is read back as the number at any offset.
 pub fn varint_is_read_back()
     ensures some { (v : ℕ) → 1 ≤ length (varint v) }
     ensures ten { (v : ℕ) → length (varint v) ≤ MAX_VARINT }
@@ -17,7 +17,8 @@ pub fn varint_is_read_back()
         → VarintAt (before ++ (varint v ++ after)) (length before) v (length before + length (varint v)) }
 {}
 
-/// One payload of a wire type stands at a place of a byte string, or none does for one reason, and never both.
+/// At an offset of a byte string there is either one payload of a wire type, or one reason why there is none, and never
+/// both.
 pub fn payload_or_reason()
     ensures either { (bytes : List ℕ) (at w : ℕ) → IsWireType w → at ≤ length bytes
         → ((p : Payload) × (next : ℕ) × PayloadAt bytes at w p next)
@@ -31,7 +32,7 @@ pub fn payload_or_reason()
         → NoPayloadAt bytes at w other → reason ≡ other }
 {}
 
-/// One record or one fault stands at a place of a byte string, and never both.
+/// At an offset of a byte string there is either one record or one fault, and never both.
 pub fn record_or_fault()
     ensures either { (bytes : List ℕ) (at : ℕ) → at ≤ length bytes
         → ((r : Record) × RecordAt bytes at r) ⊎ ((f : WireFault) × FaultAt bytes at f) }
@@ -41,7 +42,7 @@ pub fn record_or_fault()
     ensures one_fault { (bytes : List ℕ) (at : ℕ) (f g : WireFault) → FaultAt bytes at f → FaultAt bytes at g → f ≡ g }
 {}
 
-/// A byte string is one list of records or has one first fault, and never both.
+/// A byte string either is one list of records or has one first fault, and never both.
 pub fn records_or_fault()
     ensures either { (bytes : List ℕ)
         → ((rs : List Record) × AreRecords bytes rs) ⊎ ((f : WireFault) × HasFirstFault bytes f) }

@@ -1,10 +1,9 @@
 //! Varints and records of the Protocol Buffers wire format, and the encoding of a tree.
 //!
-//! The format is that of the Protocol Buffers encoding guide. `specs/Records.antt` says what the
-//! records of a byte string are and which fault is the first one; `specs/Encoding.antt` says what
-//! the encoding of a tree is. The calls here read and write one varint or one record. It stands on
-//! the lists of `mrpc_table`. The layers above use one contract: a record is read exactly where one
-//! stands, and else the fault says why none stands there.
+//! The format is that of the Protocol Buffers encoding guide. `specs/Records.antt` defines the records of a byte string
+//! and its first fault, and `specs/Encoding.antt` the encoding of a tree. The calls here read and write one varint or
+//! one record. This crate depends on the lists of `mrpc_table`. The layers above use one contract: a record is read
+//! exactly if there is one, and otherwise the fault is the reason why there is none.
 #![tactic(auto)]
 
 mod fault;

@@ -13,7 +13,7 @@ use crate::fault::{WireFault, WireReason};
 use crate::fixed::{read_fixed32, read_fixed64};
 use crate::varint::read_varint;
 
-/// What a record has behind its tag.
+/// The value of a record, after its tag.
 #[derive(Clone, Copy)]
 pub enum Payload {
     /// Wire type 0: the value of a varint.
@@ -32,16 +32,15 @@ pub struct Record {
     /// The field number, 1 to 536870911.
     pub number: u32,
     pub payload: Payload,
-    /// The place behind the record.
+    /// The offset after the record.
     pub next: usize,
 }
 
-/// The record at the place `at`.
+/// Reads the record at offset `at`.
 ///
-/// The refusals, in this order: the tag is no varint, its value is 2^32 or more, its number is 0,
-/// its wire type is none of 0, 1, 2 and 5, and the payload isn't whole. The fault's place is the
-/// tag's first byte, and for a payload the payload's first byte, which for bytes behind a length is
-/// the first byte of the length.
+/// It checks for these faults, in this order. The tag is no varint, its value is 2^32 or more, its number is 0, its
+/// wire type isn't 0, 1, 2 or 5, or the payload is incomplete. The fault's offset is that of the tag, or for a payload
+/// that of the payload. A payload with a length starts at its length.
 pub fn read_record(bytes: &[u8], at: usize) -> Result<Record, WireFault>
     requires { at ≤ length bytes.now }
     ensures found { IfOk result (λ r. RecordAt bytes.now at r) }
@@ -50,7 +49,7 @@ pub fn read_record(bytes: &[u8], at: usize) -> Result<Record, WireFault>
     ensures within { IfOk result (λ r. r.next ≤ length bytes.now) }
     ensures span { IfOk result (λ r. IsWithin (length bytes.now) r.payload) }
 
-    // Each record is found, and each fault is told.
+    // Each record is found, and so is each fault.
     ensures each { (r : Record) → RecordAt bytes.now at r → result ≡ Ok r }
     ensures each_fault { (f : WireFault) → FaultAt bytes.now at f → result ≡ Err f }
 {
@@ -63,14 +62,14 @@ pub fn read_record(bytes: &[u8], at: usize) -> Result<Record, WireFault>
     })
 }
 
-/// The tag at a place, and the place behind it. The refusals are the first four of `read_record`.
+/// The tag at an offset, and the offset after it. The faults are the first four of `read_record`.
 pub fn read_tag(bytes: &[u8], at: usize) -> Result<(u32, usize), WireFault>
     requires { at ≤ length bytes.now }
     ensures found { IfOk result (λ t. TagAt bytes.now at t.0 t.1) }
     ensures known { IfOk result (λ t. IsWireType (t.0 % 8)) }
     ensures fault { IfErr result (λ f. FaultAt bytes.now at f) }
 
-    // Each tag is found, whatever stands behind it.
+    // Each tag is found, whatever follows it.
     ensures each { (tag start : ℕ) → TagAt bytes.now at tag start → IsWireType (tag % 8) → result ≡ Ok (tag, start) }
 {
     let (tag, start) = read_varint(bytes, at)?;
@@ -95,7 +94,7 @@ pub fn read_tag(bytes: &[u8], at: usize) -> Result<(u32, usize), WireFault>
     }
 }
 
-// The payload of a wire type at a place, and the place behind it.
+// The payload of a wire type at an offset, and the offset after it.
 fn read_payload(bytes: &[u8], start: usize, wire_type: u32) -> Result<(Payload, usize), WireFault>
     requires place { start ≤ length bytes.now }
     requires known { IsWireType wire_type }
@@ -151,8 +150,8 @@ fn len_payload(bytes: &[u8], start: usize) -> Result<(Payload, usize), WireFault
     Ok((Payload::Len { start: first, end }, end))
 }
 
-/// The bytes behind a length that stands at the place `at`: the place of the first one, and the place behind the last
-/// one. The fault's place is `at`.
+/// Reads a length at offset `at`, and returns the range of the bytes after it: the offset of the first, and the offset
+/// after the last. The fault's offset is `at`.
 #[inline(always)]
 pub fn read_delimited(bytes: &[u8], at: usize) -> Result<(usize, usize), WireFault>
     requires { at ≤ length bytes.now }
@@ -169,7 +168,7 @@ pub fn read_delimited(bytes: &[u8], at: usize) -> Result<(usize, usize), WireFau
     Ok((first, first + len as usize))
 }
 
-// The bytes end inside what stands at the place.
+// The fault that the bytes end inside what starts at `place`.
 fn short(place: usize) -> WireFault
     ensures { result ≡ record { reason = Short; place = place } }
 {

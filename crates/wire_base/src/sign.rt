@@ -1,5 +1,5 @@
-//! ZigZag: signed numbers as unsigned ones, small where the number is near 0 (Protocol Buffers,
-//! "Encoding", "Signed Integers").
+//! ZigZag: signed numbers as unsigned ones, small if the number is near 0 (Protocol Buffers, "Encoding", "Signed
+//! Integers").
 
 ghost use Rattle.std.specs.Prelude.{◌≡◌, ℤ, FitsSigned};
 ghost use Rattle.std.specs.Int.{w64, cast_unsigned, cast_signed};

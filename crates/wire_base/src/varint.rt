@@ -1,5 +1,5 @@
-//! Varints: seven bits a byte, low group first, the top bit set on all bytes but the last
-//! (Protocol Buffers, "Encoding", "Base 128 Varints").
+//! Varints: seven bits a byte, low group first, the top bit set on all bytes but the last (Protocol Buffers,
+//! "Encoding", "Base 128 Varints").
 
 ghost use Rattle.std.specs.Prelude.{◌≡◌, ℕ, ◌+◌, ◌<◌, ◌≤◌, ◌^◌, List, ◌++◌, length, take, OnOk, OnErr, IfOk, IfErr};
 ghost use Rattle.wire_base.specs.Encoding.{varint};
@@ -14,7 +14,7 @@ use std::marker::Model;
 /// The most bytes that a varint has.
 pub const MAX_VARINT: usize = 10;
 
-/// The shortest varint of a number. Clauses see its bytes.
+/// The shortest varint of a number. Contracts see its bytes.
 #[derive(Drop)]
 pub struct Spelling {
     bytes: [u8; MAX_VARINT],
@@ -67,7 +67,7 @@ impl Spelling {
     }
 }
 
-/// Appends the shortest varint of `v`. Without memory the list stays.
+/// Appends the shortest varint of `v`. If it is out of memory, the list is unchanged.
 pub fn put_varint(out: &mut Bytes, v: u64) -> Result<(), Memory>
     ensures ok { OnOk result (out.new ≡ out.old ++ varint v) }
     ensures err { OnErr result (out.new ≡ out.old) }
@@ -75,7 +75,7 @@ pub fn put_varint(out: &mut Bytes, v: u64) -> Result<(), Memory>
     out.append(Spelling::of(v).as_slice())
 }
 
-/// Writes the shortest varint of `v` where there is as much room as it needs.
+/// Writes the shortest varint of `v` to a buffer of exactly its length.
 pub fn fill_varint(out: &mut [u8], v: u64)
     requires { length out.old ≡ length (varint v) }
     ensures { out.new ≡ varint v }
@@ -101,7 +101,7 @@ pub fn varint_len(v: u64) -> usize
     }
 }
 
-// The same for a number below 2^28.
+// Like `varint_len`, for a number below 2^28.
 fn short_len(v: u64) -> usize
     requires { v < 2 ^ 28 }
     ensures { result ≡ length (varint v) }
@@ -115,7 +115,7 @@ fn short_len(v: u64) -> usize
     }
 }
 
-// The same for a number of 2^28 or more.
+// Like `varint_len`, for a number of 2^28 or more.
 fn long_len(v: u64) -> usize
     requires { 2 ^ 28 ≤ v }
     ensures { result ≡ length (varint v) }
@@ -131,11 +131,11 @@ fn long_len(v: u64) -> usize
     }
 }
 
-/// The value of the varint at the place `at`, and the place behind it.
+/// The value of the varint at offset `at`, and the offset after it.
 ///
-/// Longer spellings than the shortest are read, and bits above 64 are dropped. The fault's place is
-/// `at`; its reason is `Varint` exactly where ten bytes with the top bit set stand there, and
-/// `Short` exactly where the bytes end after fewer than ten such bytes.
+/// Longer spellings than the shortest are read, and bits above 64 are dropped. The fault's offset is `at`. Its reason
+/// is `Varint` exactly if ten bytes with the top bit set are there, and `Short` exactly if the bytes end after fewer
+/// than ten such bytes.
 pub fn read_varint(bytes: &[u8], at: usize) -> Result<(u64, usize), WireFault>
     requires { at ≤ length bytes.now }
     ensures found { IfOk result (λ r. VarintAt bytes.now at r.0 r.1) }
@@ -143,7 +143,7 @@ pub fn read_varint(bytes: &[u8], at: usize) -> Result<(u64, usize), WireFault>
     ensures ahead { IfOk result (λ r. at < r.1) }
     ensures within { IfOk result (λ r. r.1 ≤ length bytes.now) }
 
-    // Each varint is found, and each fault is told.
+    // Each varint is found, and so is each fault.
     ensures each { (v next : ℕ) → VarintAt bytes.now at v next → result ≡ Ok (v, next) }
     ensures each_fault { (reason : WireReason) → NoVarintAt bytes.now at reason
         → result ≡ Err (record { reason = reason; place = at }) }
@@ -154,7 +154,7 @@ pub fn read_varint(bytes: &[u8], at: usize) -> Result<(u64, usize), WireFault>
     }
 }
 
-// The same, a byte at a time.
+// Like `read_varint`, a byte at a time.
 fn read_long(bytes: &[u8], at: usize) -> Result<(u64, usize), WireFault>
     requires { at ≤ length bytes.now }
     ensures found { IfOk result (λ r. VarintAt bytes.now at r.0 r.1) }

@@ -54,7 +54,7 @@ pub most-pushed : (m n : ℕ) (c : Content) (t : Node) → n ≤ m → NumbersAr
 most-pushed m n c no_fields le h = (le, tt)
 most-pushed m n c (field k d t) le h = (h.0, most-pushed m n c t le h.1)
 
--- the last number stays where the last content is another one
+-- the number of the last field is unchanged by another content
 pub rise_from-swapped : (last n : ℕ) (c d : Content) (t : Node) → NumbersAscend last (push_field t n c) → NumbersAscend last (push_field t n d)
 rise_from-swapped last n c d no_fields h = h
 rise_from-swapped last n c d (field m e t) h = (h.0, rise_from-swapped m n c d t h.1)
@@ -67,7 +67,7 @@ pub most-swapped : (m n : ℕ) (c d : Content) (t : Node) → NumbersAreAtMost m
 most-swapped m n c d no_fields h = h
 most-swapped m n c d (field k e t) h = (h.0, most-swapped m n c d t h.1)
 
--- where the last number is another one, all are below the number that is added
+-- if the last number is another one, all are below the number that is added
 below-from : (last n m : ℕ) (c : Content) (t : Node) → NumbersAscend last (push_field t m c) → m < n → AreBelow n (push_field t m c)
 below-from last n m c no_fields h less = (less, tt)
 below-from last n m c (field k d t) h less =
@@ -120,7 +120,7 @@ added-at form old old' n c new new' e f h =
     let Q : Node → Type 0 = λ t. HasOneMore form old' n c t in
     subst P (sym e) (subst Q (sym f) h)
 
--- the parts that were gathered, and one more
+-- the parts that were combined, and one more
 most-split : (m n : ℕ) (c : Content) (t : Node) → NumbersAreAtMost m (push_field t n c) → (n ≤ m) × NumbersAreAtMost m t
 most-split m n c no_fields h = (h.0, tt)
 most-split m n c (field k d t) h = let rest = most-split m n c t h.1 in (rest.0, (h.0, rest.1))

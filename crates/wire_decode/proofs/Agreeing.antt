@@ -1,4 +1,4 @@
--- What bytes mean, rule by rule, is what their contents are merged to.
+-- The meaning of bytes, rule by rule, is the message that their contents are merged to.
 use Rattle.std.proofs.Common.{◌≡◌, ◌≢◌, ℕ, zero, suc, List, [], ◌∷◌, ◌++◌, map, Option, Some, None, true, false, refl, ap, sym, subst, ◌∙◌, arith, append-nil}
 use Rattle.mrpc_table.specs.Node.{Node, Content, one, many, pairs, Item, number, run, node}
 use Rattle.mrpc_table.specs.Normal.{fields_of}
@@ -181,7 +181,7 @@ is-message T room inside label k i v c outside kind room_is (alike_message m dee
     }
 is-message T room inside label k i v c outside kind room_is (alike_entry key bytes t map_is e reads is) = absurd (map-clash label key outside map_is)
 
--- the payloads joined, and their contents
+-- the payloads concatenated, and their contents
 joined-alike : (T : Table) (room inside : ℕ) (label : Label) (k : Kind) (i : ℕ) (vs : List Value) (cs : List Content)
     → is_map label ≡ false → k ≡ OfMessage i → room ≡ suc inside → AllAlike T room label k vs cs
     → Reads T inside (fields_of T i) (joined_payloads vs) 0 (joined (singles_in cs))
@@ -196,7 +196,7 @@ joined-alike T room inside label k i (v ∷ vs) (c ∷ cs) outside kind room_is 
     subst (λ (x : Value). Reads T inside (fields_of T i) (joined_payloads (x ∷ vs)) 0 (joined (singles_in (c ∷ cs)))) (sym m.value)
     (subst (λ (x : Content). Reads T inside (fields_of T i) (joined_payloads (delimited m.bytes ∷ vs)) 0 (joined (singles_in (x ∷ cs)))) (sym m.content) here)
 
--- what a message is merged to
+-- the result of merging a message
 taken-room : (T : Table) (room inside i : ℕ) (raw : Node) → room ≡ suc inside → merged_taken T room i raw ≡ meaning T inside (fields_of T i) raw
 taken-room T room inside i raw e = ap (λ x. merged_taken T x i raw) e ∙ taken-suc T inside i raw
 
@@ -259,7 +259,7 @@ items-to T room label k (v ∷ vs) (c ∷ cs) inner list h =
     (items-of T room label k v c inner list h.0) (items-to T room label k vs cs inner list h.1)
     (values-split f c cs)
 
--- a message that means two is one
+-- the items of a value that is one message
 message-items : Law → (T : Table) (room inside i : ℕ) (k : Kind) (v : Value) (bytes : List ℕ) (t : Node)
     (is : List Item) → Inner T room → k ≡ OfMessage i → room ≡ suc inside → v ≡ delimited bytes
     → Reads T inside (fields_of T i) bytes 0 t → ValueMeans T room k v is → is ≡ node (meaning T inside (fields_of T i) t) ∷ []

@@ -56,7 +56,7 @@ AllAlike T room label k [] (c ∷ cs) = ⊥
 AllAlike T room label k (v ∷ vs) [] = ⊥
 AllAlike T room label k (v ∷ vs) (c ∷ cs) = Alike T room label k v c × AllAlike T room label k vs cs
 
--- the values of fields of these, and the contents
+-- each value corresponds to the content at the same index
 abbrev pub Match : Table → ℕ → List Field → List (ℕ × Value) → Node → Type 0
 Match T room fs [] no_fields = Unit {0}
 Match T room fs [] (field n c t) = ⊥
@@ -139,13 +139,13 @@ match-but T room f fs (w ∷ ws) (field m c t) h =
     in
     but-go T room fs w (values_but f.number ws) m c (contents_but f.number t) (w.0 == f.number) (m == f.number) (ap (λ x. x == f.number) h.0) h.0 found (match-but T room f fs ws t h.2)
 
--- ---- what agrees
+-- ---- the relation between meaning and merging
 
 pub record Agree (T : Table) (room : ℕ) (fs : List Field) : Type 0 where
   pub to : (bytes : List ℕ) (raw : Node) → Reads T room fs bytes 0 raw → MeansIn T room fs bytes (meaning T room fs raw)
   pub back : (bytes : List ℕ) (t : Node) → MeansIn T room fs bytes t → (raw : Node) × Reads T room fs bytes 0 raw × (t ≡ meaning T room fs raw)
 
--- messages inside, and entries
+-- nested messages, and entries
 abbrev pub Inner : Table → ℕ → Type 0
 Inner T room = (inside i : ℕ) → room ≡ suc inside → Agree T inside (fields_of T i)
 

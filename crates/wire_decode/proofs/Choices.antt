@@ -42,7 +42,7 @@ tells : (b : Bool) → (b ≡ true) ⊎ (b ≡ false)
 tells true = inl refl
 tells false = inr refl
 
--- ---- the elements of a packed piece
+-- ---- the elements of a packed payload
 
 fixed-known : (w : ℕ) → IsFixedOrVarint w → IsWireType w
 fixed-known w h = ⊎_elim (λ e. inl e) (λ t. ⊎_elim (λ e. inr (inl e)) (λ e. inr (inr (inr e))) t) h
@@ -50,13 +50,13 @@ fixed-known w h = ⊎_elim (λ e. inl e) (λ t. ⊎_elim (λ e. inr (inl e)) (λ
 abbrev ElementsOr : Kind → List ℕ → ℕ → Type 0
 ElementsOr k bytes at = ((ws : List ℕ) × AreElements k bytes at ws) ⊎ ((ws : List ℕ) → AreElements k bytes at ws → ⊥)
 
--- no element stands at a place in front of the end
+-- there is no element at an offset before the end
 no_first : (k : Kind) (bytes : List ℕ) (at : ℕ) → at < length bytes → ((p : Payload) (next : ℕ) → PayloadAt bytes at (wire_type_of k) p next → ⊥)
     → (ws : List ℕ) → AreElements k bytes at ws → ⊥
 no_first k bytes at more none [] h = omega (arith, more, h)
 no_first k bytes at more none (w ∷ ws) h = none h.0 h.1 h.2
 
--- behind the one element that stands there no others do
+-- no further elements follow the only one there
 no_rest : Law → (k : Kind) (bytes : List ℕ) (at : ℕ) (p : Payload) (next : ℕ) → at < length bytes → PayloadAt bytes at (wire_type_of k) p next
     → ((ws : List ℕ) → AreElements k bytes next ws → ⊥) → (ws : List ℕ) → AreElements k bytes at ws → ⊥
 no_rest law k bytes at p next more here none [] h = omega (arith, more, h)
@@ -90,7 +90,7 @@ ReadsOr T room fs bytes at = ((t : Node) × Reads T room fs bytes at t) ⊎ ((re
 abbrev HoldsOr : Table → ℕ → Label → Kind → List ℕ → Payload → Type 0
 HoldsOr T room label k bytes p = ((c : Content) × Holds T room label k bytes p c) ⊎ ((reason : DecodeReason) × (place : ℕ) × Fails T room label k bytes p reason place)
 
--- so many bytes at most can be told
+-- bytes of at most this length are read or have a fault
 abbrev Reader : Table → ℕ → Type 0
 Reader T left = (room : ℕ) (fs : List Field) (bytes : List ℕ) (at : ℕ) → at ≤ length bytes → length bytes ≤ at + left → ReadsOr T room fs bytes at
 
@@ -101,7 +101,7 @@ room-or room k =
     (λ no. inl (λ e. absurd (let clash : true ≡ false = sym e ∙ no in cc)))
     (tells (is_message k))
 
--- the bytes of a payload, cut behind it
+-- the bytes of a payload, cut after it
 cut-within : (bytes : List ℕ) (s e : ℕ) → IsWithin (length bytes) (Len s e) → s ≤ length (take e bytes)
 cut-within bytes s e within = omega (arith, within.0, length-take-le e bytes within.1)
 

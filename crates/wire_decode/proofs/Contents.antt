@@ -1,4 +1,4 @@
--- What a payload of a field has, from what the readers of payloads find.
+-- The content of a payload of a field, from the results of the readers of payloads.
 use Rattle.std.proofs.Common.{◌≡◌, ◌≢◌, ℕ, ◌&&◌, ◌==◌, List, take, Some, None, Bool, true, false, Result, refl, ap, sym, subst, ◌∙◌, arith, ⊎_elim}
 use Rattle.std.specs.Option.{option_map, unwrap_or}
 use Rattle.std.specs.Result.{IfOk, IfErr}
@@ -121,19 +121,19 @@ pub message-fails : (T : Table) (room : ℕ) (label : Label) (i : ℕ) (bytes : 
 message-fails T room label i bytes s e reason place single (inner_fault inside more h) = in_message inside i s e single refl refl more h
 message-fails T room label i bytes s e reason place single (inner_room none is at) = too_deep i e single refl (ap (λ x. Len x e) (sym at)) none is
 
--- a record is of no field that is read from its payload
+-- a record without a field that is read from its payload
 pub unknown : (fs : List Field) (r : Record) → field_at fs r.number ≡ None → is_known fs r ≡ false
 unknown fs r e = ap (λ o. unwrap_or (option_map (λ f. suits f.label f.kind r.payload) o) false) e
 
 pub unsuited : (fs : List Field) (r : Record) (f : Field) → field_at fs r.number ≡ Some f → suits f.label f.kind r.payload ≡ false → is_known fs r ≡ false
 unsuited fs r f e s = ap (λ o. unwrap_or (option_map (λ f. suits f.label f.kind r.payload) o) false) e ∙ s
 
--- the answers of the reader of one kind of payload, as those of the reader of payloads
+-- the results of the reader of one kind of payload, as those of the reader of payloads
 pub record Answers (T : Table) (room : ℕ) (label : Label) (k : Kind) (bytes : List ℕ) (p : Payload) (r : Result FieldValue DecodeFault) : Type 0 where
   pub found : IfOk r (λ c. Holds T room label k bytes p (content_of c))
   pub fault : IfErr r (FaultsAs (λ reason place. Fails T room label k bytes p reason place))
 
--- the answers, where the label, the kind and the payload are known by equations
+-- the results, if the label, the kind and the payload are known by equations
 pub answers-at : (T : Table) (room : ℕ) (label l : Label) (k j : Kind) (bytes : List ℕ) (p q : Payload)
     (r : Result FieldValue DecodeFault) → label ≡ l → k ≡ j → p ≡ q → Answers T room l j bytes q r
     → Answers T room label k bytes p r

@@ -1,4 +1,4 @@
--- The elements of a packed piece, one more at a time.
+-- The elements of a packed payload, one more at a time.
 use Rattle.std.proofs.Common.{◌≡◌, ◌≢◌, ℕ, ◌<◌, List, [], ◌∷◌, ◌++◌, length, Option, Some, None, true, refl, ap}
 use Rattle.std.proofs.Common.{subst, ◌∙◌, arith, append-nil, inl, inr, ⊎_elim}
 use Rattle.std.specs.Option.{IfSome}
@@ -55,7 +55,7 @@ pub numbers-last : (ws : List ℕ) (w : ℕ) → numbers (ws ++ w ∷ []) ≡ pu
 numbers-last [] w = refl
 numbers-last (v ∷ vs) w = ap (item (number v)) (numbers-last vs w)
 
--- elements that were read, with what is still to come
+-- elements that were read, with those that remain
 pub record SoFar (k : Kind) (bytes : List ℕ) (start at : ℕ) (done : List ℕ) : Type 0 where
   pub front : (ws : List ℕ) → AreElements k bytes at ws → AreElements k bytes start (done ++ ws)
   pub back : (ws : List ℕ) → AreElements k bytes start ws → (rest : List ℕ) × AreElements k bytes at rest
@@ -67,7 +67,7 @@ append_one : (done : List ℕ) (w : ℕ) (ws : List ℕ) → done ++ w ∷ ws �
 append_one [] w ws = refl
 append_one (d ∷ ds) w ws = ap (λ xs. d ∷ xs) (append_one ds w ws)
 
--- behind an element stand the other elements
+-- the other elements follow an element
 rest-behind : OnePayload → (k : Kind) (bytes : List ℕ) (at : ℕ) (e : ℕ × ℕ) (rest : List ℕ) → at < length bytes
     → IsElement bytes at (wire_type_of k) e → AreElements k bytes at rest
     → (tail : List ℕ) × AreElements k bytes e.1 tail

@@ -1,4 +1,4 @@
--- Each record of an encoding counts, and those of a number are of the content of that number.
+-- Each record of an encoding counts, and those of a number have the content of that number.
 use Rattle.std.proofs.Common.{◌≡◌, ◌≢◌, ℕ, ◌≤◌, ◌==◌, ◌&&◌, ◌||◌, List, [], ◌∷◌, ◌++◌, Option, Some, None, Bool, true}
 use Rattle.std.proofs.Common.{false, not, cond, refl, ap, sym, subst, ◌∙◌, arith, append-nil, ⊎_elim}
 use Rattle.std.proofs.lemmas.Bool.{eq-eqb}
@@ -160,7 +160,7 @@ counted-join fs n (field m c t) u of quiet rest =
 members-fewer : (fs : List Field) (n : ℕ) (c : Content) (t : Node) (f : Field) → field_at fs n ≡ Some f → OneMemberEach fs (field n c t) → OneMemberEach fs t
 members-fewer fs n c t f found h o = let e = members-first fs o n f c t found in let most = h o in omega (arith, e, most)
 
--- where each oneof has one member, each record counts
+-- if each oneof has one member, each record counts
 pub counted-raw : (T : Table) (fs : List Field) (last : ℕ) (t : Node) → HasFields T fs last t → OneMemberEach fs t → counted fs (raw_fields T fs t) ≡ raw_fields T fs t
 counted-raw T fs last no_fields h members = refl
 counted-raw T fs last (field n c t) h members =

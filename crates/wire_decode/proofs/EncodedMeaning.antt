@@ -39,7 +39,7 @@ use Rattle.wire_decode.proofs.Stands.{stands-whole}
 use Rattle.wire_decode.proofs.EncodedReads.{found-field, is-packed, kind-found, label-found, fields-reads, depth-positive, raw_entry}
 use Rattle.wire_decode.proofs.EncodedCounts.{field-of, none-below, contents-first, contents-later, counted-raw}
 
--- what messages inside become
+-- how nested messages are merged
 record Inner (T : Table) (room : ℕ) (inner : ℕ → Node → Node) : Type 0 where
   each : (inside i : ℕ) (t : Node) → room ≡ suc inside → FitsWithin T i room t → inner i (raw_fields T (fields_of T i) t) ≡ t
 
@@ -47,7 +47,7 @@ numeric-plain : (k : Kind) → is_numeric k ≡ true → is_message k ≡ false
 numeric-plain (OfMessage i) h = absurd (cc)
 numeric-plain _ h = refl
 
--- a value comes back
+-- a value is read back
 item-back : (T : Table) (room : ℕ) (inner : ℕ → Node → Node) (k : Kind) (i : Item) → Inner T room inner → IsItem T k i
     → item_depth i ≤ suc room → element inner k (raw_item T k i) ≡ i
 item-back T room inner k (number n) back h d = element-same inner k (number n) (word-plain k n h)
@@ -82,7 +82,7 @@ one-back inner Repeated k i j takes e = absurd takes
 one-back inner Packed k i j takes e = absurd takes
 one-back inner (Map key) k i j takes e = absurd takes
 
--- a list comes back
+-- a list is read back
 items-back : (is : Items) → items_from (items_in is) ≡ is
 items-back no_items = refl
 items-back (item i is) = ap (item i) (items-back is)
@@ -126,7 +126,7 @@ many-back : (inner : ℕ → Node → Node) (n : ℕ) (k : Kind) (is : Items) (b
 many-back inner n k is true t plain rest = piece-back inner n k is (plain refl)
 many-back inner n k is false t plain rest = rest
 
--- a map comes back
+-- a map is read back
 abbrev pairs_in : Pairs → List (Item × Item)
 pairs_in no_pairs = []
 pairs_in (pair i j ps) = (i, j) ∷ pairs_in ps
@@ -189,7 +189,7 @@ map-back : (inner : ℕ → Node → Node) (label : Label) (key k : Kind) (cs : 
 map-back inner label key k cs ps e some ascend is =
     ap (λ l. field_content inner l k cs) e ∙ ap (λ es. some_pairs (last_of_each key es)) is ∙ ap some_pairs (last-back key ps ascend) ∙ pairs-back ps some
 
--- what a field has comes back
+-- the content of a field is read back
 content-back : (T : Table) (room : ℕ) (inner : ℕ → Node → Node) (fs : List Field) (n : ℕ) (f : Field) (c : Content)
     → Inner T room inner → AreFieldsFrom 0 fs → field_at fs n ≡ Some f → HasContent T fs n c
     → content_depth c ≤ suc room → field_content inner f.label f.kind (contents_of n (raw_content T fs n c)) ≡ Some c
@@ -227,7 +227,7 @@ content-back T room inner fs n f (pairs ps) back are found h d =
     map-back inner g.label h.1 g.kind (contents_of n (raw_content T fs n (pairs ps))) ps h.3 h.4 h.6 entries in
     subst (λ (x : Field). field_content inner x.label x.kind (contents_of n (raw_content T fs n (pairs ps))) ≡ Some (pairs ps)) same here
 
--- fields above a number don't see its records
+-- fields above a number ignore its records
 fields-skip : (T : Table) (inner : ℕ → Node → Node) (all : List Field) (n last : ℕ) (c : Content) (t : Node)
     (fs : List Field) → n ≤ last → AreFieldsFrom last fs
     → with_fields inner (raw_fields T all (field n c t)) fs ≡ with_fields inner (raw_fields T all t) fs
@@ -285,7 +285,7 @@ inner-back : (T : Table) (room : ℕ) → IsUsableTable T → Inner T room (merg
 inner-back T zero usable = record { each = λ inside i t e h. absurd (omega (arith, e)) }
 inner-back T (suc room) usable = record { each = λ inside i t e h. merged-step T room usable (inner-back T room usable) i t h }
 
--- what is encoded means the tree
+-- the encoding means the tree
 pub encoded-meaning : ReadsBack → (T : Table) (msg : ℕ) (t : Node) → IsUsableTable T → IsNormal T msg t → length (encoding T msg t) < 2 ^ 64 → Merges T msg (encoding T msg t) t
 encoded-meaning back_read T msg t usable h few =
     let fs = fields_of T msg in

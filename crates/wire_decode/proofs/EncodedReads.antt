@@ -83,7 +83,7 @@ pub depth-positive : (t : Node) → 0 < depth t
 depth-positive no_fields = omega arith
 depth-positive (field n c t) = let d = depth-positive t in omega (arith, d)
 
--- one record more in front
+-- one more record before the others
 record-read : ReadsBack → (T : Table) (room : ℕ) (fs : List Field) (n : ℕ) (f : Field) (bytes : List ℕ) (at w : ℕ)
     (body : List ℕ) (p : Payload) (c : Content) → field_at fs n ≡ Some f → 0 < n → n < 2 ^ 29 → w < 8
     → Stands bytes at (tag n w ++ body)
@@ -126,13 +126,13 @@ elements-stand back_read T k bytes at (item (number n) is) numeric h stands ends
 elements-stand back_read T k bytes at (item (run bytes') is) numeric h stands ends = absurd (let bad : true ≡ false = sym numeric ∙ run-not_numeric k bytes' h.0 in cc)
 elements-stand back_read T k bytes at (item (node t) is) numeric h stands ends = absurd (let bad : true ≡ false = sym numeric ∙ ap is_numeric h.0.1 in cc)
 
--- a value's payload stands at a place
+-- the payload of a value is at an offset
 record ItemAt (T : Table) (room : ℕ) (label : Label) (k : Kind) (bytes : List ℕ) (at : ℕ) (i : Item) : Type 0 where
   payload : Payload
   stands : PayloadAt bytes at (wire_type_of k) payload (at + length (item_bytes T k i))
   holds : Holds T room label k bytes payload (one (raw_item T k i))
 
--- records from a place to another are read as these contents, with those behind them
+-- records from one offset to another are read as these contents, followed by those after them
 abbrev AreReadInFront : Table → ℕ → List Field → List ℕ → ℕ → ℕ → Node → Type 0
 AreReadInFront T room fs bytes at next raw = (t : Node) → Reads T room fs bytes next t → Reads T room fs bytes at (join_fields raw t)
 
@@ -184,7 +184,7 @@ run-item back_read T room label k bytes at text single few h stands =
 abbrev inner_bytes : Table → Kind → Node → List ℕ
 inner_bytes T k t = fields_bytes T (fields_of T (nested_message k)) t
 
--- a message, whose records are read
+-- a nested message, whose records are read
 message-item : ReadsBack → (T : Table) (room inside : ℕ) (label : Label) (k : Kind) (bytes : List ℕ) (at : ℕ)
     (t : Node) (i : ℕ) → is_map label ≡ false → length bytes < 2 ^ 64 → k ≡ OfMessage i → room ≡ suc inside
     → Stands bytes at (delimited (inner_bytes T k t))
@@ -208,7 +208,7 @@ message-item back_read T room inside label k bytes at t i single few kind has_ro
       holds = holds_message inside (nested_message k) start end raw single named refl has_room reads refl;
     }
 
--- the value of an entry has room
+-- the value of an entry is within the depth
 value-room : (T : Table) (room : ℕ) (k : Kind) (i : Item) → IsItem T k i → item_depth i ≤ suc room → HasRoom room k
 value-room T room k (number n) h d e = absurd (let a : true ≡ false = sym e ∙ word-plain k n h in cc)
 value-room T room k (run bytes) h d e = absurd (let a : true ≡ false = sym e ∙ run-plain k bytes h in cc)

@@ -1,4 +1,4 @@
--- The place of a fault is within the bytes.
+-- The offset of a fault is within the bytes.
 use Rattle.std.proofs.Common.{ℕ, ◌≤◌, List, length, take, subst, arith}
 use Rattle.std.proofs.lemmas.List.{length-take}
 use Rattle.mrpc_table.specs.declared.table.Kind.{Kind}
@@ -12,7 +12,7 @@ use Rattle.wire_decode.proofs.Payloads.{PayloadAt-span}
 use Rattle.wire_decode.specs.declared.fault.DecodeReason.{DecodeReason}
 use Rattle.wire_decode.specs.FaultWalk.{MeetsFault, no_record, behind_other, behind_known, in_payload, Fails, no_elements, no_text, too_deep, in_message, in_entry, no_room}
 
--- a record fault stands where bytes are read, or right behind a tag
+-- the fault of a record is where bytes are read, or directly after a tag
 wire_place : (bytes : List ℕ) (at : ℕ) (f : WireFault) → at ≤ length bytes → FaultAt bytes at f → f.place ≤ length bytes
 wire_place bytes at f h (no_tag p _) = omega (arith, h, p)
 wire_place bytes at f h (tag_range tag start p _ _ _) = omega (arith, h, p)
@@ -20,11 +20,11 @@ wire_place bytes at f h (number_zero tag start p _ _ _ _) = omega (arith, h, p)
 wire_place bytes at f h (wire_type tag start p _ _ _) = omega (arith, h, p)
 wire_place bytes at f h (no_payload tag start p t _) = let w = t.stands.within in omega (arith, w, p)
 
--- the place is within a front of the bytes, and so within the bytes
+-- an offset within a prefix of the bytes is within the bytes
 within-take : (bytes : List ℕ) (end place : ℕ) → place ≤ length (take end bytes) → place ≤ length bytes
 within-take bytes end place h = omega (arith, h, length-take end bytes)
 
--- a span that is within the bytes begins within a front of them that ends where it does
+-- a range within the bytes starts within the prefix that ends with it
 mutual
   faults_place : {T : Table} {room : ℕ} {fs : List Field} {bytes : List ℕ} {at : ℕ} {reason : DecodeReason} {place : ℕ}
       → MeetsFault T room fs bytes at reason place → place ≤ length bytes

@@ -1,4 +1,4 @@
--- A fault as another one.
+-- A fault under another relation.
 use Rattle.std.proofs.Common.{ℕ}
 use Rattle.wire_decode.specs.declared.fault.DecodeFault.{DecodeFault}
 use Rattle.wire_decode.specs.declared.fault.DecodeFault.TheVariants.{At, Memory}

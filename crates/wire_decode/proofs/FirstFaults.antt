@@ -1,4 +1,4 @@
--- The first fault, as it is found by walking over the records, and as it is said.
+-- The first fault, as a walk over the records reaches it, and by its definition.
 use Rattle.std.proofs.Common.{◌≡◌, ℕ, ◌%◌, List, [], ◌∷◌, length, take, Some, refl, sym, subst}
 use Rattle.std.specs.List.{slice_range}
 use Rattle.mrpc_table.specs.Node.{Node, Content}
@@ -25,7 +25,7 @@ use Rattle.wire_decode.specs.Faults.{first_fault, IsFault, no_record_there, not_
 use Rattle.wire_decode.specs.Faults.{message_too_deep, inside_message, inside_entry, default_too_deep}
 use Rattle.wire_decode.specs.declared.fault.DecodeReason.{DecodeReason}
 
--- one sound record more in front
+-- one more valid record before the others
 in-front : {T : Table} {room : ℕ} {fs : List Field} {bytes : List ℕ} {from : ℕ} {reason : DecodeReason} {place : ℕ} (r : Record)
     → RecordAt bytes from r → IsSound T room fs bytes r → FirstFault T room fs bytes r.next reason place → FirstFault T room fs bytes from reason place
 in-front r here sound (first_fault before at records fault) = first_fault (r ∷ before) at (here, sound, records) fault
@@ -39,7 +39,7 @@ has-payload fs bytes at r f s e here at_f is = record {
   known = at_f;
 }
 
--- the agreement of what stands inside
+-- the agreement for nested messages
 inner-of : Law → (T : Table) (room : ℕ) → Inner T room
 inner-of law T room = λ inside i e. agree law T inside (fields_of T i)
 

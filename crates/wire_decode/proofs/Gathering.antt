@@ -1,4 +1,4 @@
--- Two contents of a field in one content.
+-- Two contents of a field combined into one.
 use Rattle.std.proofs.Common.{◌≡◌, ℕ, List, [], ◌∷◌, ◌++◌, map, Some, Bool, true, false, refl, ap, sym, subst, ◌∙◌, append_assoc, append-nil}
 use Rattle.mrpc_table.specs.Node.{Node, no_fields, field, Content, one, many, pairs, Item, number, run, node}
 use Rattle.mrpc_table.specs.View.{item_of, items_of, content_of, node_of}

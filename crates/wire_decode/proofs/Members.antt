@@ -1,4 +1,4 @@
--- Records that count leave each oneof one member.
+-- The records that count leave each oneof at most one member.
 use Rattle.std.proofs.Common.{◌≡◌, ◌≢◌, ℕ, ◌+◌, ◌<◌, ◌≤◌, ◌⊎◌, ◌==◌, ◌&&◌, ◌||◌, List, [], ◌∷◌, Option, Some, None}
 use Rattle.std.proofs.Common.{Bool, true, false, not, cond, refl, ap, sym, subst, ◌∙◌, arith, inl, inr, ⊎_elim}
 use Rattle.std.proofs.Common.{option_map, unwrap_or}
@@ -17,7 +17,7 @@ use Rattle.wire_decode.proofs.Merging.{content-none}
 use Rattle.wire_decode.proofs.Oneofs.{oneof-found}
 use Rattle.wire_decode.proofs.UsableTables.{AreFieldsFrom, IsRest, rest-first, rest-more}
 
--- no other member's record stands behind one that counts
+-- no record of another member follows one that counts
 abbrev pub HasNoRivals : List Field → Node → Type 0
 HasNoRivals fs no_fields = Unit {0}
 HasNoRivals fs (field n c t) = (is_overtaken fs n t ≡ false) × HasNoRivals fs t
@@ -31,7 +31,7 @@ fewer-go : (fs : List Field) (n m : ℕ) (c : Content) (u : Node) (b : Bool) →
 fewer-go fs n m c u true a h = h
 fewer-go fs n m c u false a h = ap (λ x. x || is_overtaken fs n u) a ∙ h
 
--- what isn't overtaken isn't by those that count
+-- a record that isn't overtaken by all records isn't overtaken by those that count
 fewer-overtake : (fs : List Field) (n : ℕ) (t : Node) → is_overtaken fs n t ≡ false → is_overtaken fs n (counted fs t) ≡ false
 fewer-overtake fs n no_fields h = refl
 fewer-overtake fs n (field m c t) h =
@@ -48,7 +48,7 @@ pub counted-no_rivals : (fs : List Field) (t : Node) → HasNoRivals fs (counted
 counted-no_rivals fs no_fields = tt
 counted-no_rivals fs (field n c t) = counted-go fs n c t (counted fs t) (is_overtaken fs n t) refl (fewer-overtake fs n t) (counted-no_rivals fs t)
 
--- a rival has no record behind
+-- a rival has no later record
 none-behind : (fs : List Field) (n m : ℕ) (t : Node) → are_rivals fs n m ≡ true → is_overtaken fs n t ≡ false → contents_of m t ≡ []
 none-behind fs n m no_fields rivals h = refl
 none-behind fs n m (field k c t) rivals h =
@@ -58,7 +58,7 @@ none-behind fs n m (field k c t) rivals h =
     (λ s. contents-other m k c t (λ e. s.1 (sym e)) ∙ none-behind fs n m t rivals parts.1)
     (eqb_tells k m)
 
--- of two rivals one has no record
+-- one of two rivals has no record
 pub rival-none : (fs : List Field) (n m : ℕ) (t : Node) → n ≢ m → are_rivals fs n m ≡ true → are_rivals fs m n ≡ true
     → HasNoRivals fs t → contents_of n t ≢ [] → contents_of m t ≡ []
 rival-none fs n m no_fields differ a b h some = refl

@@ -1,4 +1,4 @@
--- What a field has, from its contents in one.
+-- The content of a field, from its combined contents.
 use Rattle.std.proofs.Common.{◌≡◌, ◌≢◌, ℕ, zero, suc, ◌+◌, ◌<◌, ◌≤◌, List, [], ◌∷◌, ◌++◌, map, length, Option, Some}
 use Rattle.std.proofs.Common.{None, false, refl, ap, sym, subst, ◌∙◌, arith, append-nil, ⊎_elim}
 use Rattle.std.specs.Option.{option_and_then, unwrap_or}
@@ -104,7 +104,7 @@ content-none inner Repeated k = refl
 content-none inner Packed k = refl
 content-none inner (Map key) k = refl
 
--- fields above a number don't see its content
+-- fields above a number ignore its content
 fields-skip : (inner : ℕ → Node → Node) (n : ℕ) (c : Content) (t : Node) (fs : List Field) → AreAbove n fs → with_fields inner (field n c t) fs ≡ with_fields inner t fs
 fields-skip inner n c t [] h = refl
 fields-skip inner n c t (f ∷ fs) h =
@@ -115,7 +115,7 @@ pub fields-empty : (inner : ℕ → Node → Node) (fs : List Field) → with_fi
 fields-empty inner [] = refl
 fields-empty inner (f ∷ fs) = ap (λ o. with_content f.number o (with_fields inner no_fields fs)) (content-none inner f.label f.kind) ∙ fields-empty inner fs
 
--- numbers above the first field don't see it
+-- numbers above the first field don't affect it
 finished-skip : (inner : ℕ → Node → Node) (f : Field) (fs : List Field) (t : Node) → NumbersAscend f.number t → finished_of inner (f ∷ fs) t ≡ finished_of inner fs t
 finished-skip inner f fs no_fields h = refl
 finished-skip inner f fs (field n c t) h =
@@ -202,7 +202,7 @@ finished-all (suc fuel) inner (f ∷ fs) (field n c t) le a r =
     (finished-all fuel inner fs (field n c t) (omega (arith, le)) (first-least f fs a) r)
     (finished-all fuel inner (f ∷ fs) t (omega (arith, le)) a (rise-tail n t r))
 
--- each field means what its contents meant before they were gathered
+-- each field means what its contents meant before they were combined
 fields-gathered : (inner : ℕ → Node → Node) (all fs : List Field) (raw held : Node) → IsGathered all raw held
     → ((f : Field) → (n : ℕ) → field_at fs n ≡ Some f → field_at all n ≡ Some f) → FieldsAscend fs
     → with_fields inner held fs ≡ with_fields inner raw fs
@@ -240,7 +240,7 @@ pub merged-suc : (T : Table) (d i : ℕ) (raw : Node) → merged T (suc d) i raw
 unfolding merged
 merged-suc T d i raw = refl
 
--- the contents that count, sorted, gathered and finished are the message
+-- the contents that count, sorted, combined and finished are the message
 pub finished-merged : (T : Table) (d i : ℕ) (fs : List Field) (raw kept sorted held whole : Node) → fs ≡ fields_of T i
     → FieldsAscend fs → kept ≡ counted fs raw → ((n : ℕ) → contents_of n sorted ≡ contents_of n kept)
     → IsGathered fs sorted held → whole ≡ finished_of (merged T d) fs held → whole ≡ merged T (suc d) i raw

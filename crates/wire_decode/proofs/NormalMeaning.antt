@@ -1,4 +1,4 @@
--- What sound records mean is a normal tree.
+-- Valid records mean a normal tree.
 use Rattle.std.proofs.Common.{◌≡◌, ◌≢◌, ℕ, zero, suc, ◌<◌, ◌≤◌, List, [], ◌∷◌, map, Option, Some, None, Bool, true}
 use Rattle.std.proofs.Common.{false, cond, refl, ap, sym, subst, ◌∙◌, arith, inl, inr, ⊎_elim, ◌⊎◌, IfSome, unwrap_or}
 use Rattle.std.proofs.lemmas.Bool.{eq-eqb}
@@ -38,11 +38,11 @@ use Rattle.wire_decode.proofs.Plainness.{not_message}
 use Rattle.std.specs.List.{AllByRecursion}
 use Rattle.wire_decode.proofs.Members.{counted-no_rivals, members-one}
 
--- a value of the kind, as deep as there is room for
+-- a value of the kind, within the depth
 abbrev GoodItem : Table → Kind → ℕ → Item → Type 0
 GoodItem T k room i = IsItem T k i × (item_depth i ≤ room)
 
--- what messages inside become
+-- how nested messages are merged
 record Inner (T : Table) (room : ℕ) (inner : ℕ → Node → Node) : Type 0 where
   each : (inside i : ℕ) (u : Node) → room ≡ suc inside → SoundNode T inside (fields_of T i) u → FitsWithin T i room (inner i u)
 
@@ -138,7 +138,7 @@ abbrev AllPairs : Table → Kind → Kind → ℕ → List (Item × Item) → Ty
 AllPairs T key k room [] = Unit {0}
 AllPairs T key k room (e ∷ es) = GoodPair T key k room e × AllPairs T key k room es
 
--- where the key is no message
+-- if the key is no message
 entry-good : (T : Table) (room : ℕ) (inner : ℕ → Node → Node) (key k : Kind) (i : Item) → Inner T room inner
     → is_message key ≡ false → SoundEntry T room key k i → GoodPair T key k (suc room) (entry inner key k i)
 entry-good T room inner key k (number n) fits plain h = absurd h
@@ -162,7 +162,7 @@ record GoodPairs (T : Table) (key k : Kind) (room : ℕ) (ps : Pairs) : Type 0 w
   ascend : KeysAscend key ps
   depth : pairs_depth ps ≤ room
 
--- what is kept of entries is in normal form: the law of those entries
+-- the entries that are kept are in normal form: the law of `last_of_each`
 abbrev pub KeptAreNormal : Type 0
 KeptAreNormal =
     ((T : Table) (key k : Kind) (es : List (Item × Item)) → AllByRecursion (λ e. IsItem T key e.0 × IsItem T k e.1) es → ArePairs T key k (last_of_each key es))
@@ -189,7 +189,7 @@ last-pairs law T key k room es plain h = record {
   depth = law.2 key room es (all-depths T key k room es h);
 }
 
--- what a field has
+-- the content of a field
 abbrev GoodContent : Table → Label → Kind → ℕ → Content → Type 0
 GoodContent T label k room (one i) = TakesOne label i × GoodItem T k room i
 GoodContent T label k room (many is) = TakesMany label × (is ≢ no_items) × AreItems T k is × (items_depth is ≤ room)
@@ -260,7 +260,7 @@ content-good law T room inner (Map key) k cs fits plain h =
     (last-pairs law T key k (suc room) (map (entry inner key k) (values_in cs)) no_message
     (entries-good T room inner key k (values_in cs) fits no_message (entries-sound T room key k cs h)))
 
--- fields, as deep as there is room for
+-- fields, within the depth
 record GoodFields (T : Table) (fs : List Field) (last room : ℕ) (t : Node) : Type 0 where
   fields : HasFields T fs last t
   depth : depth t ≤ room

@@ -18,7 +18,7 @@ pub and-false : (b : Bool) → (b && false) ≡ false
 and-false true = refl
 and-false false = refl
 
--- of no oneof, of none's rivals
+-- a number of no oneof has no rivals
 rivals-none : (fs : List Field) (n m : ℕ) → oneof_at fs n ≡ None → are_rivals fs n m ≡ false
 rivals-none fs n m e = ap (λ o. not (m == n) && is_same o (oneof_at fs m)) e ∙ and-false (not (m == n))
 

@@ -1,4 +1,4 @@
--- What bytes that have a meaning can't be answered.
+-- The results that bytes with a meaning cannot have.
 use Rattle.std.proofs.Common.{◌≡◌, ℕ, List, refl}
 use Rattle.mrpc_table.specs.Node.{Node}
 use Rattle.mrpc_table.specs.declared.table.Table.{Table}

@@ -1,4 +1,4 @@
--- Records in the order of the fields: what a field's records add to the message of those in front of them.
+-- Records in the order of the fields: what the records of a field add to the message of those before them.
 use Rattle.std.proofs.Common.{◌≡◌, ◌≢◌, ℕ, ◌/◌, ◌<◌, ◌≤◌, ◌||◌, Bool, true, false, List, [], ◌∷◌, ◌++◌, length}
 use Rattle.std.proofs.Common.{Option, Some, None, refl, ap, sym, subst, ◌∙◌, arith, append-nil, cond, ⊎_elim}
 use Rattle.std.proofs.lemmas.Bool.Decides.{nat_tests, eqb_tells}
@@ -20,7 +20,7 @@ use Rattle.wire_decode.proofs.Adding.{contents-other, contents-pushed, contents-
 use Rattle.wire_decode.proofs.Merging.{content-none, field-here, field-later}
 use Rattle.wire_decode.proofs.Reading.{Read, read-start, read-more_known, read-done}
 
--- ---- contents of one number behind others
+-- ---- contents of one number after others
 
 abbrev pub push_all : Node → ℕ → List Content → Node
 push_all t n [] = t
@@ -72,7 +72,7 @@ tail-ascends : (x : Field) (xs : List Field) → FieldsAscend (x ∷ xs) → Fie
 tail-ascends x [] h = tt
 tail-ascends x (y ∷ ys) h = h.1
 
--- fields above all numbers have nothing
+-- fields above all numbers have no content
 fields-none : (inner : ℕ → Node → Node) (n : ℕ) (t : Node) (fs : List Field) → NumbersAreAtMost n t → AreAbove n fs → with_fields inner t fs ≡ no_fields
 fields-none inner n t [] most h = refl
 fields-none inner n t (f ∷ fs) most h =
@@ -105,7 +105,7 @@ fields-here inner g gs t last n cs f a at most less e =
     ∙ ap (λ (x : Field). with_content n (field_content inner x.label x.kind cs) no_fields) same
     ∙ sym (ap (λ u. join_fields u (with_content n (field_content inner f.label f.kind cs) no_fields)) before)
 
--- records of a field above all that were read add what it has
+-- records of a field above all that were read add its content
 pub fields-more : (inner : ℕ → Node → Node) (fs : List Field) (t : Node) (last n : ℕ) (cs : List Content) (f : Field)
     → FieldsAscend fs → field_at fs n ≡ Some f → NumbersAreAtMost last t → last < n
     → with_fields inner (push_all t n cs) fs ≡ join_fields (with_fields inner t fs)
@@ -126,7 +126,7 @@ pub fields-start : (inner : ℕ → Node → Node) (fs : List Field) → with_fi
 fields-start inner [] = refl
 fields-start inner (f ∷ fs) = ap (λ o. with_content f.number o (with_fields inner no_fields fs)) (content-none inner f.label f.kind) ∙ fields-start inner fs
 
--- ---- oneofs: all records count where no rival stands behind one
+-- ---- oneofs: all records count if no rival follows one
 
 abbrev Clear : List Field → Node → Type 0
 Clear fs no_fields = Unit {0}
@@ -137,7 +137,7 @@ clear-counts fs no_fields h = refl
 clear-counts fs (field n c t) h =
     ap (λ b. cond b (counted fs t) (field n c (counted fs t))) h.0 ∙ ap (field n c) (clear-counts fs t h.1)
 
--- no number is a rival of n in front of it
+-- no earlier number is a rival of n
 abbrev NoRivals : List Field → ℕ → Node → Type 0
 NoRivals fs n no_fields = Unit {0}
 NoRivals fs n (field m c t) = (are_rivals fs m n ≡ false) × NoRivals fs n t
@@ -175,7 +175,7 @@ clear-all : (fs : List Field) (n : ℕ) (cs : List Content) (t : Node) → Clear
 clear-all fs n [] t h r = h
 clear-all fs n (c ∷ cs) t h r = clear-all fs n cs (push_field t n c) (clear-pushed fs n c t h r) (rivals-pushed fs n c t r)
 
--- the oneofs of which members stand there are below a number
+-- the oneofs with a member so far have indices below a number
 abbrev OneofsBelow : List Field → ℕ → Node → Type 0
 OneofsBelow fs k no_fields = Unit {0}
 OneofsBelow fs k (field n c t) = ((o : ℕ) → oneof_at fs n ≡ Some o → o < k) × OneofsBelow fs k t
@@ -192,7 +192,7 @@ oneofs-all : (fs : List Field) (k n : ℕ) (cs : List Content) (t : Node) → ((
 oneofs-all fs k n [] t own h = h
 oneofs-all fs k n (c ∷ cs) t own h = oneofs-all fs k n cs (push_field t n c) own (oneofs-pushed fs k n c t own h)
 
--- ---- what the reader keeps
+-- ---- the invariant of the reader
 
 pub record SoFar (T : Table) (room : ℕ) (fs : List Field) (bytes : List ℕ) (start at last oneofs : ℕ) (t : Node) : Type 0 where
   pub raw : Node

@@ -1,4 +1,4 @@
--- Values that are read in order, and what a field has of them.
+-- Values that are read in order, and the content of a field with them.
 use Rattle.std.proofs.Common.{◌≡◌, ℕ, suc, ◌-◌, ◌/◌, ◌%◌, ◌<◌, true, false, List, [], ◌∷◌, ◌++◌, map, length, take}
 use Rattle.std.proofs.Common.{Option, Some, refl, ap, sym, subst, ◌∙◌, arith, append-nil}
 use Rattle.std.specs.List.{slice_range}
@@ -97,7 +97,7 @@ node-value T room i bytes at w first end t more is stands whole =
       same = ap node (whole.same ∙ sym (merged-suc T (room - 1) i whole.raw) ∙ sym (ap (λ r. merged T r i whole.raw) deeper) ∙ sym (ap (merged T room i) (join-none whole.raw)));
     }
 
--- ---- what a field has
+-- ---- the content of a field
 
 single-no_map : (label : Label) → has_one_value label ≡ true → is_map label ≡ false
 single-no_map (Map key) h = absurd (cc)
@@ -188,7 +188,7 @@ map-field T room key k bytes tag start next es old new v e = record {
 
 -- ---- one record more
 
--- values in front of a record whose tag ends here
+-- the values before a record whose tag ends here
 pub record ValuesBefore (T : Table) (room : ℕ) (k : Kind) (bytes : List ℕ) (tag start first : ℕ) (is : List Item) : Type 0 where
   pub held : List Item
   pub run : (label : Label) → is_map label ≡ false → (at : ℕ) → TagAt bytes at tag start
@@ -252,7 +252,7 @@ entries-again T room key k bytes tag start next behind es h tagged = record {
   same = h.same;
 }
 
--- an entry that has its key and then its value
+-- an entry with its key first, followed by its value
 pub pair-read : (T : Table) (room : ℕ) (key k : Kind) (bytes : List ℕ) (at tag first middle other second next : ℕ)
     (i j : Item) → TagAt bytes at tag first → tag / 8 ≡ 1 → IsValue T room key bytes first (tag % 8) i middle
     → TagAt bytes middle other second → other / 8 ≡ 2 → IsValue T room k bytes second (other % 8) j next
@@ -285,7 +285,7 @@ whole-means T msg bytes fs t is whole =
     let w = subst P is whole in
     record { raw = w.raw; reads = w.reads; value = w.same ∙ sym (merged-suc T 31 msg w.raw) }
 
--- what an answer has that was made into an option
+-- equal options have equal values
 some-has : {A : Type 0} (x y : A) → Some x ≡ Some y → x ≡ y
 some-has x y e = ap (λ o. unwrap_or o x) e
 

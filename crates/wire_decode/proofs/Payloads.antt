@@ -14,7 +14,7 @@ VarintAt-moves {bytes} {at} {v} {next} here =
     let none : slice_range bytes at next ≡ [] = ap (λ n. take n (drop at bytes)) (let e : next - at ≡ 0 = omega arith in e) in
     absurd (let form : HasVarintForm [] = rw none at here.spelled.form in form)) (cases_lt at next)
 
--- a payload ends behind its place, and within the bytes
+-- a payload ends after its start, and within the bytes
 pub PayloadAt-ahead : (bytes : List ℕ) (at w : ℕ) (p : Payload) (next : ℕ) → PayloadAt bytes at w p next → at < next
 PayloadAt-ahead bytes at w (Varint v) next a = VarintAt-moves a.1
 PayloadAt-ahead bytes at w (I64 v) next a = omega (arith, a.1)

@@ -1,4 +1,4 @@
--- What the records of an encoding have: the contents of a tree, a record for each that has its own.
+-- The records of an encoding: the contents of a tree, one for each record.
 use Rattle.std.proofs.Common.{ℕ, List, cond}
 use Rattle.mrpc_table.specs.Node.{Node, no_fields, field, Content, one, many, pairs, Item, number, run, node, Items, no_items, item, Pairs, no_pairs, pair}
 use Rattle.mrpc_table.specs.Normal.{fields_of, kind_at, label_at}

@@ -15,7 +15,7 @@ use Rattle.wire_decode.specs.FaultWalk.{MeetsFault, behind_other, behind_known}
 use Rattle.wire_decode.specs.Merged.{join_fields}
 use Rattle.wire_decode.specs.declared.fault.DecodeReason.{DecodeReason}
 
--- records that were read, with what is still to come
+-- records that were read, with those that remain
 pub record Read (T : Table) (room : ℕ) (fs : List Field) (bytes : List ℕ) (start at : ℕ) (done : Node) : Type 0 where
   pub good : (t : Node) → Reads T room fs bytes at t → Reads T room fs bytes start (join_fields done t)
   pub bad : (reason : DecodeReason) (place : ℕ) → MeetsFault T room fs bytes at reason place → MeetsFault T room fs bytes start reason place
@@ -54,7 +54,7 @@ pub read-done : (T : Table) (room : ℕ) (fs : List Field) (bytes : List ℕ) (s
     → at ≡ length bytes → Read T room fs bytes start at done → Reads T room fs bytes start done
 read-done T room fs bytes start at done ends h = let P : Node → Type 0 = λ u. Reads T room fs bytes start u in subst P (join-none done) (h.good no_fields (read_end ends refl))
 
--- how much of the bytes a payload has: a bound on how deep the readers call one another
+-- the size of a payload with a length: a bound on the depth of the readers
 abbrev pub payload_size : Payload → ℕ
 payload_size (Len start end) = end - start
 payload_size (Varint v) = 0
@@ -68,7 +68,7 @@ payload-smaller bytes at start w (I64 v) next ahead more h within = omega arith
 payload-smaller bytes at start w (I32 v) next ahead more h within = omega arith
 payload-smaller bytes at start w (Len s e) next ahead more h within = let l = VarintAt-moves h.2 in omega (arith, l, within.0, within.1)
 
--- a payload is smaller than what is left to read
+-- a payload is smaller than the remaining bytes
 pub record-smaller : (bytes : List ℕ) (at : ℕ) (r : Record) → RecordAt bytes at r → at < length bytes
     → IsWithin (length bytes) r.payload → payload_size r.payload + 1 ≤ length bytes - at
 record-smaller bytes at r here more within = payload-smaller bytes at here.start (here.tag % 8) r.payload r.next (VarintAt-moves here.tagged.stands) more here.payload within

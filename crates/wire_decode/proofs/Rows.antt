@@ -39,7 +39,7 @@ one_run : merged choice 32 0 (m (a 1 no_fields) (m (b 2 no_fields) no_fields)) �
 unfolding merged
 one_run = refl
 
--- what stands before another member's record is dropped
+-- records before another member's record are dropped
 broken_run : merged choice 32 0 (m (a 1 no_fields) (b 3 (m (b 2 no_fields) no_fields))) ≡ m (b 2 no_fields) no_fields
 unfolding merged
 broken_run = refl
@@ -87,11 +87,11 @@ a_map : merged map_table 32 0 (valued 5 1 (valued 2 7 (entry 5 (valued (2 ^ 64 -
 unfolding merged
 a_map = refl
 
--- the last of singular numbers counts, and a default is nothing
+-- the last of singular numbers counts, and a default is left out
 last_counts : merged choice 32 1 (a 5 (b 1 (a 0 no_fields))) ≡ b 1 no_fields
 unfolding merged
 last_counts = refl
 
--- the numbers of the encoding guide: a negative int32 in ten bytes, ZigZag, a bool, a cut to 32 bits
+-- the numbers of the encoding guide: a negative int32 in ten bytes, ZigZag, a bool, truncation to 32 bits
 minus_two : word_of Int32 (2 ^ 64 - 2) ≡ 2 ^ 64 - 2
 minus_two = refl

@@ -101,7 +101,7 @@ last_wins T room =
     (one_field a_number_field [] (Some (one (number 1))) no_fields refl
     (rule.last_value (single 5 ∷ []) (single 1) (number 1) refl refl refl (of_number 1 refl refl) refl) (no_field refl refl) refl)
 
--- a default is nothing
+-- a default is left out
 abbrev zero_last : List ℕ
 zero_last = 8 ∷ 5 ∷ 8 ∷ 0 ∷ []
 
@@ -152,7 +152,7 @@ long_varint T room =
     (one_field a_signed_field [] (Some (one (number (2 ^ 64 - 2)))) no_fields refl
     (rule.last_value [] (single (2 ^ 64 - 2)) (number (2 ^ 64 - 2)) refl refl refl (of_number (2 ^ 64 - 2) refl refl) refl) (no_field refl refl) refl)
 
--- a packed piece, and a number by itself, of one repeated field
+-- a packed payload, and a number by itself, of one repeated field
 abbrev both_forms : List ℕ
 both_forms = 50 ∷ 2 ∷ 3 ∷ 4 ∷ 48 ∷ 5 ∷ []
 
@@ -255,7 +255,7 @@ one_run =
     (one_message 1 30 (field 1 (one (number 1)) (field 2 (one (number 2)) no_fields)) refl refl refl (λ e. cc) (has_both 30) refl)
     (one_field the_number [] None no_fields refl (absent 31 (Member 0) Uint64) (no_field refl refl) refl) refl)
 
--- what stands before another member is dropped
+-- records before another member's record are dropped
 abbrev broken_bytes : List ℕ
 broken_bytes = 10 ∷ 2 ∷ 8 ∷ 1 ∷ 16 ∷ 3 ∷ 10 ∷ 2 ∷ 16 ∷ 2 ∷ []
 
@@ -414,13 +414,13 @@ wire_type_unknown : IsFirstFault plain_table 0 (11 ∷ []) why.WireType 0
 wire_type_unknown = at_start (11 ∷ []) (record { reason = wire.WireType; place = 0 }) why.WireType (omega arith)
     (wire_type 11 1 refl refl (record { stands = byte_at (11 ∷ []) 0 1 11 (omega arith) refl (omega arith); small = omega arith; numbered = λ e. omega (arith, e) }) not_three) refl
 
--- the bytes end behind the tag
+-- the bytes end after the tag
 bytes_end : IsFirstFault plain_table 0 (8 ∷ []) why.Short 1
 bytes_end = at_start (8 ∷ []) (record { reason = wire.Short; place = 1 }) why.Short (omega arith)
     (no_payload 8 1 refl (record { stands = byte_at (8 ∷ []) 0 1 8 (omega arith) refl (omega arith); small = omega arith; numbered = λ e. omega (arith, e) })
     (no_varint refl (record { fewer = omega arith; top = All-nil IsHigh }))) refl
 
--- a sound record in front, and a string of the byte 255
+-- a valid record, followed by a string of the byte 255
 abbrev bad_text : List ℕ
 bad_text = 8 ∷ 1 ∷ 18 ∷ 1 ∷ 255 ∷ []
 
@@ -465,7 +465,7 @@ piece_is_not_whole =
       known = refl;
     }) refl no_elements_there refl)
 
--- thirty-two messages in one another inside the message: the innermost is the 33rd
+-- thirty-two nested messages in the message: the innermost is at depth 33
 abbrev nested : List ℕ
 nested = 10 ∷ 62 ∷ 10 ∷ 60 ∷ 10 ∷ 58 ∷ 10 ∷ 56 ∷ 10 ∷ 54 ∷ 10 ∷ 52 ∷ 10 ∷ 50 ∷ 10 ∷ 48 ∷ 10 ∷ 46 ∷ 10 ∷ 44 ∷ 10 ∷ 42
     ∷ 10 ∷ 40 ∷ 10 ∷ 38 ∷ 10 ∷ 36 ∷ 10 ∷ 34 ∷ 10 ∷ 32 ∷ 10 ∷ 30 ∷ 10 ∷ 28 ∷ 10 ∷ 26 ∷ 10 ∷ 24 ∷ 10 ∷ 22 ∷ 10 ∷ 20 ∷ 10

@@ -1,4 +1,4 @@
--- What stands in bytes stands alike where others stand in front of them, or behind them.
+-- The content of bytes doesn't change if other bytes precede or follow them.
 use Rattle.std.proofs.Common.{◌≡◌, ℕ, ◌+◌, ◌-◌, ◌%◌, ◌≤◌, List, [], ◌∷◌, ◌++◌, length, take, drop, Option, Some, None}
 use Rattle.std.proofs.Common.{false, refl, ap, sym, subst, ◌∙◌, arith}
 use Rattle.std.specs.Option.{option_map, unwrap_or}
@@ -25,14 +25,14 @@ use Rattle.wire_decode.specs.Merged.{join_fields, joined}
 use Rattle.wire_decode.specs.Joined.{AreReadEach}
 use Rattle.wire_decode.proofs.Payloads.{VarintAt-moves, PayloadAt-span}
 
--- ---- bytes in front
+-- ---- bytes before
 
 pub slice-drop : (d : ℕ) (b : List ℕ) (s e : ℕ) → slice_range (drop d b) s e ≡ slice_range b (d + s) (d + e)
 slice-drop d b s e =
     ap (take (e - s)) (drop-drop s d b)
     ∙ ap (λ n. take n (drop (d + s) b)) (let h : e - s ≡ (d + e) - (d + s) = omega arith in h)
 
--- a payload, and a record, with so many bytes in front
+-- a payload, and a record, with this many bytes before
 abbrev pub payload_ahead : ℕ → Payload → Payload
 payload_ahead d (Varint v) = Varint v
 payload_ahead d (I64 v) = I64 v
@@ -182,7 +182,7 @@ known-ahead d fs r = go (field_at fs r.number)
     go None = refl
     go (Some f) = suits-ahead d f.label f.kind r.payload
 
--- bytes that are cut behind a payload
+-- bytes that are cut after a payload
 cut-fits : (d e : ℕ) (b : List ℕ) → d ≤ length b → d ≤ length (take (d + e) b)
 cut-fits d e b fits = omega (arith, fits, length-take (d + e) b)
 
@@ -196,7 +196,7 @@ len-found d (I32 v) s' e' h = absurd (cc)
 len-found d (Len s e) s' e' h = (s, e, refl, cc, cc)
 
 mutual
-  -- what is read in bytes is read with others in front of them
+  -- what is read in bytes is read with others before them
   pub reads-to : (d : ℕ) (b x : List ℕ) → d ≤ length b → x ≡ drop d b
       → {T : Table} {room : ℕ} {fs : List Field} {at : ℕ} {t : Node} → Reads T room fs x at t
       → Reads T room fs b (d + at) t
@@ -227,7 +227,7 @@ mutual
       holds_entry key (d + s) (d + f) t map (ap (payload_ahead d) at) (reads-to d (take (d + f) b) (take f x) (cut-fits d f b fits) (cut-same d f b x e) reads) room_is is
 
 mutual
-  -- and what is read behind others is read without them
+  -- and what is read after others is read without them
   pub reads-back : (d : ℕ) (b : List ℕ) → d ≤ length b
       → (at : ℕ) {T : Table} {room : ℕ} {fs : List Field} {from : ℕ} {t : Node} → from ≡ d + at
       → Reads T room fs b from t → Reads T room fs (drop d b) at t
@@ -273,7 +273,7 @@ mutual
       let cut : drop d (take e' b) ≡ take f.1 (drop d b) = ap (λ x. drop d (take x b)) f.4 ∙ drop-take d f.1 b in
       holds_entry key f.0 f.1 t map f.2 (subst (λ (xs : List ℕ). Reads T room (entry_fields key k) xs f.0 t) cut (reads-back d (take e' b) long f.0 f.3 reads)) room_is is
 
--- ---- bytes behind
+-- ---- bytes after
 
 slice-front : (a b : List ℕ) (s e : ℕ) → s ≤ e → e ≤ length a → slice_range a s e ≡ slice_range (a ++ b) s e
 slice-front a b s e ordered within =
@@ -304,7 +304,7 @@ record-front a b at r h = record {
   payload = payload-front a b h.start (h.tag % 8) r.payload r.next h.payload;
 }
 
--- a payload within the front bytes
+-- a payload within the first bytes
 holds-front : (a b : List ℕ) {T : Table} {room : ℕ} {label : Label} {k : Kind} {p : Payload} {c : Content}
     → IsWithin (length a) p → Holds T room label k a p c → Holds T room label k (a ++ b) p c
 holds-front a b w (holds_number single numeric typed is) = holds_number single numeric typed is
@@ -334,7 +334,7 @@ reads-front {T} {room} {fs} a b u {at} {t} (read_known r f c rest here at_f hold
     read_known r f c (join_fields rest u) (record-front a b at r here) at_f (holds-front a b (PayloadAt-span a here.start (here.tag % 8) r.payload r.next here.payload) holds)
     (ap (λ x. join_fields x u) is) (reads-front a b u g h)
 
--- the records of two strings, one behind the other
+-- the records of two strings, the second after the first
 pub reads-joined : (T : Table) (room : ℕ) (fs : List Field) (a b : List ℕ) (t u : Node) → Reads T room fs a 0 t
     → Reads T room fs b 0 u → Reads T room fs (a ++ b) 0 (join_fields t u)
 reads-joined T room fs a b t u first second =

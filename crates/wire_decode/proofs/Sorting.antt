@@ -68,7 +68,7 @@ most-pushed : (m n : ℕ) (c : Content) (t : Node) → n ≤ m → NumbersAreAtM
 most-pushed m n c no_fields le h = (le, tt)
 most-pushed m n c (field k d t) le h = (h.0, most-pushed m n c t le h.1)
 
--- the parts up to a place, and one more
+-- the parts up to an index, and one more
 pub taken-more : (xs : Parts) (i : ℕ) (x : ℕ × FieldValue) → i < length xs → x ≡ get_or xs i x
     → node_of (take (i + 1) xs) ≡ push_field (node_of (take i xs)) x.0 (content_of x.1)
 taken-more xs i x within is = ap node_of (take_more xs i x within ∙ ap (λ e. take i xs ++ e ∷ []) (sym is)) ∙ node_of-last (take i xs) x
@@ -85,7 +85,7 @@ fall-more xs i last x within is le fall most =
       most-pushed x.0 x.0 (content_of x.1) (node_of (take i xs)) (omega arith) wide,
     )
 
--- no number before a place is above the one there
+-- no number before an index is above the one there
 fall-first : (last : ℕ) (xs : Parts) (i : ℕ) (d : ℕ × FieldValue) → NumbersNeverFallFrom last (node_of xs) → i < length xs → last ≤ (get_or xs i d).0
 fall-first last [] i d h within = absurd (omega (arith, within))
 fall-first last (x ∷ xs) zero d h within = h.0

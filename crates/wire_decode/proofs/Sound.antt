@@ -1,4 +1,4 @@
--- What the records of a message have, each by itself: contents that are sound for their fields.
+-- The records of a message, each by itself: contents that are valid for their fields.
 use Rattle.std.proofs.Common.{◌≡◌, ℕ, suc, ◌<◌, List, [], ◌∷◌, ◌++◌, take, Option, Some, true, false, refl, ap, sym, subst, ◌∙◌, arith, ⊎_elim}
 use Rattle.std.specs.List.{slice_range}
 use Rattle.std.proofs.lemmas.Bool.Decides.{eqb_tells}
@@ -25,7 +25,7 @@ use Rattle.wire_decode.proofs.Unique.{packed-single, packed-numeric}
 use Rattle.wire_decode.proofs.WordForms.{word-form, IsSmall, AreBytes, bytes-slice, payload-small, payload-typed}
 
 abbrev mutual
-  -- contents of fields of these, with room for so many messages in one another
+  -- contents of these fields, with room for this many levels of messages
   pub SoundNode : Table → ℕ → List Field → Node → Type 0
   SoundNode T room fs no_fields = Unit {0}
   SoundNode T room fs (field n c t) = SoundNode T room fs t × (f : Field) × (field_at fs n ≡ Some f) × SoundContent T room f.label f.kind c
@@ -117,7 +117,7 @@ pub join-sound : (T : Table) (room : ℕ) (fs : List Field) (t u : Node) → Sou
 join-sound T room fs no_fields u a b = b
 join-sound T room fs (field n c t) u a b = (join-sound T room fs t u a.0 b, a.1, a.2, a.3)
 
--- lists of what is sound
+-- lists of valid contents
 abbrev pub AllContents : Table → ℕ → Label → Kind → List Content → Type 0
 AllContents T room label k [] = Unit {0}
 AllContents T room label k (c ∷ cs) = SoundContent T room label k c × AllContents T room label k cs
@@ -170,7 +170,7 @@ entries-sound T room key k (one i ∷ cs) h = (h.0.1 key refl, entries-sound T r
 entries-sound T room key k (many is ∷ cs) h = absurd (single-not_map (Map key) key h.0.0 refl)
 entries-sound T room key k (pairs ps ∷ cs) h = absurd h.0
 
--- a message has room
+-- a message is within the depth
 pub room-inside : (T : Table) (room m : ℕ) (i : Item) → SoundValue T room (OfMessage m) i → (inside : ℕ) × (room ≡ suc inside)
 room-inside T room m (number n) h = absurd h
 room-inside T room m (run bytes) h = absurd h

@@ -1,4 +1,4 @@
--- A number of a kind, as it is written and read again.
+-- A number of a kind, as it is written and read back.
 use Rattle.std.proofs.Common.{◌≡◌, ℕ, ◌+◌, ◌-◌, ◌*◌, ◌%◌, ◌^◌, ◌<◌, ◌≤◌, List, length, refl, ap, sym, ◌∙◌, arith, ⊎_elim}
 use Rattle.std.specs.Int.{w32, w64, from_le_bytes, to_le_bytes}
 use Rattle.std.proofs.lemmas.Bool.{cases_lt}
@@ -77,7 +77,7 @@ extended-back n h =
 bool-back : (n : ℕ) → n < 2 → word_of TheBool n ≡ n
 bool-back n h = grind (arith, nat_tests)
 
--- the word comes back
+-- the word is read back
 pub word-back : (k : Kind) (n : ℕ) → IsWordForm k n → word_of k (number_in (payload_of k n)) ≡ n
 word-back Int32 n h = extended-back n h
 word-back (Choice i) n h = extended-back n h

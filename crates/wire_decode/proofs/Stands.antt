@@ -1,4 +1,4 @@
--- A piece of bytes at a place among others, and what is read there.
+-- Bytes at an offset among others, and what is read there.
 use Rattle.std.proofs.Common.{◌≡◌, ℕ, ◌+◌, ◌-◌, ◌*◌, ◌%◌, ◌^◌, ◌<◌, ◌≤◌, List, [], ◌++◌, length, take, drop, refl, ap}
 use Rattle.std.proofs.Common.{sym, subst, ◌∙◌, arith, append_assoc, append-nil}
 use Rattle.std.specs.List.{slice_range}
@@ -47,7 +47,7 @@ stands-slice bytes at piece end e h =
     ∙ ap (take n) (drop_at h.before (piece ++ h.after) at (sym h.place))
     ∙ take_at piece h.after n refl
 
--- bytes that are cut behind the piece
+-- bytes that are cut after them
 pub stands-cut : (bytes : List ℕ) (at : ℕ) (piece : List ℕ) (end : ℕ) → end ≡ at + length piece → Stands bytes at piece → Stands (take end bytes) at piece
 stands-cut bytes at piece end e h =
     let front = h.before ++ piece in
@@ -70,7 +70,7 @@ stands-varint back_read bytes at v small h =
     (back_read h.before h.after v small) in
     subst (λ (k : ℕ). VarintAt bytes k v (k + length (varint v))) (sym h.place) here
 
--- a tag, and a payload behind it
+-- a tag, followed by a payload
 pub stands-record : ReadsBack → (bytes : List ℕ) (at n w : ℕ) (p : Payload) (next : ℕ) → 0 < n → n < 2 ^ 29 → w < 8
     → Stands bytes at (tag n w) → PayloadAt bytes (at + length (tag n w)) w p next
     → RecordAt bytes at (record { number = n; payload = p; next = next })
@@ -86,7 +86,7 @@ stands-record back_read bytes at n w p next positive small type h payload = reco
   payload = subst (λ (x : ℕ). PayloadAt bytes (at + length (tag n w)) x p next) (let e : w ≡ (8 * n + w) % 8 = omega (arith, type) in e) payload;
 }
 
--- where bytes behind their length begin and end
+-- where bytes after their length start and end
 abbrev pub start_of : ℕ → List ℕ → ℕ
 start_of at bytes = at + length (varint (length bytes))
 

@@ -1,5 +1,5 @@
--- The message of contents, where each field takes the contents of its number away: in a table whose fields ascend
--- this is `merged`, and in any other the first field of a number has its contents.
+-- The message of contents, where each field removes the contents of its number: in a table whose fields ascend this is
+-- `merged`, and in any other the first field of a number gets its contents.
 use Rattle.std.proofs.Common.{◌≡◌, ◌≢◌, ℕ, zero, suc, List, [], ◌∷◌, Some, None, refl, ap, sym, subst, ◌∙◌, arith, ⊎_elim}
 use Rattle.std.proofs.Math.Path.{fun_ext}
 use Rattle.std.specs.Option.{option_and_then, unwrap_or}
@@ -38,7 +38,7 @@ unfoldable pub merged_taken : Table → ℕ → ℕ → Node → Node
 merged_taken T zero i raw = no_fields
 merged_taken T (suc depth) i raw = taken (merged_taken T depth) (counted (fields_of T i) raw) (fields_of T i)
 
--- what the fields have, with so much room for messages inside
+-- the contents of the fields, with room for this many levels of messages
 abbrev pub meaning : Table → ℕ → List Field → Node → Node
 meaning T room fs raw = taken (merged_taken T room) (counted fs raw) fs
 

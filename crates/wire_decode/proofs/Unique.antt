@@ -1,4 +1,4 @@
--- Bytes are read in one way, bytes that are read have no fault, and others one first fault.
+-- Bytes are read in at most one way, bytes that are read have no fault, and others have one first fault.
 use Rattle.std.proofs.Common.{◌≡◌, ◌≢◌, ℕ, suc, ◌<◌, ◌&&◌, ◌==◌, List, [], ◌∷◌, length, take, Option, Some, Bool}
 use Rattle.std.proofs.Common.{true, false, cond, refl, ap, sym, subst, ◌∙◌, arith}
 use Rattle.std.specs.Option.{option_map, unwrap_or}
@@ -134,7 +134,7 @@ fail-class {label = label} {k = k} {p = p} (in_message inside i s e single kind 
 fail-class {label = label} {k = k} {p = p} (in_entry key s e map at faults) = class-map label k p key map
 fail-class {label = label} {k = k} {p = p} (no_room key e t map at reads room is) = class-map label k p key map
 
--- a payload is read, or at fault, only where it is of the field's own type
+-- a payload is read, or at fault, only if it is of the field's own type
 own-suits : (label : Label) (k : Kind) (p : Payload) → payload_type p ≡ own_type label k → suits label k p ≡ true
 own-suits label k p h = or_left (payload_type p == own_type label k) (may_be_packed label k && (payload_type p == 2)) (eq-eqb (payload_type p) (own_type label k) h)
 
@@ -354,7 +354,7 @@ mutual
 
 -- ---- one fault
 
--- a payload of the record that stands there fails in one way
+-- the payload of the record there has at most one fault
 fails-at : Law → (T : Table) (room : ℕ) (fs : List Field) (bytes : List ℕ) (at : ℕ) (r r' : Record) (f f' : Field) (reason : DecodeReason) (place : ℕ)
     → RecordAt bytes at r → RecordAt bytes at r' → field_at fs r.number ≡ Some f → field_at fs r'.number ≡ Some f'
     → Fails T room f'.label f'.kind bytes r'.payload reason place → Fails T room f.label f.kind bytes r.payload reason place

@@ -1,5 +1,5 @@
--- What of a valid table the meaning of bytes rests on: in each message the numbers rise from 1 to below 2^29, no
--- key is a message, and what is packed is a number.
+-- The facts of a valid table that the meaning of bytes needs: in each message the numbers ascend from 1 to below 2^29,
+-- no key is a message, and what is packed is a number.
 use Rattle.std.proofs.Common.{◌≡◌, ℕ, zero, suc, ◌^◌, ◌<◌, ◌≤◌, List, [], ◌∷◌, length, get_or, All, Some, None, true}
 use Rattle.std.proofs.Common.{false, refl, subst, ◌∙◌, arith, slice_get, option_map, unwrap_or}
 use Rattle.std.proofs.lemmas.List.Elements.{All-head, All-tail}
@@ -22,7 +22,7 @@ pub record IsUsable (f : Field) : Type 0 where
   pub key : (key : Kind) → f.label ≡ Map key → is_message key ≡ false
   pub packed : f.label ≡ Packed → is_numeric f.kind ≡ true
 
--- usable fields with numbers that rise from above `last`
+-- usable fields with numbers that ascend from above `last`
 abbrev pub AreFieldsFrom : ℕ → List Field → Type 0
 AreFieldsFrom last [] = Unit {0}
 AreFieldsFrom last (f ∷ fs) = (last < f.number) × IsUsable f × AreFieldsFrom f.number fs

@@ -1,4 +1,4 @@
--- What a tree stands for once a part was appended to it.
+-- The data of a tree after a part was appended to it.
 use Rattle.std.proofs.Common.{◌≡◌, ℕ, List, [], ◌∷◌, ◌++◌, refl, ap}
 use Rattle.mrpc_table.specs.Node.{field, item, push_field, push_item}
 use Rattle.mrpc_table.specs.View.{item_of, items_of, content_of, node_of}

@@ -1,4 +1,4 @@
--- The laws of varints and records, as the proofs here are handed them.
+-- The laws of varints and records, as parameters of the proofs here.
 use Rattle.std.proofs.Common.{◌≡◌, ℕ, ◌+◌, ◌^◌, ◌<◌, ◌≤◌, ◌⊎◌, List, ◌++◌, length}
 use Rattle.wire_base.specs.Encoding.{varint}
 use Rattle.wire_base.specs.Records.{VarintAt, IsWireType, PayloadAt, NoPayloadAt, RecordAt, FaultAt}
@@ -11,11 +11,11 @@ use Rattle.wire_base.specs.declared.fault.WireFault.{WireFault}
 abbrev pub ReadsBack : Type 0
 ReadsBack = (before after : List ℕ) (v : ℕ) → v < 2 ^ 64 → VarintAt (before ++ (varint v ++ after)) (length before) v (length before + length (varint v))
 
--- one payload of a wire type stands at a place
+-- there is at most one payload of a wire type at an offset
 abbrev pub OnePayload : Type 0
 OnePayload = (bytes : List ℕ) (at w : ℕ) (p q : Payload) (next other : ℕ) → PayloadAt bytes at w p next → PayloadAt bytes at w q other → (p ≡ q) × (next ≡ other)
 
--- a payload or a reason stands at a place, a record or a fault, one of them, and never both
+-- at an offset there is a payload or a reason, and a record or a fault, and never both
 pub record Law : Type 0 where
   pub some_payload : (bytes : List ℕ) (at w : ℕ) → IsWireType w → at ≤ length bytes
       → ((p : Payload) × (next : ℕ) × PayloadAt bytes at w p next)

@@ -72,7 +72,7 @@ word-form Text v h b s = absurd (cc)
 word-form Octets v h b s = absurd (cc)
 word-form (Message i) v h b s = absurd (cc)
 
--- numbers of payloads
+-- the numbers of payloads are bounded
 pub record IsSmall (p : Payload) : Type 0 where
   pub word : number_in p < 2 ^ 64
   pub short : payload_type p ≡ 5 → number_in p < 2 ^ 32

@@ -1,4 +1,4 @@
--- The code's own: what a walk from the last record to the first knows of the oneofs of the records behind it.
+-- The code's own: the oneofs of the later records, in a walk from the last record to the first.
 use Rattle.std.specs.Prelude.{◌≡◌, ◌≢◌, ◌==◌, ◌||◌, ℕ, Bool, true, false, not, Some, None, List, slice_index_or}
 use Rattle.mrpc_table.specs.Node.{Node, no_fields, field, Content}
 use Rattle.mrpc_table.specs.declared.table.Field.{Field}
@@ -7,24 +7,26 @@ use Rattle.wire_decode.specs.Merged.{is_overtaken}
 use Rattle.wire_decode.specs.declared.oneof.Behind.{Behind}
 use Rattle.wire_decode.specs.declared.oneof.Behind.TheVariants.{Nothing, Only, Several}
 
--- whether a record of another member than the one of this number stands behind
+-- whether a later record is of another member than the one with this number
 abbrev pub overtakes : Behind → ℕ → Bool
 overtakes Nothing number = false
 overtakes (Only other) number = not (other == number)
 overtakes Several number = true
 
--- With a record of the member `added` in front, each other member is overtaken, and each that was before.
+-- With a record of the member `added` before the later ones, each other member is overtaken, and so is each that was
+-- overtaken before.
 abbrev pub IsInFront : Behind → ℕ → Behind → Type 0
 IsInFront behind added whole = (number : ℕ)
     → overtakes whole number ≡ (not (added == number) || overtakes behind number)
 
--- The list has for each oneof, at its place, which of its members stand behind: it tells of each member whether one of
--- the later records overtakes it.
+-- The list records for each oneof, at its index, which of its members the later records have. So it determines for each
+-- member whether a later record overtakes it.
 abbrev pub TellsOvertaken : List Field → List Behind → Node → Type 0
 TellsOvertaken fields list later = (number oneof : ℕ) → oneof_at fields number ≡ Some oneof
     → overtakes (slice_index_or list oneof Nothing) number ≡ is_overtaken fields number later
 
--- At the place of the oneof the new list has a record of the member `added` in front, and elsewhere what the old has.
+-- At the index of the oneof the new list has a record of the member `added` before the later ones, and elsewhere it is
+-- the old list.
 pub record IsNotedAt (old : List Behind) (oneof added : ℕ) (new : List Behind) : Type 0 where
   pub here : IsInFront (slice_index_or old oneof Nothing) added (slice_index_or new oneof Nothing)
   pub others : (place : ℕ) → place ≢ oneof → slice_index_or new place Nothing ≡ slice_index_or old place Nothing
@@ -34,8 +36,8 @@ abbrev pub HasNoMember : List Field → Node → Type 0
 HasNoMember fields no_fields = Unit {0}
 HasNoMember fields (field number content others) = (oneof_at fields number ≡ None) × HasNoMember fields others
 
--- Where the old list tells of the later records, the answer is whether a record of this number in front of them counts,
--- and the new list tells of the records from that one on.
+-- If the old list describes the later records, the answer is whether a record of this number before them counts, and
+-- the new list describes them with that record.
 pub record SaysIfCounted (fields : List Field) (old : List Behind) (number : ℕ) (new : List Behind)
     (answer : Bool) : Type 0 where
   pub counts : (later : Node) → TellsOvertaken fields old later → answer ≡ not (is_overtaken fields number later)

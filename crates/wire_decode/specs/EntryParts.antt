@@ -1,27 +1,27 @@
--- The code's own: the key and the value of a map's entry, each found in one item.
+-- The code's own: the key and the value of a map's entry, each combined into one item.
 use Rattle.std.specs.Prelude.{◌≡◌, ℕ, Option, Some, None, List, [], ◌∷◌, ◌++◌}
 use Rattle.mrpc_table.specs.Node.{Node, Item}
 use Rattle.mrpc_table.specs.declared.table.Kind.{Kind}
 use Rattle.wire_decode.specs.Contents.{default_of}
 use Rattle.wire_decode.specs.Merged.{singular, element, part}
 
--- One item means what the items mean, with any others behind; no item, only where there are none.
+-- One item means what the items mean, whatever items follow; there is no item only if there are none.
 abbrev pub MeansAll : Kind → List Item → Option Item → Type 0
 MeansAll kind items None = items ≡ []
 MeansAll kind items (Some whole) = (inner : ℕ → Node → Node) (after : List Item)
     → singular inner kind (whole ∷ after) ≡ singular inner kind (items ++ after)
 
--- The whole means what the item before and one more mean; where there was none before, it is the one more.
+-- The whole means what the earlier item and one more mean; without an earlier one, it is the one more.
 abbrev pub IsWithOneMore : Kind → Option Item → Item → Item → Type 0
 IsWithOneMore kind None more whole = whole ≡ more
 IsWithOneMore kind (Some before) more whole = (inner : ℕ → Node → Node) (after : List Item)
     → singular inner kind (whole ∷ after) ≡ singular inner kind (before ∷ more ∷ after)
 
--- a part of an entry: the item that was found for it, or its default
+-- the key or the value of an entry: the item that was found for it, or its default
 abbrev pub found_part : (ℕ → Node → Node) → Kind → Option Item → Item
 found_part inner kind None = default_of kind
 found_part inner kind (Some found) = element inner kind found
 
--- an entry's key and value, from what its records have
+-- the key and the value of an entry, from the contents of its records
 abbrev pub found_entry : (ℕ → Node → Node) → Kind → Kind → Node → Item × Item
 found_entry inner key kind raw = (part inner 1 key raw, part inner 2 kind raw)

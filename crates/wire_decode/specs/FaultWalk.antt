@@ -1,4 +1,4 @@
--- The first fault of a byte string, as it is met by a walk over its records.
+-- The first fault of a byte string, as a walk over its records reaches it.
 use Rattle.std.specs.Prelude.{◌≡◌, ℕ, suc, ◌<◌, true, false, List, length, take, Some, slice_range}
 use Rattle.std.specs.Str.{IsUtf8}
 use Rattle.mrpc_table.specs.Node.{Node, Content}
@@ -22,7 +22,7 @@ use Rattle.wire_decode.specs.declared.fault.DecodeReason.{DecodeReason}
 use Rattle.wire_decode.specs.declared.fault.DecodeReason.TheVariants.{Utf8, PackedLength, Depth}
 
 mutual
-  -- Records stand from a place on, and this is the first fault behind them: no record stands there, or the
+  -- Records follow each other from an offset on, and this is the first fault after them: there is no record, or the
   -- payload of a known field is at fault.
   pub data MeetsFault (T : Table) : ℕ → List Field → List ℕ → ℕ → DecodeReason → ℕ → Type 0 where
     no_record : {room : ℕ} {fields : List Field} {bytes : List ℕ} {at : ℕ} {reason : DecodeReason} {place : ℕ}
@@ -41,7 +41,7 @@ mutual
 
   -- the first fault of the payload of a field
   pub data Fails (T : Table) : ℕ → Label → Kind → List ℕ → Payload → DecodeReason → ℕ → Type 0 where
-    -- no join of whole elements
+    -- the payload isn't a sequence of whole elements
     no_elements : {room : ℕ} {label : Label} {kind : Kind} {bytes : List ℕ} {payload : Payload} {reason : DecodeReason}
         {place : ℕ} (end : ℕ) → may_be_packed label kind ≡ true → payload ≡ Len place end → reason ≡ PackedLength
         → ((ws : List ℕ) → AreElements kind (take end bytes) place ws → ⊥)
@@ -49,7 +49,7 @@ mutual
     no_text : {room : ℕ} {label : Label} {kind : Kind} {bytes : List ℕ} {payload : Payload} {reason : DecodeReason}
         {place : ℕ} (end : ℕ) → is_map label ≡ false → kind ≡ Text → payload ≡ Len place end → reason ≡ Utf8
         → (IsUtf8 (slice_range bytes place end) → ⊥) → Fails T room label kind bytes payload reason place
-    -- it would be the 33rd message
+    -- it would be a message at depth 33
     too_deep : {room : ℕ} {label : Label} {kind : Kind} {bytes : List ℕ} {payload : Payload} {reason : DecodeReason}
         {place : ℕ} (i end : ℕ) → is_map label ≡ false → kind ≡ OfMessage i → payload ≡ Len place end → room ≡ 0
         → reason ≡ Depth → Fails T room label kind bytes payload reason place
@@ -61,7 +61,7 @@ mutual
         {place : ℕ} (key : Kind) (start end : ℕ) → label ≡ Map key → payload ≡ Len start end
         → MeetsFault T room (entry_fields key kind) (take end bytes) start reason place
         → Fails T room label kind bytes payload reason place
-    -- the default of the entry's value would be the 33rd message
+    -- the default of the entry's value would be a message at depth 33
     no_room : {room : ℕ} {label : Label} {kind : Kind} {bytes : List ℕ} {payload : Payload} {reason : DecodeReason}
         {place : ℕ} (key : Kind) (end : ℕ) (tree : Node) → label ≡ Map key → payload ≡ Len place end
         → Reads T room (entry_fields key kind) (take end bytes) place tree → (HasRoom room kind → ⊥) → reason ≡ Depth

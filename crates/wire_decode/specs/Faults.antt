@@ -1,5 +1,5 @@
--- The first fault of a byte string that isn't a message of the table: sound records stand one behind another up to
--- a place, and there no record stands, or the payload of a known field fails.
+-- The first fault of a byte string that isn't a message of the table: valid records follow each other up to an offset,
+-- and there is no record there, or the payload of a known field is at fault.
 use Rattle.std.specs.Prelude.{◌-◌, ◌≡◌, ℕ, suc, ◌<◌, true, false, List, [], ◌∷◌, length, take, Some, slice_range}
 use Rattle.std.specs.Str.{IsUtf8}
 use Rattle.mrpc_table.specs.Node.{Node}
@@ -23,19 +23,20 @@ use Rattle.wire_decode.specs.declared.fault.DecodeFault.TheVariants.{At, Memory}
 use Rattle.wire_decode.specs.declared.fault.DecodeReason.{DecodeReason}
 use Rattle.wire_decode.specs.declared.fault.DecodeReason.TheVariants.{Utf8, PackedLength, Depth}
 
--- a record that is skipped, or one of a known field whose payload is sound by itself
+-- a record that is skipped, or one of a known field whose payload is valid by itself
 pub data IsSound (T : Table) (room : ℕ) (fields : List Field) (bytes : List ℕ) (r : Record) : Type 0 where
   is_skipped : is_known fields r ≡ false → IsSound T room fields bytes r
   is_known_and_sound : (f : Field) (value : Value) → field_at fields r.number ≡ Some f
       → HasValue T room f.label f.kind bytes r.payload value → IsSound T room fields bytes r
 
--- sound records stand one behind another from one place up to another
+-- valid records follow each other from one offset up to another
 abbrev pub AreSound : Table → ℕ → List Field → List ℕ → ℕ → List Record → ℕ → Type 0
 AreSound T room fields bytes from [] at = from ≡ at
 AreSound T room fields bytes from (r ∷ records) at = RecordAt bytes from r × IsSound T room fields bytes r
     × AreSound T room fields bytes r.next records at
 
--- a delimited payload of a field of the message, from one place up to another, in the record at a place
+-- the payload, from one offset up to another, of the record at an offset: it has a length, and is of a field of the
+-- message
 pub record HasPayload (fields : List Field) (bytes : List ℕ) (at : ℕ) (f : Field) (start end : ℕ) : Type 0 where
   pub number : ℕ
   pub next : ℕ
@@ -43,14 +44,14 @@ pub record HasPayload (fields : List Field) (bytes : List ℕ) (at : ℕ) (f : F
   pub known : field_at fields number ≡ Some f
 
 mutual
-  -- the first fault behind a place, of the bytes as a message of these fields; so many messages may stand in one
-  -- another inside
+  -- the first fault after an offset, of the bytes as a message of these fields; messages may nest `room` more levels
+  -- deep inside
   pub data FirstFault (T : Table) : ℕ → List Field → List ℕ → ℕ → DecodeReason → ℕ → Type 0 where
     first_fault : {room : ℕ} {fields : List Field} {bytes : List ℕ} {from : ℕ} {reason : DecodeReason} {place : ℕ}
         (before : List Record) (at : ℕ) → AreSound T room fields bytes from before at
         → IsFault T room fields bytes at reason place → FirstFault T room fields bytes from reason place
 
-  -- why no sound record stands at a place, and the place of the fault: that of a payload is where it starts
+  -- why there is no valid record at an offset, and the offset of the fault: for a payload, its start
   pub data IsFault (T : Table) : ℕ → List Field → List ℕ → ℕ → DecodeReason → ℕ → Type 0 where
     no_record_there : {room : ℕ} {fields : List Field} {bytes : List ℕ} {at : ℕ} {reason : DecodeReason} {place : ℕ}
         (f : WireFault) → at < length bytes → FaultAt bytes at f → reason ≡ reason_of f.reason → place ≡ f.place
@@ -74,17 +75,17 @@ mutual
         (f : Field) (key : Kind) (start end : ℕ) → HasPayload fields bytes at f start end → f.label ≡ Map key
         → FirstFault T room (entry_fields key f.kind) (take end bytes) start reason place
         → IsFault T room fields bytes at reason place
-    -- the entry is sound, but the default of its value would be one message too deep
+    -- the entry is valid, but the default of its value would be one message too deep
     default_too_deep : {room : ℕ} {fields : List Field} {bytes : List ℕ} {at : ℕ} {reason : DecodeReason} {place : ℕ}
         (f : Field) (key : Kind) (end : ℕ) (tree : Node) → HasPayload fields bytes at f place end → f.label ≡ Map key
         → MeansIn T room (entry_fields key f.kind) (slice_range bytes place end) tree → (HasRoom room f.kind → ⊥)
         → reason ≡ Depth → IsFault T room fields bytes at reason place
 
--- the first fault of the bytes as a message at a place of the table
+-- the first fault of the bytes as a message at an index of the table
 abbrev pub IsFirstFault : Table → ℕ → List ℕ → DecodeReason → ℕ → Type 0
 IsFirstFault T msg bytes reason place = FirstFault T (MAX_DEPTH - 1) (fields_of T msg) bytes 0 reason place
 
--- the fault is one of these, unless no memory was found
+-- the fault is one of these, unless it is out of memory
 abbrev pub FaultsAs : (DecodeReason → ℕ → Type 0) → DecodeFault → Type 0
 FaultsAs P Memory = Unit {0}
 FaultsAs P (At reason place) = P reason place

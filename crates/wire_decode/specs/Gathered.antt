@@ -1,4 +1,4 @@
--- The code's own: the contents of each number gathered in one content, which means what they mean, by rising number.
+-- The code's own: the contents of each number combined into one, which means what they mean, by ascending number.
 use Rattle.std.specs.Prelude.{◌≡◌, ◌≢◌, ℕ, ◌≤◌, Some, List, ◌∷◌, ◌++◌}
 use Rattle.mrpc_table.specs.Node.{Node, Content}
 use Rattle.mrpc_table.specs.Normal.{field_at}
@@ -10,9 +10,10 @@ use Rattle.wire_decode.specs.TwoInOne.{form_of}
 use Rattle.wire_decode.specs.NumberOrder.{NumbersRise, NumbersAreAtMost}
 use Rattle.wire_decode.specs.declared.gather.Form.{Form}
 
--- The new contents are the old ones and one more of this number. Contents of other numbers are unchanged. By the new
--- contents a field of this form and number has what it has by the old ones and this content, whatever stands behind.
--- Numbers still rise where none was above this one, and stay within each limit that this one keeps to.
+-- The new contents are the old ones and one more of this number. Contents of other numbers are unchanged. A field of
+-- this form and number has the same final content from the new contents as from the old ones followed by this content,
+-- whatever follows. Numbers still ascend if none was above this one, and stay within each limit that this one is
+-- within.
 pub record HasOneMore (form : Form) (old : Node) (number : ℕ) (content : Content) (new : Node) : Type 0 where
   pub others : (other : ℕ) → other ≢ number → contents_of other new ≡ contents_of other old
   pub same : (label : Label) (kind : Kind) → form_of label kind ≡ form
@@ -22,8 +23,8 @@ pub record HasOneMore (form : Form) (old : Node) (number : ℕ) (content : Conte
   pub rise : NumbersRise old → NumbersAreAtMost number old → NumbersRise new
   pub most : (limit : ℕ) → number ≤ limit → NumbersAreAtMost limit old → NumbersAreAtMost limit new
 
--- The held contents are the raw ones, gathered: their numbers rise, none is above the greatest raw one, and each field
--- has from its held content what it has from its raw ones, with any others behind.
+-- The combined contents are the raw ones, combined: their numbers ascend, none is above the greatest raw one, and each
+-- field has the same final content from its combined content as from its raw ones, whatever follows.
 pub record IsGathered (fields : List Field) (raw held : Node) : Type 0 where
   pub rise : NumbersRise held
   pub most : (limit : ℕ) → NumbersAreAtMost limit raw → NumbersAreAtMost limit held

@@ -5,7 +5,7 @@ use Rattle.mrpc_table.specs.declared.table.Field.{Field}
 use Rattle.mrpc_table.specs.declared.table.Table.{Table}
 use Rattle.wire_decode.specs.Reads.{Reads}
 
--- each string is whole records, and the item at its place is the message of what they have
+-- each string consists of whole records, and the item at its index is the message with their contents
 abbrev pub AreReadEach : Table → ℕ → List Field → List (List ℕ) → List Item → Type 0
 AreReadEach T room fs [] [] = Unit {0}
 AreReadEach T room fs (s ∷ ss) (node t ∷ is) = Reads T room fs s 0 t × AreReadEach T room fs ss is

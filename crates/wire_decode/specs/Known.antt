@@ -1,4 +1,4 @@
--- Which records are read as fields of a message, and what an entry of a map is read as.
+-- Which records are read as fields of a message, and which message an entry of a map is read as.
 use Rattle.std.specs.Prelude.{◌≡◌, ℕ, ◌<◌, Bool, true, false, List, [], ◌∷◌, option_map, unwrap_or}
 use Rattle.mrpc_table.specs.Normal.{field_at}
 use Rattle.mrpc_table.specs.declared.table.Kind.{Kind}
@@ -8,7 +8,7 @@ use Rattle.mrpc_table.specs.declared.table.Field.{Field}
 use Rattle.wire_base.specs.declared.records.Record.{Record}
 use Rattle.wire_decode.specs.Words.{suits}
 
--- whether a record is of a field of the message and of a wire type from which that field is read
+-- whether a record is of a field of the message, and of a wire type from which that field is read
 abbrev pub is_known : List Field → Record → Bool
 is_known fs r = unwrap_or (option_map (λ f. suits f.label f.kind r.payload) (field_at fs r.number)) false
 
@@ -22,6 +22,7 @@ abbrev pub is_message : Kind → Bool
 is_message (OfMessage i) = true
 is_message _ = false
 
--- the message of a map's value may stand as deep as its entry, or its default could
+-- if the value of a map is a message, one more level is allowed below the entry, so that the value or its default can
+-- be there
 abbrev pub HasRoom : ℕ → Kind → Type 0
 HasRoom room k = is_message k ≡ true → 0 < room

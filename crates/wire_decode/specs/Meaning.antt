@@ -1,5 +1,5 @@
--- What a byte string means as a message of a table (Protocol Buffers, "Encoding": "Message Structure",
--- "Last One Wins", "Packed Repeated Fields", "Oneofs", "Maps"), rule by rule.
+-- What a byte string means as a message of a table (Protocol Buffers, "Encoding": "Message Structure", "Last One Wins",
+-- "Packed Repeated Fields", "Oneofs", "Maps"), rule by rule.
 use Rattle.std.specs.Prelude.{◌≡◌, ◌≢◌, ◌==◌, ◌||◌, ℕ, suc, Bool, true, false, List, [], ◌∷◌, ◌++◌, map, Option, Some, None, if◌then◌else◌, slice_range}
 use Rattle.std.specs.Str.{IsUtf8}
 use Rattle.mrpc_table.specs.Node.{Node, no_fields, field, Content, one, many, pairs, Item, number, run, node}
@@ -23,25 +23,25 @@ use Rattle.wire_decode.specs.Contents.{default_of, some_items, some_pairs, with_
 use Rattle.wire_decode.specs.Oneofs.{are_rivals}
 use Rattle.wire_decode.specs.Contents.{single_content}
 
--- what a record of a field has: a number, the numbers of a packed piece, or the bytes of a text, of bytes, of a
+-- the value in a record of a field: a number, the numbers of a packed payload, or the bytes of a string, of bytes, of a
 -- message or of an entry
 pub data Value : Type 0 where
   single : ℕ → Value
   packed : List ℕ → Value
   delimited : List ℕ → Value
 
--- a value of another member of the same oneof stands behind
+-- a later value is of another member of the same oneof
 abbrev pub has_rival : List Field → ℕ → List (ℕ × Value) → Bool
 has_rival fields n [] = false
 has_rival fields n (value ∷ values) = are_rivals fields n value.0 || has_rival fields n values
 
--- the values that count: those that no value of another member of their oneof stands behind
+-- the values that count: those without a later value of another member of their oneof
 abbrev pub counted_values : List Field → List (ℕ × Value) → List (ℕ × Value)
 counted_values fields [] = []
 counted_values fields (value ∷ values) =
     if has_rival fields value.0 values then counted_values fields values else value ∷ counted_values fields values
 
--- the values of the field of a number, and those of the other fields
+-- the values of the field with a number, and those of the other fields
 abbrev pub values_of : ℕ → List (ℕ × Value) → List Value
 values_of n [] = []
 values_of n (value ∷ values) = if value.0 == n then value.1 ∷ values_of n values else values_of n values
@@ -50,14 +50,14 @@ abbrev pub values_but : ℕ → List (ℕ × Value) → List (ℕ × Value)
 values_but n [] = []
 values_but n (value ∷ values) = if value.0 == n then values_but n values else value ∷ values_but n values
 
--- the payloads, one behind another
+-- the payloads, concatenated
 abbrev pub joined_payloads : List Value → List ℕ
 joined_payloads [] = []
 joined_payloads (single n ∷ values) = joined_payloads values
 joined_payloads (packed ns ∷ values) = joined_payloads values
 joined_payloads (delimited bytes ∷ values) = bytes ++ joined_payloads values
 
--- the item of a field, or the default of its kind where it is missing
+-- the item of a field, or the default of its kind if it is missing
 abbrev pub item_or_default : ℕ → Kind → Node → Item
 item_or_default n kind no_fields = default_of kind
 item_or_default n kind (field m (one i) tree) = if m == n then i else item_or_default n kind tree
@@ -65,14 +65,15 @@ item_or_default n kind (field m (many items) tree) = item_or_default n kind tree
 item_or_default n kind (field m (pairs ps) tree) = item_or_default n kind tree
 
 mutual
-  -- The bytes are records, one behind another, and each of the fields, in their order, has what its values mean.
-  -- So many messages may stand in one another inside.
+  -- The bytes are records, in order, and each of the fields, in their order, has the content that its values mean.
+  -- Messages may nest `room` more levels deep inside.
   pub data MeansIn (T : Table) : ℕ → List Field → List ℕ → Node → Type 0 where
     means_in : {room : ℕ} {fields : List Field} {bytes : List ℕ} {tree : Node} (records : List Record)
         (values : List (ℕ × Value)) → AreRecords bytes records → HaveValues T room fields bytes records values
         → AreFields T room fields (counted_values fields values) tree → MeansIn T room fields bytes tree
 
-  -- The records of known fields have these values, in order; unknown numbers and other wire types are skipped.
+  -- The records of known fields have these values, in order; records of unknown numbers and of other wire types are
+  -- skipped.
   pub data HaveValues (T : Table) : ℕ → List Field → List ℕ → List Record → List (ℕ × Value) → Type 0 where
     no_more : {room : ℕ} {fields : List Field} {bytes : List ℕ} {records : List Record} {values : List (ℕ × Value)}
         → records ≡ [] → values ≡ [] → HaveValues T room fields bytes records values
@@ -85,7 +86,7 @@ mutual
         → HaveValues T room fields bytes rest others → values ≡ (r.number, value) ∷ others
         → HaveValues T room fields bytes records values
 
-  -- the value of a payload of a field, which is sound by itself
+  -- the value of a payload of a field, which is valid by itself
   pub data HasValue (T : Table) : ℕ → Label → Kind → List ℕ → Payload → Value → Type 0 where
     a_number : {room : ℕ} {label : Label} {kind : Kind} {bytes : List ℕ} {payload : Payload} {value : Value}
         → is_map label ≡ false → is_numeric kind ≡ true → payload_type payload ≡ wire_type_of kind
@@ -111,8 +112,8 @@ mutual
         → MeansIn T room (entry_fields key kind) (slice_range bytes start end) tree → HasRoom room kind
         → value ≡ delimited (slice_range bytes start end) → HasValue T room label kind bytes payload value
 
-  -- The fields of a message: each has what the values of its number mean, and takes these values, so that of two
-  -- fields of one number, which no valid table has, the first has them.
+  -- The fields of a message: each has the content that the values of its number mean, and takes these values. So of two
+  -- fields with the same number, which no valid table has, the first gets them.
   pub data AreFields (T : Table) : ℕ → List Field → List (ℕ × Value) → Node → Type 0 where
     no_field : {room : ℕ} {fields : List Field} {values : List (ℕ × Value)} {tree : Node} → fields ≡ []
         → tree ≡ no_fields → AreFields T room fields values tree
@@ -141,7 +142,7 @@ mutual
         (entries : List (Item × Item)) → label ≡ Map key → AreEntries T room key kind values entries
         → c ≡ some_pairs (last_of_each key entries) → FieldMeans T room label kind values c
 
-  -- the items of a value by itself
+  -- the items of one value by itself
   pub data ValueMeans (T : Table) : ℕ → Kind → Value → List Item → Type 0 where
     of_number : {room : ℕ} {kind : Kind} {value : Value} {items : List Item} (n : ℕ) → value ≡ single n
         → items ≡ number n ∷ [] → ValueMeans T room kind value items
@@ -153,7 +154,7 @@ mutual
         (tree : Node) → kind ≡ OfMessage i → room ≡ suc inside → value ≡ delimited bytes
         → MeansIn T inside (fields_of T i) bytes tree → items ≡ node tree ∷ [] → ValueMeans T room kind value items
 
-  -- the items of values, one behind another
+  -- the items of all values, in order
   pub data AreItems (T : Table) : ℕ → Kind → List Value → List Item → Type 0 where
     no_items : {room : ℕ} {kind : Kind} {values : List Value} {items : List Item} → values ≡ [] → items ≡ []
         → AreItems T room kind values items
@@ -161,7 +162,7 @@ mutual
         (first others : List Item) → values ≡ value ∷ rest → ValueMeans T room kind value first
         → AreItems T room kind rest others → items ≡ first ++ others → AreItems T room kind values items
 
-  -- entries of a map: each is a message with the key as field 1 and the value as field 2, a missing one the default
+  -- entries of a map: each is a message with the key as field 1 and the value as field 2; a missing one is the default
   pub data AreEntries (T : Table) : ℕ → Kind → Kind → List Value → List (Item × Item) → Type 0 where
     no_entries : {room : ℕ} {key kind : Kind} {values : List Value} {entries : List (Item × Item)} → values ≡ []
         → entries ≡ [] → AreEntries T room key kind values entries

@@ -6,7 +6,7 @@ use Rattle.mrpc_table.specs.declared.limits.TheConstants.{MAX_DEPTH}
 use Rattle.mrpc_table.specs.declared.table.Table.{Table}
 use Rattle.wire_decode.specs.Meaning.{MeansIn}
 
--- the message at a place of the table that the bytes mean; MAX_DEPTH messages at most stand in one another, itself
--- the first
+-- the message at an index of the table that the bytes mean; messages nest at most MAX_DEPTH levels deep, the outermost
+-- included
 pub record Means (T : Table) (msg : ℕ) (bytes : List ℕ) (t : Node) : Type 0 where
   pub meaning : MeansIn T (MAX_DEPTH - 1) (fields_of T msg) bytes t

@@ -1,5 +1,5 @@
--- The message that the contents of records, in the order of the bytes, stand for: each field has its value from
--- the records of its number alone (Protocol Buffers, "Encoding": "Last One Wins", "Oneofs", "Maps").
+-- The message that the contents of records, in the order of the bytes, represent: each field gets its value from the
+-- records of its number alone (Protocol Buffers, "Encoding": "Last One Wins", "Oneofs", "Maps").
 use Rattle.std.specs.Prelude.{◌==◌, ◌||◌, ℕ, zero, suc, Bool, false, List, [], ◌∷◌, ◌++◌, map, Option, Some, None, unwrap_or, if◌then◌else◌}
 use Rattle.mrpc_table.specs.Node.{Node, no_fields, field, Content, one, many, pairs, Item, number, run, node, Items, no_items, item}
 use Rattle.mrpc_table.specs.Normal.{fields_of}
@@ -23,7 +23,7 @@ abbrev pub items_in : Items → List Item
 items_in no_items = []
 items_in (item i is) = i ∷ items_in is
 
--- the values in contents, those of packed pieces included
+-- the values in contents, those of packed payloads included
 abbrev pub values_in : List Content → List Item
 values_in [] = []
 values_in (one i ∷ cs) = i ∷ values_in cs
@@ -37,12 +37,12 @@ singles_in (one i ∷ cs) = i ∷ singles_in cs
 singles_in (many is ∷ cs) = singles_in cs
 singles_in (pairs ps ∷ cs) = singles_in cs
 
--- the fields of two messages, one behind another
+-- the fields of two messages, the second after the first
 abbrev pub join_fields : Node → Node → Node
 join_fields no_fields u = u
 join_fields (field n c t) u = field n c (join_fields t u)
 
--- the records of several payloads, as if the payloads were one
+-- the records of several payloads, as if the payloads were concatenated
 abbrev pub joined : List Item → Node
 joined [] = no_fields
 joined (number n ∷ is) = joined is
@@ -55,7 +55,7 @@ last_value [] = None
 last_value (i ∷ []) = Some i
 last_value (i ∷ j ∷ is) = last_value (j ∷ is)
 
--- the value of a singular field: the last one, or the message of all records joined
+-- the value of a singular field: the last one, or the message of all records
 abbrev pub singular : (ℕ → Node → Node) → Kind → List Item → Option Item
 singular inner (OfMessage i) [] = None
 singular inner (OfMessage i) (v ∷ vs) = Some (node (inner i (joined (v ∷ vs))))
@@ -66,7 +66,7 @@ abbrev pub element : (ℕ → Node → Node) → Kind → Item → Item
 element inner (OfMessage i) v = node (inner i (joined (v ∷ [])))
 element inner _ v = v
 
--- the key or the value of an entry, by its number; where it is missing, the default
+-- the key or the value of an entry, by its number; the default if it is missing
 abbrev pub part : (ℕ → Node → Node) → ℕ → Kind → Node → Item
 part inner n k t = unwrap_or (singular inner k (singles_in (contents_of n t))) (default_of k)
 
@@ -74,7 +74,7 @@ part inner n k t = unwrap_or (singular inner k (singles_in (contents_of n t))) (
 abbrev pub entry : (ℕ → Node → Node) → Kind → Kind → Item → Item × Item
 entry inner key k v = (part inner 1 key (joined (v ∷ [])), part inner 2 k (joined (v ∷ [])))
 
--- what a field has, from the contents of its records
+-- the content of a field, from the contents of its records
 abbrev pub field_content : (ℕ → Node → Node) → Label → Kind → List Content → Option Content
 field_content inner Plain k cs = present_if_set (singular inner k (singles_in cs))
 field_content inner Optional k cs = present (singular inner k (singles_in cs))
@@ -83,24 +83,24 @@ field_content inner Repeated k cs = some_items (map (element inner k) (values_in
 field_content inner Packed k cs = some_items (map (element inner k) (values_in cs))
 field_content inner (Map key) k cs = some_pairs (last_of_each key (map (entry inner key k) (values_in cs)))
 
--- a record of another member of the same oneof stands behind
+-- a later record is of another member of the same oneof
 abbrev pub is_overtaken : List Field → ℕ → Node → Bool
 is_overtaken fs n no_fields = false
 is_overtaken fs n (field m c t) = are_rivals fs n m || is_overtaken fs n t
 
--- the records that count: of a oneof, the longest run of its last member's records at the end of the oneof's
--- records, which are those behind which no other member's record stands
+-- the records that count: of a oneof, those without a later record of another member, which are the longest suffix of
+-- the oneof's records that are all of the last member
 abbrev pub counted : List Field → Node → Node
 counted fs no_fields = no_fields
 counted fs (field n c t) = if is_overtaken fs n t then counted fs t else field n c (counted fs t)
 
--- the fields by ascending number, each with what its records give
+-- the fields by ascending number, each with the content that its records give
 abbrev pub with_fields : (ℕ → Node → Node) → Node → List Field → Node
 with_fields inner raw [] = no_fields
 with_fields inner raw (f ∷ fs) =
     with_content f.number (field_content inner f.label f.kind (contents_of f.number raw)) (with_fields inner raw fs)
 
--- the message of what its records have, where no more messages than this stand in one another
+-- the message that the contents of its records represent, with at most this many levels of messages
 unfoldable pub merged : Table → ℕ → ℕ → Node → Node
 merged T zero i raw = no_fields
 merged T (suc depth) i raw = with_fields (merged T depth) (counted (fields_of T i) raw) (fields_of T i)

@@ -1,4 +1,4 @@
--- The message that the records of a byte string are merged to, as the reader comes by it: first the contents of the
+-- The message that the records of a byte string are merged to, as the reader does it: first the contents of the
 -- records, each read by itself, then each field's own contents merged.
 use Rattle.std.specs.Prelude.{◌-◌, ◌≡◌, ℕ, List}
 use Rattle.mrpc_table.specs.Node.{Node}

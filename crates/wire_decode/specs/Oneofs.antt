@@ -5,16 +5,16 @@ use Rattle.mrpc_table.specs.declared.table.Label.{Label}
 use Rattle.mrpc_table.specs.declared.table.Label.TheVariants.{Member}
 use Rattle.mrpc_table.specs.declared.table.Field.{Field}
 
--- the oneof that a field of this label is a member of, by its place
+-- the oneof that a field of this label is a member of, by its index
 abbrev pub oneof_of : Label → Option ℕ
 oneof_of (Member oneof) = Some oneof
 oneof_of _ = None
 
--- the oneof that the field of a number is a member of
+-- the oneof that the field with a number is a member of
 abbrev pub oneof_at : List Field → ℕ → Option ℕ
 oneof_at fields number = option_and_then (λ f. oneof_of f.label) (field_at fields number)
 
--- whether both are a oneof, and the same
+-- whether both are the same oneof
 abbrev pub is_same : Option ℕ → Option ℕ → Bool
 is_same (Some one) (Some other) = one == other
 is_same _ _ = false

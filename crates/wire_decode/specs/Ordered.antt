@@ -1,4 +1,4 @@
--- The code's own: what a reader finds that reads records straight into the tree that they mean.
+-- The code's own: the results of a reader that reads records straight into the tree that they mean.
 use Rattle.std.specs.Prelude.{◌≡◌, ℕ, ◌+◌, ◌/◌, ◌%◌, nat_le, Bool, true, false, List, [], ◌∷◌, ◌++◌, map}
 use Rattle.mrpc_table.specs.Node.{Node, no_fields, Content, one, Item, node}
 use Rattle.mrpc_table.specs.declared.table.Kind.{Kind}
@@ -14,13 +14,13 @@ use Rattle.wire_decode.specs.Known.{HasRoom, entry_fields}
 use Rattle.wire_decode.specs.Merged.{merged, counted, with_fields, join_fields, field_content, element, entry}
 use Rattle.wire_decode.specs.Contents.{with_content}
 
--- the fields of the message that the bytes from a place on mean
+-- the fields of the message that the bytes from an offset on mean
 pub record IsWhole (T : Table) (room : ℕ) (fs : List Field) (bytes : List ℕ) (at : ℕ) (t : Node) : Type 0 where
   pub raw : Node
   pub reads : Reads T room fs bytes at raw
   pub same : t ≡ with_fields (merged T room) (counted fs raw) fs
 
--- a value of the kind from the payload of a wire type, and the place behind it
+-- a value of the kind from the payload of a wire type, and the offset after it
 pub record IsValue (T : Table) (room : ℕ) (k : Kind) (bytes : List ℕ) (at w : ℕ) (i : Item) (next : ℕ) : Type 0 where
   pub payload : Payload
   pub held : Item
@@ -29,7 +29,7 @@ pub record IsValue (T : Table) (room : ℕ) (k : Kind) (bytes : List ℕ) (at w 
   pub has_room : HasRoom room k
   pub same : i ≡ element (merged T room) k held
 
--- records with this tag stand from a place on up to another one, and have these contents
+-- records with this tag follow each other from one offset up to another, and have these contents
 pub data AreRun (T : Table) (room : ℕ) (label : Label) (k : Kind) (bytes : List ℕ) (tag from : ℕ)
     : List Content → ℕ → Type 0 where
   none_yet : {cs : List Content} {at : ℕ} → cs ≡ [] → at ≡ from → AreRun T room label k bytes tag from cs at
@@ -38,7 +38,7 @@ pub data AreRun (T : Table) (room : ℕ) (label : Label) (k : Kind) (bytes : Lis
       → PayloadAt bytes first (tag % 8) p at → Holds T room label k bytes p c → cs ≡ before ++ c ∷ []
       → AreRun T room label k bytes tag from cs at
 
--- the records of a field, of which the first tag ends at `start`, and what they add to the fields in front of them
+-- the records of a field, whose first tag ends at `start`, and what they add to the fields before them
 pub record IsFieldRead (T : Table) (room : ℕ) (label : Label) (k : Kind) (bytes : List ℕ) (tag start next : ℕ)
     (old new : Node) : Type 0 where
   pub contents : List Content
@@ -67,12 +67,12 @@ pub record IsPair (T : Table) (room : ℕ) (key k : Kind) (bytes : List ℕ) (at
   pub has_room : HasRoom room k
   pub same : e ≡ entry (merged T room) key k (node raw)
 
--- whether a field of this label may stand behind members of oneofs below this number
+-- whether a field of this label may follow members of oneofs with indices below this number
 abbrev pub may_follow : Label → ℕ → Bool
 may_follow (Member o) oneofs = nat_le oneofs o
 may_follow _ oneofs = true
 
--- a number that all oneofs are below of which a member stands there, a field of this label included
+-- a number above the indices of all oneofs with a member so far, after a field of this label
 abbrev pub oneofs_with : Label → ℕ → ℕ
 oneofs_with (Member o) oneofs = o + 1
 oneofs_with _ oneofs = oneofs

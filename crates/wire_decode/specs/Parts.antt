@@ -1,4 +1,4 @@
--- The code's own: what the readers of one payload find.
+-- The code's own: the results of the readers of one payload.
 use Rattle.std.specs.Prelude.{◌≡◌, ℕ, suc, ◌⊎◌, List}
 use Rattle.mrpc_table.specs.Node.{Node, Content, one, many, node}
 use Rattle.mrpc_table.specs.Normal.{fields_of}
@@ -11,13 +11,13 @@ use Rattle.wire_decode.specs.FaultWalk.{MeetsFault}
 use Rattle.wire_decode.specs.declared.fault.DecodeReason.{DecodeReason}
 use Rattle.wire_decode.specs.declared.fault.DecodeReason.TheVariants.{Depth}
 
--- the bytes from a place on are a packed piece
+-- the bytes from an offset on are a packed payload
 pub record IsPiece (k : Kind) (bytes : List ℕ) (at : ℕ) (c : Content) : Type 0 where
   pub words : List ℕ
   pub whole : AreElements k bytes at words
   pub content : c ≡ many (numbers words)
 
--- no packed piece is there
+-- the bytes from an offset on are no packed payload
 abbrev pub NoPiece : Kind → List ℕ → ℕ → Type 0
 NoPiece k bytes at = (ws : List ℕ) → AreElements k bytes at ws → ⊥
 
@@ -25,7 +25,7 @@ NoPiece k bytes at = (ws : List ℕ) → AreElements k bytes at ws → ⊥
 abbrev pub IsFixedOrVarint : ℕ → Type 0
 IsFixedOrVarint w = (w ≡ 0) ⊎ (w ≡ 1) ⊎ (w ≡ 5)
 
--- the bytes from a place on are an entry
+-- the bytes from an offset on are an entry
 pub record IsEntry (T : Table) (room : ℕ) (key k : Kind) (bytes : List ℕ) (at : ℕ) (c : Content) : Type 0 where
   pub raw : Node
   pub reads : Reads T room (entry_fields key k) bytes at raw
@@ -39,7 +39,7 @@ pub data NoEntry (T : Table) (room : ℕ) (key k : Kind) (bytes : List ℕ) (at 
   entry_room : (t : Node) → Reads T room (entry_fields key k) bytes at t → (HasRoom room k → ⊥) → reason ≡ Depth
       → place ≡ at → NoEntry T room key k bytes at reason place
 
--- the bytes from a place on are a message inside another one
+-- the bytes from an offset on are a nested message
 pub record IsInner (T : Table) (room i : ℕ) (bytes : List ℕ) (at : ℕ) (c : Content) : Type 0 where
   pub inside : ℕ
   pub raw : Node
@@ -47,7 +47,7 @@ pub record IsInner (T : Table) (room i : ℕ) (bytes : List ℕ) (at : ℕ) (c :
   pub reads : Reads T inside (fields_of T i) bytes at raw
   pub content : c ≡ one (node raw)
 
--- the first fault of a message inside
+-- the first fault of a nested message
 pub data NoInner (T : Table) (room i : ℕ) (bytes : List ℕ) (at : ℕ) (reason : DecodeReason) (place : ℕ) : Type 0 where
   inner_fault : (inside : ℕ) → room ≡ suc inside → MeetsFault T inside (fields_of T i) bytes at reason place
       → NoInner T room i bytes at reason place

@@ -1,6 +1,6 @@
--- What stands in the records of a message, each read by itself: the contents of the records of known fields in
--- the order of the bytes, with what the messages in them have. Records of other numbers, and of known
--- numbers with another wire type, are skipped (Protocol Buffers, "Encoding").
+-- The records of a message, each read by itself: the contents of the records of known fields in the order of the bytes,
+-- with those of the messages in them. Records of other numbers, and of known numbers with another wire type, are
+-- skipped (Protocol Buffers, "Encoding").
 use Rattle.std.specs.Prelude.{◌≡◌, ℕ, suc, true, false, List, [], ◌∷◌, length, take, Some, slice_range}
 use Rattle.std.specs.Str.{IsUtf8}
 use Rattle.mrpc_table.specs.Node.{Node, no_fields, field, Content, one, many, number, run, node, Items, no_items, item}
@@ -20,14 +20,14 @@ use Rattle.wire_base.specs.declared.records.Payload.TheVariants.{Len}
 use Rattle.wire_decode.specs.Words.{word_of, number_in, payload_type, is_map, may_be_packed, AreElements}
 use Rattle.wire_decode.specs.Known.{is_known, entry_fields, HasRoom}
 
--- the words of a packed piece as items
+-- the words of a packed payload as items
 abbrev pub numbers : List ℕ → Items
 numbers [] = no_items
 numbers (w ∷ ws) = item (number w) (numbers ws)
 
 mutual
-  -- The records are the bytes from a place to their end, and the tree has the contents of the known ones in order.
-  -- So many messages may still stand in one another inside.
+  -- The records are the bytes from an offset to their end, and the tree has the contents of the known ones in order.
+  -- Messages may nest `room` more levels deep inside.
   pub data Reads (T : Table) : ℕ → List Field → List ℕ → ℕ → Node → Type 0 where
     read_end : {room : ℕ} {fields : List Field} {bytes : List ℕ} {at : ℕ} {tree : Node} → at ≡ length bytes
         → tree ≡ no_fields → Reads T room fields bytes at tree
@@ -39,7 +39,8 @@ mutual
         → Holds T room f.label f.kind bytes r.payload c → tree ≡ field r.number c rest
         → Reads T room fields bytes r.next rest → Reads T room fields bytes at tree
 
-  -- what a record of a field has: a number, the elements of a packed piece, text, bytes, a message, or an entry
+  -- the content of a record of a field: a number, the elements of a packed payload, a string, bytes, a message, or an
+  -- entry
   pub data Holds (T : Table) : ℕ → Label → Kind → List ℕ → Payload → Content → Type 0 where
     holds_number : {room : ℕ} {label : Label} {kind : Kind} {bytes : List ℕ} {payload : Payload} {c : Content}
         → is_map label ≡ false → is_numeric kind ≡ true → payload_type payload ≡ wire_type_of kind

@@ -5,7 +5,7 @@ use Rattle.wire_base.specs.declared.fault.WireReason.TheVariants as wire
 use Rattle.wire_decode.specs.declared.fault.DecodeReason.{DecodeReason}
 use Rattle.wire_decode.specs.declared.fault.DecodeReason.TheVariants.{Varint, TagRange, NumberZero, WireType, Short, Utf8, PackedLength, Depth}
 
--- the reason why no record stands at a place, as that of a message's fault
+-- the reason why there is no record at an offset, as a reason of a message's fault
 abbrev pub reason_of : WireReason → DecodeReason
 reason_of wire.Varint = Varint
 reason_of wire.TagRange = TagRange

@@ -1,5 +1,5 @@
--- The code's own: two contents of a field in one content, which means what the two mean, one behind the other.
--- In these files `inner` gives the message, of a place in the table, that records mean.
+-- The code's own: two contents of a field combined into one, which means what the two mean in order. In these files
+-- `inner` gives the message, at an index of the table, that records mean.
 use Rattle.std.specs.Prelude.{◌≡◌, ℕ, Bool, true, false, List, [], ◌∷◌, ◌++◌}
 use Rattle.mrpc_table.specs.Node.{Node, Content, Item}
 use Rattle.mrpc_table.specs.declared.table.Kind.{Kind}
@@ -10,7 +10,8 @@ use Rattle.wire_decode.specs.Merged.{field_content, joined, singles_in}
 use Rattle.wire_decode.specs.declared.gather.Form.{Form}
 use Rattle.wire_decode.specs.declared.gather.Form.TheVariants.{Listed, Joined, Last}
 
--- how the contents of a singular field become one: the records of messages are joined; of other values the last counts
+-- how the contents of a singular field become one: the records of messages are concatenated; of other values the last
+-- counts
 abbrev pub single_form : Kind → Form
 single_form (OfMessage i) = Joined
 single_form _ = Last
@@ -24,19 +25,20 @@ form_of Plain kind = single_form kind
 form_of Optional kind = single_form kind
 form_of (Member oneof) kind = single_form kind
 
--- A field of this form has the same from the whole as from the first and the second content, wherever they stand.
+-- A field of this form has the same final content from the whole as from the first and the second content, whatever
+-- precedes and follows them.
 abbrev pub MeansBoth : Form → Content → Content → Content → Type 0
 MeansBoth form first second whole = (label : Label) (kind : Kind) → form_of label kind ≡ form
     → (inner : ℕ → Node → Node) (before after : List Content)
     → field_content inner label kind (before ++ whole ∷ after)
     ≡ field_content inner label kind (before ++ first ∷ second ∷ after)
 
--- One item stands for two: if they are messages, it has the records of both, and else it is the second.
+-- One item represents two: if they are messages, it has the records of both, and otherwise it is the second.
 abbrev pub StandsForBoth : Bool → Item → Item → Item → Type 0
 StandsForBoth true first second whole = (after : List Item) → joined (whole ∷ after) ≡ joined (first ∷ second ∷ after)
 StandsForBoth false first second whole = whole ≡ second
 
--- The whole has one item for the items of both contents, or where only one of them has an item, that one.
+-- The whole has one item for the items of both contents, or if only one of them has an item, that one.
 pub data HoldsBoth (message : Bool) (first second whole : Content) : Type 0 where
   are_both : (one other item : Item) → singles_in (first ∷ []) ≡ one ∷ [] → singles_in (second ∷ []) ≡ other ∷ []
       → singles_in (whole ∷ []) ≡ item ∷ [] → StandsForBoth message one other item

@@ -1,5 +1,5 @@
--- The numbers that are read, in the word form of their kind (Protocol Buffers, "Encoding"; language guide,
--- "Updating A Message Type": a 32-bit kind keeps the low 32 bits of a longer varint).
+-- The numbers that are read, in the word form of their kind (Protocol Buffers, "Encoding"; language guide, "Updating A
+-- Message Type": a 32-bit kind keeps the low 32 bits of a longer varint).
 use Rattle.std.specs.Prelude.{◌≡◌, ◌==◌, ◌||◌, ◌&&◌, ℕ, ◌+◌, ◌-◌, ◌/◌, ◌%◌, ◌^◌, if◌then◌else◌, nat_lt, Bool, true, false, List, [], ◌∷◌, length}
 use Rattle.mrpc_table.specs.Words.{is_numeric}
 use Rattle.mrpc_table.specs.declared.table.Kind.{Kind}
@@ -11,7 +11,7 @@ use Rattle.wire_base.specs.Records.{PayloadAt}
 use Rattle.wire_base.specs.declared.records.Payload.{Payload}
 use Rattle.wire_base.specs.declared.records.Payload.TheVariants.{Varint, I64, I32, Len}
 
--- a word of 32 bits in two's complement as one of 64 bits
+-- a 32-bit word in two's complement as one of 64 bits
 abbrev pub sign_extended : ℕ → ℕ
 sign_extended n = if nat_lt n (2 ^ 31) then n else n + (2 ^ 64 - 2 ^ 32)
 
@@ -19,7 +19,7 @@ sign_extended n = if nat_lt n (2 ^ 31) then n else n + (2 ^ 64 - 2 ^ 32)
 abbrev pub unzigzag_of : ℕ → ℕ
 unzigzag_of n = if n % 2 == 0 then n / 2 else 2 ^ 64 - 1 - n / 2
 
--- the word of a number that was read
+-- the word form of a number that was read
 abbrev pub word_of : Kind → ℕ → ℕ
 word_of Int32 v = sign_extended (v % 2 ^ 32)
 word_of (Choice i) v = sign_extended (v % 2 ^ 32)
@@ -30,7 +30,7 @@ word_of Sint64 v = unzigzag_of v
 word_of TheBool v = if v == 0 then 0 else 1
 word_of _ v = v
 
--- the number that a payload has
+-- the number in a payload
 abbrev pub number_in : Payload → ℕ
 number_in (Varint v) = v
 number_in (I64 v) = v
@@ -49,7 +49,7 @@ abbrev pub own_type : Label → Kind → ℕ
 own_type (Map key) k = wire_len
 own_type _ k = wire_type_of k
 
--- a label of a field that has elements, one behind another
+-- the label of a field with any number of elements
 abbrev pub is_list : Label → Bool
 is_list Repeated = true
 is_list Packed = true
@@ -60,7 +60,7 @@ abbrev pub is_map : Label → Bool
 is_map (Map key) = true
 is_map _ = false
 
--- numbers of a repeated field may also stand packed, however the field is written
+-- the numbers of a repeated field may also be packed, however the field is written
 abbrev pub may_be_packed : Label → Kind → Bool
 may_be_packed label k = is_list label && is_numeric k
 
@@ -68,7 +68,7 @@ may_be_packed label k = is_list label && is_numeric k
 abbrev pub suits : Label → Kind → Payload → Bool
 suits label k p = payload_type p == own_type label k || (may_be_packed label k && payload_type p == wire_len)
 
--- whole elements of the kind, one behind another, are the bytes from this place to the end
+-- the bytes from this offset to the end are whole elements of the kind, in order
 abbrev pub AreElements : Kind → List ℕ → ℕ → List ℕ → Type 0
 AreElements k bytes at [] = at ≡ length bytes
 AreElements k bytes at (w ∷ ws) = (p : Payload) × (next : ℕ) × PayloadAt bytes at (wire_type_of k) p next

@@ -14,21 +14,21 @@ use wire_base::{WireFault, WireReason};
 /// Why bytes aren't a message of a table. The first five are those of a record.
 #[derive(Clone, Copy, Debug, PartialEq, Eq)]
 pub enum DecodeReason {
-    /// Ten bytes with the top bit set stand where a varint should.
+    /// Ten bytes with the top bit set are in place of a varint.
     Varint = 1,
     /// The value of a tag is 2^32 or more.
     TagRange = 2,
     /// The field number of a tag is 0.
     NumberZero = 3,
-    /// The wire type of a tag is none of 0, 1, 2 and 5.
+    /// The wire type of a tag isn't 0, 1, 2 or 5.
     WireType = 4,
     /// The bytes end inside a tag or a payload.
     Short = 5,
     /// The payload of a string isn't UTF-8.
     Utf8 = 6,
-    /// The payload of packed numbers isn't a join of whole elements.
+    /// The payload of packed numbers isn't a sequence of whole elements.
     PackedLength = 7,
-    /// The payload, or the value that a map's entry lacks, would be the 33rd message inside one another.
+    /// The payload, or the value that a map's entry lacks, would be a message at depth 33.
     Depth = 8,
 }
 
@@ -63,10 +63,10 @@ impl std::error::Error for DecodeReason {}
 /// Why no message was read.
 #[derive(Clone, Copy, Debug, Error)]
 pub enum DecodeFault {
-    /// The first fault of the bytes, and its place, counted from 0.
+    /// The first fault of the bytes, and its offset, counted from 0.
     #[error("byte {place}: {reason}")]
     At { reason: DecodeReason, place: usize },
-    /// No memory was found.
+    /// Out of memory.
     #[error("out of memory")]
     Memory,
 }

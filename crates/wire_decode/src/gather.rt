@@ -1,4 +1,4 @@
-//! Gathering: the contents of a field's records in one content.
+//! Combines the contents of a field's records into one content.
 
 ghost use Rattle.std.specs.Prelude.{◌≡◌, ℕ, List, [], ◌∷◌, ◌++◌, map, true, false, IfOk, OnOk};
 ghost use Rattle.mrpc_table.specs.Node.{Node, Item};
@@ -15,7 +15,7 @@ use std::alloc::Global;
 pub(crate) enum Form {
     // All values count, in order.
     Listed,
-    // The records of the messages are joined.
+    // The records of the messages are concatenated.
     Joined,
     // The last value counts.
     Last,
@@ -34,7 +34,7 @@ pub(crate) fn form_of(label: Label, kind: Kind) -> Form
     }
 }
 
-// Adds a content to those of its number, which can only be the last ones.
+// Adds a content to those of its number, which can only be at the end.
 pub(crate) fn add(
     alloc: Global,
     held: &mut Numbered,
@@ -60,7 +60,7 @@ pub(crate) fn add(
     Ok(())
 }
 
-// Two contents of a field in one.
+// Combines two contents of a field.
 fn joined(
     alloc: Global,
     before: FieldValue,
@@ -76,7 +76,7 @@ fn joined(
     }
 }
 
-// The values of two contents in one list.
+// Combines the values of two contents into one list.
 fn listed(alloc: Global, before: FieldValue, content: FieldValue) -> Result<FieldValue, Memory>
     ensures { IfOk result
         (λ c. values_in (content_of c ∷ [])
@@ -86,7 +86,7 @@ fn listed(alloc: Global, before: FieldValue, content: FieldValue) -> Result<Fiel
     Ok(FieldValue::Many(values))
 }
 
-// Two contents of a singular field in one.
+// Combines two contents of a singular field.
 fn singles(before: FieldValue, content: FieldValue, is_message: bool) -> Result<FieldValue, Memory>
     ensures { IfOk result
         (λ c. HoldsBoth is_message (content_of before) (content_of content) (content_of c)) }
@@ -103,7 +103,7 @@ fn singles(before: FieldValue, content: FieldValue, is_message: bool) -> Result<
     }
 }
 
-// Two values of a singular field in one: the last one, or the message of the records of both.
+// Combines two values of a singular field: the last one, or the message with the records of both.
 pub(crate) fn joined_value(before: Value, value: Value, is_message: bool) -> Result<Value, Memory>
     ensures { IfOk result (λ v. StandsForBoth is_message (item_of before) (item_of value) (item_of v)) }
 {
@@ -127,7 +127,7 @@ fn joined_message(before: Value, value: Value) -> Result<Value, Memory>
     }
 }
 
-// The fields of two messages, one behind another.
+// The fields of two messages, the second after the first.
 fn joined_tree(tree: Tree, more: Tree) -> Result<Tree, Memory>
     ensures { IfOk result (λ t. t ≡ join_fields tree more) }
 {
@@ -152,7 +152,7 @@ pub(crate) fn values_of(alloc: Global, content: FieldValue) -> Result<Values, Me
     }
 }
 
-// The values, and those of a content behind them.
+// The values followed by those of a content.
 fn appended(values: Values, content: FieldValue) -> Result<Values, Memory>
     ensures { IfOk result
         (λ vs. map item_of vs.items ≡ map item_of values.items ++ values_in (content_of content ∷ [])) }

@@ -1,4 +1,4 @@
-//! Laws of the definitions. These functions do nothing; their clauses hold.
+//! Laws of the definitions. These functions do nothing; their clauses are the laws.
 
 ghost use Rattle.std.specs.Prelude.{◌≡◌, ◌-◌, ◌<◌, ◌^◌, ◌⊎◌, ◌++◌, ℕ, List, length, All};
 ghost use Rattle.std.specs.List.{concat};
@@ -22,7 +22,7 @@ ghost use Rattle.wire_decode.specs.declared.fault.DecodeReason.{DecodeReason};
 use mrpc_table::kept_entries_are_normal;
 use wire_base::{payload_or_reason, record_or_fault, varint_is_read_back};
 
-/// Bytes have one meaning.
+/// Bytes have at most one meaning.
 pub fn one_meaning()
     ensures { (T : Table) (msg : ℕ) (bytes : List ℕ) (t u : Node) → Means T msg bytes t → Means T msg bytes u → t ≡ u }
 {
@@ -42,7 +42,7 @@ pub fn meaning_or_fault()
     record_or_fault();
 }
 
-/// Bytes have one first fault at most.
+/// Bytes have at most one first fault.
 pub fn one_fault()
     ensures { (T : Table) (msg : ℕ) (bytes : List ℕ) (reason other : DecodeReason) (place at : ℕ)
         → IsFirstFault T msg bytes reason place
@@ -52,7 +52,7 @@ pub fn one_fault()
     record_or_fault();
 }
 
-/// What bytes mean under a valid table is a tree in normal form.
+/// Under a valid table, bytes mean only trees in normal form.
 pub fn meaning_is_normal()
     ensures { (T : Table) (msg : ℕ) (bytes : List ℕ) (t : Node) → IsValid T → msg < length T.messages
         → All (λ b. b < 256) bytes
@@ -62,7 +62,7 @@ pub fn meaning_is_normal()
     rules_and_reader_agree();
 }
 
-/// The encoding of a tree in normal form means that tree. A length is a varint of 64 bits, hence the bound.
+/// The encoding of a tree in normal form means that tree. The bound is there because a length is a varint of 64 bits.
 pub fn meaning_of_encoding()
     ensures { (T : Table) (msg : ℕ) (t : Node) → IsValid T → msg < length T.messages → IsNormal T msg t
         → length (encoding T msg t) < 2 ^ 64 → Means T msg (encoding T msg t) t }
@@ -71,8 +71,8 @@ pub fn meaning_of_encoding()
     rules_and_reader_agree();
 }
 
-/// Strings of whole records, joined, are whole records again, with the contents of all, one behind another. So
-/// what the joined strings mean is what their records mean, one behind another.
+/// Concatenated strings of whole records are whole records, with the contents of all strings in order. So the
+/// concatenation means what the records of all strings mean in order.
 pub fn meaning_of_joined_strings()
     ensures reads { (T : Table) (room : ℕ) (fs : List Field) (a b : List ℕ) (t u : Node) → Reads T room fs a 0 t
         → Reads T room fs b 0 u → Reads T room fs (a ++ b) 0 (join_fields t u) }
@@ -85,15 +85,15 @@ pub fn meaning_of_joined_strings()
         → Reads T (MAX_DEPTH - 1) (fields_of T msg) b 0 u
         → Means T msg (a ++ b) (merged T MAX_DEPTH msg (join_fields t u)) }
 
-    // The payloads of a singular message mean together what their joined bytes mean.
+    // The payloads of a singular message mean together what their concatenation means.
     ensures payloads { (T : Table) (room : ℕ) (fs : List Field) (strings : List (List ℕ)) (messages : List Item)
         → AreReadEach T room fs strings messages → Reads T room fs (concat strings) 0 (joined messages) }
 {
     rules_and_reader_agree();
 }
 
-/// What is said of bytes rule by rule is what the reader finds: the message that their records are merged to, where
-/// the table's fields ascend, and the fault that a walk over the records meets.
+/// The meaning of bytes, defined rule by rule, is what the reader finds. If the table's fields ascend, it is the
+/// message that the records are merged to. The first fault is the one that a walk over the records reaches.
 pub fn rules_and_reader_agree()
     ensures merged { (T : Table) (msg : ℕ) (bytes : List ℕ) (t : Node) → AllAscend T → Means T msg bytes t
         → Merges T msg bytes t }
@@ -108,7 +108,7 @@ pub fn rules_and_reader_agree()
     record_or_fault();
 }
 
-// The records of bytes are merged to one message, and have no fault then.
+// The records of bytes are merged to at most one message, and then have no fault.
 pub(crate) fn one_merging()
     ensures one { (T : Table) (msg : ℕ) (bytes : List ℕ) (t u : Node) → Merges T msg bytes t → Merges T msg bytes u
         → t ≡ u }

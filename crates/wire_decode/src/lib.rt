@@ -1,13 +1,12 @@
-//! The decoder: the message that Protocol Buffers bytes mean, or the first fault in them.
+//! The decoder: the message that Protocol Buffers bytes mean, or their first fault.
 //!
-//! The format is that of the Protocol Buffers encoding guide. Where the records come in the order of
-//! the fields, as encoders write them, they are read straight into the tree, in vectors of earlier trees where some
-//! were taken back (`Spare` of `spare_trees`). Others are read in one pass into the contents of their records, in
-//! order; then each field has its value from its own records, and the tree comes with its fields by ascending number.
-//! All takes time in proportion to the bytes, but for sorting records and the entries of maps. `specs/Meaning.antt` says
-//! what bytes mean, rule by rule, and `specs/Faults.antt` which fault is the first one. It stands on `mrpc_table`,
-//! `wire_base` and `spare_trees`. The layers above use one contract: the answer is the meaning, or the first fault
-//! exactly where there is no meaning.
+//! The format is that of the Protocol Buffers encoding guide. If the records come in the order of the fields, as
+//! encoders write them, they are read straight into the tree, in vectors of earlier trees if the pool has some (`Spare`
+//! of `spare_trees`). Otherwise they are read in one pass into the contents of their records, in order. Then each field
+//! gets its value from its own records, and the tree its fields by ascending number. This takes time linear in the
+//! bytes, except for sorting records and the entries of maps. `specs/Meaning.antt` defines what bytes mean, rule by
+//! rule, and `specs/Faults.antt` the first fault. This crate depends on `mrpc_table`, `wire_base` and `spare_trees`.
+//! The layers above use one contract: the result is the meaning, or the first fault exactly if there is no meaning.
 #![tactic(auto)]
 
 ghost use Rattle.std.specs.Prelude.{◌≡◌, ◌-◌, ◌<◌, ◌≤◌, length, IfOk, IfErr, MatchResult};
@@ -44,11 +43,10 @@ use mrpc_table::{MAX_DEPTH, Table, Tree};
 use spare_trees::Spare;
 use std::alloc::Global;
 
-/// The message at the place `msg` of the table that the bytes mean, as a tree in normal form.
+/// Decodes a message: the one at index `msg` of the table that the bytes mean, as a tree in normal form.
 ///
-/// `At` comes exactly where the bytes mean no message, with their first fault: records are read in
-/// order, and the payload of a known field is read where it stands. `Memory` comes only where no
-/// memory was found.
+/// `At` is returned exactly if the bytes mean no message, with their first fault. Records are checked in order, and the
+/// payload of a known field is checked with its record. `Memory` is returned only when it is out of memory.
 pub fn decode(alloc: Global, bytes: &[u8], table: &Table, msg: u32) -> Result<Tree, DecodeFault>
     requires valid { IsValid table.now }
     requires known { msg < length table.now.messages }
@@ -57,14 +55,14 @@ pub fn decode(alloc: Global, bytes: &[u8], table: &Table, msg: u32) -> Result<Tr
     ensures fault { IfErr result (FaultsAs (IsFirstFault table.now msg bytes.now)) }
     ensures within { IfErr result (FaultsAs (λ reason place. place ≤ length bytes.now)) }
 
-    // Bytes that have a meaning are read, unless no memory was found.
+    // Bytes with a meaning are decoded, unless it is out of memory.
     ensures only { (t : Node) → Means table.now msg bytes.now t
         → MatchResult result (λ u. u ≡ t) (λ f. f ≡ DecodeFault.Memory) }
 {
     decode_with(alloc, &mut Spare::new(alloc), bytes, table, msg)
 }
 
-/// What [`decode`] gives, in vectors of the trees that `spare` took back, as far as they go.
+/// Like [`decode`], but reuses vectors of the trees that `spare` took back.
 pub fn decode_with(
     alloc: Global,
     spare: &mut Spare,
@@ -79,7 +77,7 @@ pub fn decode_with(
     ensures fault { IfErr result (FaultsAs (IsFirstFault table.now msg bytes.now)) }
     ensures within { IfErr result (FaultsAs (λ reason place. place ≤ length bytes.now)) }
 
-    // Bytes that have a meaning are read, unless no memory was found.
+    // Bytes with a meaning are decoded, unless it is out of memory.
     ensures only { (t : Node) → Means table.now msg bytes.now t
         → MatchResult result (λ u. u ≡ t) (λ f. f ≡ DecodeFault.Memory) }
 {
@@ -88,7 +86,7 @@ pub fn decode_with(
     decoded(alloc, spare, bytes, table, msg)
 }
 
-// The same for any table whose fields stand in order.
+// Like `decode_with`, for any table whose fields are in order.
 fn decoded(
     alloc: Global,
     spare: &mut Spare,
@@ -111,7 +109,7 @@ fn decoded(
     }
 }
 
-// The same for records in any order.
+// Like `decoded`, for records in any order.
 fn merged_records(alloc: Global, bytes: &[u8], table: &Table, msg: u32) -> Result<Tree, DecodeFault>
     requires { AllAscend table.now }
     ensures means { IfOk result (λ t. Merges table.now msg bytes.now t) }

@@ -1,5 +1,5 @@
-//! Merging: the message that the contents of records stand for. Each field has its value from its
-//! own records, and fields, entries and oneofs come in the normal form of a tree.
+//! Merging: the message that the contents of records represent. Each field gets its value from its own records, and
+//! fields, entries and oneofs are brought into normal form.
 
 ghost use Rattle.std.specs.Prelude.{◌≡◌, ℕ, ◌<◌, length, IfOk, IsTrue, Some, true, map, option_map, List, [], ◌∷◌, ◌++◌, OnOk};
 ghost use Rattle.mrpc_table.specs.View.{item_of, content_of, node_of, pairs_of};
@@ -26,8 +26,7 @@ use mrpc_table::{
 };
 use std::alloc::Global;
 
-// The message at a place of the table that the contents stand for, where at most `depth` messages
-// stand in one another.
+// The message at an index of the table that the contents represent, with at most `depth` levels of messages.
 #[cycle(merge)]
 pub(crate) fn merged(
     alloc: Global,
@@ -51,7 +50,7 @@ pub(crate) fn merged(
     Ok(Tree { fields })
 }
 
-// The contents by ascending number, those of one number in their order.
+// The contents by ascending number, those of one number in their original order.
 fn by_number(raw: Numbered) -> Result<Numbered, Memory>
     ensures sorted { IfOk result (λ parts. NumbersNeverFallFrom 0 (node_of parts.items)) }
     ensures same { IfOk result
@@ -65,7 +64,7 @@ fn by_number(raw: Numbered) -> Result<Numbered, Memory>
     Ok(parts)
 }
 
-// Whether no number is below the one before it.
+// Whether no number is below the previous one.
 fn ascends(raw: &Numbered) -> bool
     ensures { IsTrue result → NumbersNeverFallFrom 0 (node_of raw.now.items) }
 {
@@ -79,7 +78,7 @@ fn ascends(raw: &Numbered) -> bool
     true
 }
 
-// The contents of each number in one.
+// The contents of each number, combined into one.
 fn gathered(alloc: Global, raw: Numbered, fields: &[Field]) -> Result<Numbered, Memory>
     requires ascend { FieldsAscend fields.now }
     requires sorted { NumbersNeverFallFrom 0 (node_of raw.items) }
@@ -95,7 +94,7 @@ fn gathered(alloc: Global, raw: Numbered, fields: &[Field]) -> Result<Numbered, 
     Ok(held)
 }
 
-// How the contents of the field of a number become one, and its place.
+// How the contents of the field with a number become one, and the field's index.
 fn form_at(fields: &[Field], number: u32, hint: usize) -> (Form, usize)
     requires { FieldsAscend fields.now }
     ensures { (f : Field) → field_at fields.now number ≡ Some f → result.0 ≡ form_of f.label f.kind }
@@ -109,7 +108,7 @@ fn form_at(fields: &[Field], number: u32, hint: usize) -> (Form, usize)
     }
 }
 
-// What each field has, from its contents in one.
+// The final content of each field, from its combined content.
 #[cycle(merge)]
 fn finished(
     alloc: Global,
@@ -134,7 +133,7 @@ fn finished(
     Ok(whole)
 }
 
-// What the field of a number has, and the field's place.
+// The final content of the field with a number, and the field's index.
 #[cycle(merge)]
 fn finish(
     alloc: Global,
@@ -162,7 +161,7 @@ fn finish(
     }
 }
 
-// Appends what a field has, if it has something.
+// Appends the content of a field, if it has one.
 pub(crate) fn push_content(
     whole: &mut Numbered,
     number: u32,
@@ -182,7 +181,7 @@ pub(crate) fn push_content(
     }
 }
 
-// What a field has, or nothing.
+// The final content of a field, if it has one.
 #[cycle(merge)]
 fn field_content(
     alloc: Global,
@@ -217,7 +216,7 @@ fn field_content(
     }
 }
 
-// The elements of a repeated field, if there is one.
+// The elements of a repeated field, if there are any.
 pub(crate) fn many(values: Values) -> Option<FieldValue>
     ensures { option_map content_of result ≡ some_items (map item_of values.items) }
 {
@@ -228,7 +227,7 @@ pub(crate) fn many(values: Values) -> Option<FieldValue>
     }
 }
 
-// The entries of a map, if there is one.
+// The entries of a map, if there are any.
 pub(crate) fn pairs(entries: Entries) -> Option<FieldValue>
     ensures { option_map content_of result ≡ some_pairs (pairs_of entries.items) }
 {
@@ -249,7 +248,7 @@ pub(crate) fn present(value: Option<Value>) -> Option<FieldValue>
     }
 }
 
-// The value of a field with implicit presence: a default is nothing.
+// The value of a field with implicit presence: a default is left out.
 pub(crate) fn present_if_set(value: Option<Value>) -> Option<FieldValue>
     ensures { option_map content_of result ≡ present_if_set (option_map item_of value) }
 {
@@ -265,7 +264,7 @@ pub(crate) fn present_if_set(value: Option<Value>) -> Option<FieldValue>
     }
 }
 
-// Whether a value is a number of 0, or a run of nothing.
+// Whether a value is the number 0, or an empty run.
 fn is_default(value: &Value) -> bool
     ensures { result ≡ is_default (item_of value.now) }
 {
@@ -296,7 +295,7 @@ fn singular(
     }
 }
 
-// A value, where a message is merged.
+// A value; a message is merged.
 #[cycle(merge)]
 fn element(
     alloc: Global,
@@ -400,7 +399,7 @@ fn entry(
     Ok((key, value))
 }
 
-// The keys and the values of an entry, each in one, with one content more.
+// The combined keys and values of an entry, with one content more.
 fn noted(
     keys: Option<Value>,
     values: Option<Value>,
@@ -436,7 +435,7 @@ fn noted(
     }
 }
 
-// The values of a singular field in one, and one more.
+// The combined values of a singular field, with one value more.
 fn with(before: Option<Value>, value: Value, kind: Kind) -> Result<Value, Memory>
     ensures { IfOk result
         (λ v. IsWithOneMore kind (option_map item_of before) (item_of value) (item_of v)) }
@@ -447,7 +446,7 @@ fn with(before: Option<Value>, value: Value, kind: Kind) -> Result<Value, Memory
     }
 }
 
-// A part of an entry; where it is missing, the default.
+// The key or the value of an entry; the default if it is missing.
 #[cycle(merge)]
 fn part(
     alloc: Global,

@@ -1,4 +1,4 @@
-//! Numbers: the word form of what a record or a packed piece has.
+//! Numbers: the word form of a number in a record or a packed payload.
 
 ghost use Rattle.std.specs.Prelude.{◌≡◌, ℕ, ◌%◌, ◌^◌};
 ghost use Rattle.wire_decode.specs.Known.{is_message};
@@ -7,7 +7,7 @@ ghost use Rattle.wire_decode.specs.Words.{word_of, sign_extended, unzigzag_of, i
 use mrpc_table::{Kind, Label};
 use wire_base::{Payload, unzigzag};
 
-// The word of a number that was read.
+// The word form of a number that was read.
 pub(crate) fn word_of(kind: Kind, v: u64) -> u64
     ensures { result ≡ word_of kind v }
 {
@@ -28,7 +28,7 @@ fn low(v: u64) -> u32
     (v % (1 << 32)) as u32
 }
 
-// A word of 32 bits in two's complement as one of 64 bits.
+// A 32-bit word in two's complement as one of 64 bits.
 fn sign_extended(v: u32) -> u64
     ensures { result ≡ sign_extended v }
 {

@@ -1,4 +1,4 @@
-//! Oneofs: of the records of a oneof, the longest run of its last member's records at the end counts.
+//! Oneofs: of the records of a oneof, only the longest suffix whose records are all of one member counts.
 
 ghost use Rattle.std.specs.Prelude.{◌≡◌, ◌≢◌, ℕ, ◌<◌, ◌^◌, [], ◌∷◌, ◌++◌, if◌then◌else◌, length, not, false, IfOk, OnOk, IfSome, vec_len, slice_index_or};
 ghost use Rattle.mrpc_table.specs.Node.{field};
@@ -11,7 +11,7 @@ ghost use Rattle.wire_decode.specs.Behind.{overtakes, IsInFront, IsNotedAt, HasN
 use mrpc_table::{Field, FieldValue, Label, Memory, Numbered, find_field};
 use std::alloc::Global;
 
-// The members of a oneof among the records behind a place.
+// The members of a oneof among the later records.
 #[derive(Clone, Copy)]
 enum Behind {
     Nothing,
@@ -19,7 +19,7 @@ enum Behind {
     Several,
 }
 
-// Whether another member's record stands behind one of this number.
+// Whether a record of another member comes after one of this number.
 fn overtakes(behind: Behind, number: u32) -> bool
     ensures { result ≡ overtakes behind number }
 {
@@ -30,7 +30,7 @@ fn overtakes(behind: Behind, number: u32) -> bool
     }
 }
 
-// What stands behind, with a record of this number in front.
+// The members of the later records, with a record of this number before them.
 fn in_front(behind: Behind, number: u32) -> Behind
     ensures { IsInFront behind number result }
 {
@@ -86,7 +86,7 @@ fn keep_if(kept: &mut Numbered, part: (u32, FieldValue), counts: bool) -> Result
     Ok(())
 }
 
-// Whether a record counts, given what stands behind it; it is noted.
+// Whether a record counts, given the later ones; then adds it to them.
 fn counts(behind: &mut Vec<Behind>, fields: &[Field], number: u32) -> Result<bool, Memory>
     requires { FieldsAscend fields.now }
     ensures { IfOk result (λ b. SaysIfCounted fields.now behind.old.items number behind.new.items b) }
@@ -97,7 +97,7 @@ fn counts(behind: &mut Vec<Behind>, fields: &[Field], number: u32) -> Result<boo
     }
 }
 
-// Notes a record of a oneof, and says whether it counts.
+// Adds a record of a oneof to the later ones, and returns whether it counts.
 fn note(behind: &mut Vec<Behind>, oneof: usize, number: u32) -> Result<bool, Memory>
     requires { oneof < 2 ^ 32 }
     ensures noted { OnOk result (IsNotedAt behind.old.items oneof number behind.new.items) }
@@ -110,7 +110,7 @@ fn note(behind: &mut Vec<Behind>, oneof: usize, number: u32) -> Result<bool, Mem
     Ok(!overtakes(tail, number))
 }
 
-// Makes a place for a oneof.
+// Extends the list so that a oneof has an entry.
 fn grow(behind: &mut Vec<Behind>, oneof: usize) -> Result<(), Memory>
     requires { oneof < 2 ^ 32 }
     ensures within { OnOk result (oneof < length behind.new.items) }
@@ -124,7 +124,7 @@ fn grow(behind: &mut Vec<Behind>, oneof: usize) -> Result<(), Memory>
     Ok(())
 }
 
-// Whether a record is of a member of a oneof.
+// Whether any record is of a member of a oneof.
 fn has_member(raw: &Numbered, fields: &[Field]) -> bool
     requires { FieldsAscend fields.now }
     ensures { result ≡ false → HasNoMember fields.now (node_of raw.now.items) }
@@ -137,7 +137,7 @@ fn has_member(raw: &Numbered, fields: &[Field]) -> bool
     false
 }
 
-// The oneof that the field of a number is a member of.
+// The oneof that the field with a number is a member of.
 fn oneof_at(fields: &[Field], number: u32) -> Option<usize>
     requires { FieldsAscend fields.now }
     ensures value { result ≡ oneof_at fields.now number }

@@ -1,6 +1,6 @@
-//! Messages whose records come in order: those of each field behind those of the fields in front of it, and one for
-//! each field but for lists and maps, as encoders write them. They are read straight into the tree that they mean. What
-//! comes otherwise is not read here, and neither is what has a fault.
+//! Reads messages whose records come in order, as encoders write them. The records of each field follow those of the
+//! fields before it, with one record for each field except for lists and maps. They are read straight into the tree
+//! that they mean. Records in any other order, or with a fault, aren't read here.
 
 ghost use Rattle.std.specs.Prelude.{◌≡◌, ℕ, ◌/◌, ◌%◌, ◌<◌, ◌≤◌, length, map, option_map, IfSome, true};
 ghost use Rattle.mrpc_table.specs.View.{item_of, content_of, node_of};
@@ -28,8 +28,8 @@ use spare_trees::Spare;
 use std::alloc::Global;
 use wire_base::{read_delimited, read_tag};
 
-// The fields of the message, from the place `start` to the end of the bytes, where its records come in order.
-// `room` more messages may stand in one another inside. Vectors come from `spare` where it has some.
+// The fields of the message, from offset `start` to the end of the bytes, if its records come in order. Messages may
+// nest `room` more levels deep inside. Vectors come from `spare` if it has some.
 #[cycle(ordered)]
 pub(crate) fn ordered_message(
     alloc: Global,
@@ -70,7 +70,8 @@ pub(crate) fn ordered_message(
     Some(whole)
 }
 
-// Whether a field of this label may stand behind members of the first so many oneofs: one of them is no rival.
+// Whether a field of this label may follow members of oneofs with indices below `oneofs`: none of them is a member of
+// the same oneof.
 fn may_follow(label: Label, oneofs: u64) -> bool
     ensures { result ≡ may_follow label oneofs }
 {
@@ -80,7 +81,7 @@ fn may_follow(label: Label, oneofs: u64) -> bool
     }
 }
 
-// The number of the first oneofs of which members stand in front, with a field of this label, too.
+// The bound on the indices of oneofs with a member so far, after a field of this label.
 fn oneofs_with(label: Label, oneofs: u64) -> u64
     ensures { result ≡ oneofs_with label oneofs }
 {
@@ -90,7 +91,7 @@ fn oneofs_with(label: Label, oneofs: u64) -> u64
     }
 }
 
-// Appends what a field has whose first tag ends at `start`, and says where its records end.
+// Appends the content of a field whose first tag ends at `start`, and returns the end of its records.
 #[cycle(ordered)]
 fn ordered_field(
     alloc: Global,
@@ -127,7 +128,7 @@ fn ordered_field(
     }
 }
 
-// The same for a singular field.
+// Like `ordered_field`, for a singular field.
 #[cycle(ordered)]
 #[inline(always)]
 fn ordered_single(
@@ -159,7 +160,7 @@ fn ordered_single(
     Some(next)
 }
 
-// The same for a number.
+// Like `ordered_single`, for a number.
 #[inline(always)]
 fn ordered_number(
     whole: &mut Numbered,
@@ -186,7 +187,7 @@ fn ordered_number(
     Some(next)
 }
 
-// What a singular field with this value has: nothing for a default under implicit presence.
+// The content of a singular field with this value: none for a default under implicit presence.
 #[inline(always)]
 fn single_content(label: Label, value: Value) -> Option<FieldValue>
     ensures { option_map content_of result ≡ single_content label (item_of value) }
@@ -197,7 +198,7 @@ fn single_content(label: Label, value: Value) -> Option<FieldValue>
     }
 }
 
-// The same for a repeated field.
+// Like `ordered_field`, for a repeated field.
 #[cycle(ordered)]
 #[inline(never)]
 fn ordered_list(
@@ -231,7 +232,7 @@ fn ordered_list(
     Some(next)
 }
 
-// The same for numbers in one packed piece.
+// Like `ordered_list`, for numbers in one packed payload.
 fn ordered_piece(
     alloc: Global,
     spare: &mut Spare,
@@ -260,7 +261,7 @@ fn ordered_piece(
     Some(end)
 }
 
-// The same for a map.
+// Like `ordered_field`, for a map.
 #[cycle(ordered)]
 #[inline(never)]
 fn ordered_map(
@@ -289,7 +290,7 @@ fn ordered_map(
     Some(next)
 }
 
-// The elements of a repeated field whose first tag ends at `start`, a record for each, and where the records end.
+// The elements of a repeated field whose first tag ends at `start`, a record for each, and the end of these records.
 #[cycle(ordered)]
 fn ordered_values(
     alloc: Global,
@@ -322,9 +323,8 @@ fn ordered_values(
     None
 }
 
-// Makes room in a new vector, for what the record in front has and for what those behind it have, of which the tag of
-// the next one ends at `again`. Mostly there is none, and the bytes are not looked at. A vector that was used before
-// grows as it needs to.
+// Reserves capacity in a new vector, for the value of this record and those of the later ones; `again` is where the tag
+// of the next one ends. Mostly there is none, and the bytes aren't looked at. A reused vector grows as needed.
 #[inline(always)]
 fn room_ahead<T>(vector: &mut Vec<T>, bytes: &[u8], again: Option<usize>, tag: u32) -> Option<()>
     requires { IfSome again (λ first. first ≤ length bytes.now) }
@@ -340,7 +340,7 @@ fn room_ahead<T>(vector: &mut Vec<T>, bytes: &[u8], again: Option<usize>, tag: u
     Some(())
 }
 
-// The place behind the same tag, where it stands at a place.
+// The offset after the same tag, if it is at this offset.
 fn tag_again(bytes: &[u8], at: usize, tag: u32) -> Option<usize>
     requires { at ≤ length bytes.now }
     ensures found { IfSome result (λ behind. TagAt bytes.now at tag behind) }
@@ -351,8 +351,8 @@ fn tag_again(bytes: &[u8], at: usize, tag: u32) -> Option<usize>
     if next == tag { Some(behind) } else { None }
 }
 
-// How many records stand here with this tag, of which the first ends at `start`, for records behind a length; for
-// others 1. So many values find room.
+// How many records with this tag follow each other here, the first of which has its tag before `start`, if their
+// payloads have a length; otherwise 1. This many values need capacity.
 fn records_ahead(bytes: &[u8], start: usize, tag: u32) -> usize
     requires { start ≤ length bytes.now }
 {
@@ -366,7 +366,7 @@ fn records_ahead(bytes: &[u8], start: usize, tag: u32) -> usize
     1
 }
 
-// Where the tag of the next record ends, if it is the same tag.
+// The offset after the tag of the next record, if it is the same tag.
 fn record_behind(bytes: &[u8], start: usize, tag: u32) -> Option<usize>
     requires { start ≤ length bytes.now }
     ensures { IfSome result (λ next. next ≤ length bytes.now) }
@@ -378,7 +378,7 @@ fn record_behind(bytes: &[u8], start: usize, tag: u32) -> Option<usize>
     tag_again(bytes, end, tag)
 }
 
-// The entries of a map whose first tag ends at `start`, and where its records end.
+// The entries of a map whose first tag ends at `start`, and the end of their records.
 #[cycle(ordered)]
 fn ordered_entries(
     alloc: Global,
@@ -417,7 +417,7 @@ fn ordered_entries(
     None
 }
 
-// An entry that has its key and then its value.
+// An entry with its key first, followed by its value.
 #[cycle(ordered)]
 fn ordered_entry(
     alloc: Global,
@@ -450,7 +450,7 @@ fn ordered_entry(
     }
 }
 
-// The value behind a tag, and where it ends.
+// The value after a tag, and where it ends.
 #[cycle(ordered)]
 #[inline(never)]
 fn ordered_value(
@@ -495,7 +495,7 @@ fn number_value(
     Some((Value::Number(word_of(kind, v)), next))
 }
 
-// Text behind its length.
+// Text after its length.
 fn ordered_text(
     alloc: Global,
     spare: &mut Spare,
@@ -522,7 +522,7 @@ fn ordered_text(
     Some((Value::Run(run), end))
 }
 
-// Bytes behind its length.
+// Bytes after their length.
 fn ordered_octets(
     alloc: Global,
     spare: &mut Spare,
@@ -546,7 +546,7 @@ fn ordered_octets(
     Some((Value::Run(run), end))
 }
 
-// A message behind its length.
+// A message after its length.
 #[cycle(ordered)]
 fn ordered_node(
     alloc: Global,
@@ -582,7 +582,7 @@ fn ordered_node(
     Some((Value::Node(Tree { fields }), end))
 }
 
-// The number behind a tag, and where it ends.
+// The number after a tag, and where it ends.
 #[inline(always)]
 fn number_at(bytes: &[u8], start: usize, tag: u32, kind: Kind) -> Option<(u64, usize)>
     requires place { start ≤ length bytes.now }
@@ -600,7 +600,7 @@ fn number_at(bytes: &[u8], start: usize, tag: u32, kind: Kind) -> Option<(u64, u
     element(bytes, start, wire_type)
 }
 
-// The place behind a length, and the place behind so many bytes.
+// Reads a length, and returns the range of the bytes after it.
 fn span_at(bytes: &[u8], start: usize) -> Option<(usize, usize)>
     requires { start ≤ length bytes.now }
     ensures found { IfSome result (λ r. PayloadAt bytes.now start 2 (Len r.0 r.1) r.1) }

@@ -1,4 +1,4 @@
-//! Reading: what stands in each record of a known field, in the order of the bytes.
+//! Reads the content of each record of a known field, in the order of the bytes.
 
 ghost use Rattle.std.specs.Prelude.{◌≡◌, ℕ, ◌+◌, ◌<◌, ◌≤◌, length, true, false, slice_range, IfOk, IfErr, IfSome, IfNone, List, []};
 ghost use Rattle.mrpc_table.specs.View.{items_of, content_of, node_of};
@@ -28,8 +28,8 @@ use wire_base::{
     read_varint,
 };
 
-// The contents of the records of known fields, from the place `start` to the end of the bytes.
-// `room` more messages may stand in one another inside.
+// The contents of the records of known fields, from offset `start` to the end of the bytes. Messages may nest `room`
+// more levels deep inside.
 #[cycle(read)]
 pub(crate) fn read_message(
     alloc: Global,
@@ -69,7 +69,7 @@ pub(crate) fn read_message(
     Ok(parts)
 }
 
-// The fault of a record as one of the message.
+// The fault of a record as a fault of the message.
 fn told(fault: WireFault) -> DecodeFault
     ensures { FaultsAs (λ reason place. (reason ≡ reason_of fault.reason) × (place ≡ fault.place)) result }
 {
@@ -86,7 +86,7 @@ fn told(fault: WireFault) -> DecodeFault
     }
 }
 
-// What a record of a field has.
+// The content of a record of a field.
 #[cycle(read)]
 fn content(
     alloc: Global,
@@ -192,7 +192,7 @@ fn fault(reason: DecodeReason, place: usize) -> DecodeFault
     DecodeFault::At { reason, place }
 }
 
-// A string: UTF-8. Its first byte stands at `place`.
+// A string: UTF-8. Its first byte is at offset `place`.
 fn text(alloc: Global, bytes: &[u8], place: usize) -> Result<FieldValue, DecodeFault>
     ensures found { IfOk result (λ c. (content_of c ≡ one (run bytes.now)) × IsUtf8 bytes.now) }
     ensures fault { IfErr result
@@ -204,7 +204,7 @@ fn text(alloc: Global, bytes: &[u8], place: usize) -> Result<FieldValue, DecodeF
     octets(alloc, bytes)
 }
 
-// Whether bytes are UTF-8. Mostly they are ASCII, which is soon seen.
+// Whether bytes are UTF-8. Mostly they are ASCII, which is a faster test.
 pub(crate) fn is_text(bytes: &[u8]) -> bool
     ensures yes { result ≡ true → IsUtf8 bytes.now }
     ensures no { result ≡ false → IsUtf8 bytes.now → ⊥ }
@@ -221,7 +221,7 @@ fn octets(alloc: Global, bytes: &[u8]) -> Result<FieldValue, DecodeFault>
     Ok(FieldValue::One(Value::Run(run)))
 }
 
-// A packed piece: numbers of the kind, one behind another to the end of the bytes.
+// A packed payload: numbers of the kind, one after another to the end of the bytes.
 fn packed(alloc: Global, bytes: &[u8], start: usize, kind: Kind) -> Result<FieldValue, DecodeFault>
     requires place { start ≤ length bytes.now }
     requires numeric { is_numeric kind ≡ true }
@@ -233,7 +233,7 @@ fn packed(alloc: Global, bytes: &[u8], start: usize, kind: Kind) -> Result<Field
     Ok(FieldValue::Many(values))
 }
 
-// The elements of a packed piece, in a vector that is empty so far.
+// The elements of a packed payload, appended to an empty vector.
 pub(crate) fn elements(
     mut values: Values,
     bytes: &[u8],
@@ -263,7 +263,7 @@ pub(crate) fn elements(
     Ok(values)
 }
 
-// How many elements of the wire type a packed piece has that is whole: so many find room.
+// How many elements of the wire type a complete packed payload has. This many values need capacity.
 fn element_count(bytes: &[u8], wire_type: u64) -> usize {
     match wire_type {
         1 => bytes.len() / 8,
@@ -283,7 +283,7 @@ fn ends_of_varints(bytes: &[u8]) -> usize
     count
 }
 
-// A number of the wire type at a place, and the place behind it.
+// A number of the wire type at an offset, and the offset after it.
 pub(crate) fn element(bytes: &[u8], at: usize, wire_type: u64) -> Option<(u64, usize)>
     requires place { at ≤ length bytes.now }
     requires fixed { IsFixedOrVarint wire_type }
@@ -303,7 +303,7 @@ pub(crate) fn element(bytes: &[u8], at: usize, wire_type: u64) -> Option<(u64, u
     }
 }
 
-// The value of the varint at a place, and the place behind it.
+// The value of the varint at an offset, and the offset after it.
 fn varint(bytes: &[u8], at: usize) -> Option<(u64, usize)>
     requires { at ≤ length bytes.now }
     ensures found { IfSome result (λ e. VarintAt bytes.now at e.0 e.1) }

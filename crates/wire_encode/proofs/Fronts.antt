@@ -1,9 +1,9 @@
--- Bytes that are written in front of others.
+-- Bytes that are written before others.
 use Rattle.std.proofs.Common.{◌≡◌, ℕ, ◌+◌, ◌<◌, List, ◌++◌, length, drop, get_or, ap, sym, ◌∙◌, append_assoc}
 use Rattle.std.specs.List.{flat_map}
 use Rattle.std.proofs.lemmas.List.{drop_more}
 
--- two writes, one in front of the other
+-- two writes, the second before the first
 pub front_both : (front back old middle new : List ℕ) → middle ≡ back ++ old → new ≡ front ++ middle → new ≡ (front ++ back) ++ old
 front_both front back old middle new first second =
     second ∙ ap (λ bs. front ++ bs) first ∙ sym (append_assoc front back old)

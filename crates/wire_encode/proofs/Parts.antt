@@ -1,4 +1,4 @@
--- The encoding of a list of parts is the join of the encodings of each part.
+-- The encoding of a list of parts is the concatenation of the encodings of each part.
 use Rattle.std.proofs.Common.{◌≡◌, ℕ, ◌+◌, ◌≤◌, List, [], ◌∷◌, ◌++◌, length, take, refl, ap, ◌∙◌}
 use Rattle.std.specs.List.{flat_map}
 use Rattle.std.proofs.lemmas.List.{take_all}
@@ -12,7 +12,7 @@ use Rattle.wire_base.specs.Encoding.{tag, delimited, item_bytes, joined_bytes, r
 use Rattle.mrpc_table.specs.WireTypes.{wire_len, wire_type_of}
 use Rattle.mrpc_table.specs.Capped.{capped}
 
--- what is written for a field, an element, a record of an element, an entry
+-- the bytes of a field, an element, a record of an element, an entry
 abbrev pub field_part : Table → List Field → ℕ × FieldValue → List ℕ
 field_part T fs x = content_bytes T fs x.0 (content_of x.1)
 

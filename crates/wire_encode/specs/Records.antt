@@ -1,4 +1,4 @@
--- The code's own: the records that the writer writes, each in one piece.
+-- The code's own: the records that the writer writes, one at a time.
 use Rattle.std.specs.Prelude.{ℕ, List, ◌++◌}
 use Rattle.mrpc_table.specs.Node.{Item}
 use Rattle.mrpc_table.specs.declared.table.Kind.{Kind}

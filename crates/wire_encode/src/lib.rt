@@ -1,11 +1,10 @@
 //! The encoding of a message: a tree as Protocol Buffers bytes.
 //!
-//! The format is that of the Protocol Buffers encoding guide; fields are written by ascending number,
-//! map entries by ascending key, varints in their shortest form. `encoding` of `wire_base` says which
-//! bytes those are. The tree is written from its end to its front, so that the length of a message is
-//! known when it is written, into a buffer that doubles where it is too short; the time is in
-//! proportion to the output. It stands on `mrpc_table` and `wire_base`. The layers above use one contract: what is
-//! written is the encoding of the tree.
+//! The format is that of the Protocol Buffers encoding guide: fields by ascending number, map entries by ascending key,
+//! varints in their shortest form. `encoding` of `wire_base` defines the bytes. The buffer is filled from its end, so
+//! that a message's length is known before its length prefix is written. It doubles when it is full, so that the time
+//! is linear in the output. This crate depends on `mrpc_table` and `wire_base`. The layers above use one contract: the
+//! output is the encoding of the tree.
 #![tactic(auto)]
 
 ghost use Rattle.std.specs.Prelude.{◌≡◌, ◌<◌, [], length, IfOk, OnOk, OnErr};
@@ -26,10 +25,10 @@ use mrpc_table::{Bytes, Field, Memory, Table, Tree};
 pub use output::Output;
 use std::alloc::Global;
 
-/// The encoding of a normal tree of the message at the place `msg` of the table.
+/// The encoding of a normal tree of the message at index `msg` of the table.
 ///
-/// `Memory` comes only where no memory was found; there is no other refusal. Messages are written by
-/// recursion, which a normal tree keeps to 32 calls deep.
+/// The only error is `Memory`, when it is out of memory. Messages are written by recursion, which a normal tree keeps
+/// to a depth of 32 calls.
 pub fn encode(alloc: Global, tree: &Tree, table: &Table, msg: u32) -> Result<Bytes, Memory>
     requires valid { IsValid table.now }
     requires known { msg < length table.now.messages }
@@ -39,8 +38,8 @@ pub fn encode(alloc: Global, tree: &Tree, table: &Table, msg: u32) -> Result<Byt
     encoded(alloc, tree, table, table.fields(msg))
 }
 
-/// The same, written in place of what `out` has. Its room is used again, so that a caller with many trees takes memory
-/// only where one is longer than those before. Without memory nothing stands in it.
+/// Like `encode`, but overwrites `out` and reuses its capacity. A caller with many trees allocates only for a tree that
+/// is longer than all before. If it is out of memory, `out` is empty.
 pub fn encode_into(out: &mut Output, tree: &Tree, table: &Table, msg: u32) -> Result<(), Memory>
     requires valid { IsValid table.now }
     requires known { msg < length table.now.messages }
@@ -51,8 +50,8 @@ pub fn encode_into(out: &mut Output, tree: &Tree, table: &Table, msg: u32) -> Re
     encoded_into(out, tree, table, table.fields(msg))
 }
 
-/// The length in bytes of the encoding of a normal tree of the message at the place `msg` of the
-/// table, or 2^64 - 1 where it is larger. It takes no memory.
+/// The length in bytes of the encoding of a normal tree of the message at index `msg` of the table, or 2^64 - 1 if it
+/// is larger. It allocates nothing.
 pub fn encoded_len(tree: &Tree, table: &Table, msg: u32) -> u64
     requires valid { IsValid table.now }
     requires known { msg < length table.now.messages }
@@ -73,7 +72,7 @@ fn encoded(alloc: Global, tree: &Tree, table: &Table, fields: &[Field]) -> Resul
     Ok(out.into_bytes())
 }
 
-// The same, in place of what `out` has.
+// Like `encoded`, but overwrites `out`.
 fn encoded_into(
     out: &mut Output,
     tree: &Tree,

@@ -1,4 +1,4 @@
-//! What a table says of a field.
+//! Looks up fields in a table.
 
 ghost use Rattle.std.specs.Prelude.{◌≡◌, ◌<◌, length, IsTrue, IfSome, IfNone, None, slice_get};
 ghost use Rattle.mrpc_table.specs.Normal.{kind_at, label_at};
@@ -6,7 +6,7 @@ ghost use Rattle.mrpc_table.specs.Ascending.{FieldsAscend};
 
 use mrpc_table::{Field, Kind, Label, find_field};
 
-// The kind and the label of the field of a number.
+// The kind and the label of the field with a number.
 pub(crate) fn type_of(fields: &[Field], number: u32) -> (Kind, Label)
     requires { FieldsAscend fields.now }
     ensures kind { result.0 ≡ kind_at fields.now number }
@@ -16,8 +16,8 @@ pub(crate) fn type_of(fields: &[Field], number: u32) -> (Kind, Label)
     (kind, label)
 }
 
-// The same, and where the field stands. Trees and tables have their fields in one order, so that the place at hand
-// is tried first.
+// Like `type_of`, and also returns the index of the field. Trees and tables have their fields in the same order, so it
+// tries the index `hint` first.
 pub(crate) fn type_near(fields: &[Field], number: u32, hint: usize) -> (Kind, Label, usize)
     requires { FieldsAscend fields.now }
     ensures kind { result.0 ≡ kind_at fields.now number }

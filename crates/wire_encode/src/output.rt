@@ -1,4 +1,4 @@
-//! Bytes that are written from the last one to the first.
+//! A buffer that is filled from its end.
 
 ghost use Rattle.std.specs.Prelude.{◌≡◌, ℕ, ◌+◌, ◌-◌, ◌<◌, ◌≤◌, [], ◌++◌, length, drop, IfOk, OnOk};
 ghost use Rattle.wire_base.specs.Encoding.{varint};
@@ -9,15 +9,16 @@ use std::alloc::Global;
 use std::marker::Model;
 use wire_base::{MAX_VARINT, fill_varint, varint_is_read_back, varint_len};
 
-// How many bytes there is room for at first.
+// The first capacity of the buffer, in bytes.
 const FIRST_ROOM: usize = 32;
 
-/// What was written so far. Each call writes its bytes in front of that, so that the length of a message is known when
-/// it is to be written. Where there is too little room it doubles, so that the time goes with the bytes.
+/// A buffer that is filled from its end, so that a message's length is known before its length prefix is written. Each
+/// write puts its bytes before those written so far. The capacity doubles when it is used up, so that the time is
+/// linear in the bytes.
 #[derive(Drop)]
 pub struct Output {
     alloc: Global,
-    // What was written stands from `start` on.
+    // The written bytes are at `start` and after it.
     bytes: Vec<u8>,
     start: usize,
 }
@@ -33,7 +34,7 @@ impl Model for Output {
 }
 
 impl Output {
-    /// Nothing yet.
+    /// An empty buffer.
     pub fn new(alloc: Global) -> Result<Output, Memory>
         ensures { IfOk result (λ out. out ≡ []) }
     {
@@ -44,14 +45,14 @@ impl Output {
         })
     }
 
-    /// What was written.
+    /// The bytes written so far.
     pub fn as_slice(&self) -> &[u8]
         ensures { result.now ≡ self.now }
     {
         &self.bytes[self.start..]
     }
 
-    // Nothing again. The room is kept.
+    // Removes all bytes. The capacity is kept.
     pub(crate) fn clear(&mut self)
         ensures { self.new ≡ [] }
     {
@@ -65,7 +66,7 @@ impl Output {
         self.bytes.len() - self.start
     }
 
-    // What was written, in a list of its own.
+    // The written bytes as a list of their own.
     pub(crate) fn into_bytes(self) -> Bytes
         ensures { result ≡ self }
     {
@@ -76,7 +77,7 @@ impl Output {
         Bytes::from_vec(bytes)
     }
 
-    // Writes bytes.
+    // Writes bytes before those written so far.
     pub(crate) fn put(&mut self, bytes: &[u8]) -> Result<(), Memory>
         ensures { OnOk result (self.new ≡ bytes.now ++ self.old) }
     {
@@ -87,7 +88,7 @@ impl Output {
         Ok(())
     }
 
-    // Writes the shortest varint of a number. Mostly it has one byte, and room in hand.
+    // Writes the shortest varint of a number. Inlined for the common case: one byte, with capacity left.
     #[inline(always)]
     pub(crate) fn put_varint(&mut self, v: u64) -> Result<(), Memory>
         ensures { OnOk result (self.new ≡ varint v ++ self.old) }
@@ -99,7 +100,7 @@ impl Output {
         self.put_long_varint(v)
     }
 
-    // The same, for any number.
+    // Like `put_varint`, for any number.
     #[inline(never)]
     fn put_long_varint(&mut self, v: u64) -> Result<(), Memory>
         ensures { OnOk result (self.new ≡ varint v ++ self.old) }
@@ -113,8 +114,8 @@ impl Output {
     }
 }
 
-// Moves the bytes from `start` on to the end of a longer buffer, where they begin behind so many bytes at the least.
-// The buffer doubles at the least.
+// Moves the bytes from `start` on to the end of a longer buffer, with at least `more` free bytes before them. The
+// capacity at least doubles.
 #[inline(never)]
 fn make_room(
     alloc: Global,
@@ -139,7 +140,7 @@ fn make_room(
     Ok(())
 }
 
-// Writes the varint of a number below 128, so that it ends before the place `end`, and says where it begins.
+// Writes the varint of a number below 128 so that it ends at offset `end`, and returns its start.
 #[inline(always)]
 fn write_byte(out: &mut [u8], end: usize, v: u64) -> usize
     requires small { v < 128 }
@@ -151,7 +152,7 @@ fn write_byte(out: &mut [u8], end: usize, v: u64) -> usize
     end - 1
 }
 
-// The same for the shortest varint of any number.
+// Like `write_byte`, for the shortest varint of any number.
 fn write_varint(out: &mut [u8], end: usize, v: u64) -> usize
     requires room { length (varint v) ≤ end }
     requires within { end ≤ length out.old }
@@ -165,7 +166,7 @@ fn write_varint(out: &mut [u8], end: usize, v: u64) -> usize
     start
 }
 
-// The same for bytes.
+// Like `write_byte`, for any bytes.
 fn put_before(out: &mut [u8], end: usize, bytes: &[u8]) -> usize
     requires room { length bytes.now ≤ end }
     requires within { end ≤ length out.old }

@@ -1,4 +1,4 @@
-//! Lengths of encodings. A length past 64 bits is the largest number of 64 bits.
+//! Lengths of encodings, capped at 2^64 - 1.
 
 ghost use Rattle.std.specs.Prelude.{◌≡◌, ℕ, ◌+◌, ◌<◌, length};
 ghost use Rattle.mrpc_table.specs.View.{item_of, items_of, pairs_of, content_of};
@@ -24,7 +24,7 @@ pub(crate) fn message_len(tree: &Tree, table: &Table, fields: &[Field]) -> u64
     total
 }
 
-// The length of what a field has.
+// The length of the content of a field.
 #[cycle(size)]
 fn field_len(content: &FieldValue, table: &Table, fields: &[Field], number: u32) -> u64
     requires all { AllAscend table.now }
@@ -140,7 +140,7 @@ fn tag_len(number: u32, wire_type: u64) -> u64
     varint_len(8 * u64::from(number) + wire_type) as u64
 }
 
-// The length of `len` bytes behind their length.
+// The length of `len` bytes after their length.
 fn delimited_len(len: u64) -> u64
     ensures { (n : ℕ) → len ≡ capped n → result ≡ capped (length (varint n) + n) }
 {

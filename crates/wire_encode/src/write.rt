@@ -1,4 +1,4 @@
-//! Writing from the end of a message to its front: each call writes its bytes in front of those that were written.
+//! Writes a message from its end: each call puts its bytes before those written so far.
 
 ghost use Rattle.std.specs.Prelude.{◌≡◌, ◌-◌, ◌<◌, ◌≤◌, List, ◌++◌, length, OnOk};
 ghost use Rattle.mrpc_table.specs.Normal.{kind_at, label_at};
@@ -36,7 +36,7 @@ pub(crate) fn write_message(
     Ok(())
 }
 
-// Writes what a field of this kind and label has.
+// Writes the content of a field of this kind and label.
 #[cycle(write)]
 #[inline(always)]
 fn write_field(
@@ -197,7 +197,7 @@ fn write_value(out: &mut Output, value: &Value, table: &Table, kind: Kind) -> Re
     }
 }
 
-// Writes how many bytes were written since there were so many.
+// Writes how many bytes were written since the buffer had `behind` of them.
 fn write_length(out: &mut Output, behind: usize) -> Result<(), Memory>
     requires { behind ≤ length out.old }
     ensures { OnOk result (out.new ≡ varint (length out.old - behind) ++ out.old) }

@@ -29,7 +29,7 @@ module _ {V : Type 0} where
         subst (λ l. IsPermutation l (f x ++ flat_map f (set xs pass w))) (sym (append_assoc (f x) (flat_map f xs) more))
         (IsPermutation-append_right (f x) _ _ (out_more xs pass v w more at e))
 
-    -- one pass changes, and holds the same
+    -- one pass changes, but holds the same
     pub out_same : (views : List V) (pass : ℕ) (v w : V) → get_elem? views pass ≡ some v → f w ≡ f v → flat_map f (set views pass w) ≡ flat_map f views
     out_same [] pass v w at e = absurd (some-ne-none v (sym at))
     out_same (x ∷ xs) zero v w at e = ap (λ l. l ++ flat_map f xs) (e ∙ ap f (sym (some-injective x v at)))
@@ -48,7 +48,7 @@ module _ {V : Type 0} where
     out_alone (x ∷ xs) (suc pass) v at others =
         ap (λ l. l ++ flat_map f xs) (others zero x refl (λ h. omega arith)) ∙ out_alone xs pass v at (λ j u e ne. others (suc j) u e (λ h. ne (omega arith)))
 
-    -- what one holds is no more than what all hold
+    -- one pass holds no more than all passes together
     pub out_most : (views : List V) (pass : ℕ) (v : V) → get_elem? views pass ≡ some v → length (f v) ≤ length (flat_map f views)
     out_most [] pass v at = absurd (some-ne-none v (sym at))
     out_most (x ∷ xs) zero v at = let e : length (f x) ≡ length (f v) = ap (λ y. length (f y)) (some-injective x v at) in omega (arith, e, length-append (f x) (flat_map f xs))
@@ -73,7 +73,7 @@ module _ {V : Type 0} where
         let r = one_of_sum xs pass v at in let e = r.1 in let c = sum_by-cons f x xs in
         (f x + r.0, omega (arith, e, c))
 
-    -- where one has all, the others have none
+    -- if one has all, the others have none
     pub others_none : (views : List V) (pass : ℕ) (v : V) → get_elem? views pass ≡ some v → f v ≡ sum_by f views
         → (j : ℕ) (u : V) → get_elem? views j ≡ some u → j ≢ pass → f u ≡ 0
     others_none [] pass v at all j u there apart = absurd (some-ne-none v (sym at))
@@ -91,7 +91,7 @@ module _ {V : Type 0} where
         others_none xs pass v at (omega (arith, all, c, e)) j u there (λ h. apart (ap suc h))
 
 module _ {X : Type 0} where
-  -- what stands at a place still stands there once more come behind
+  -- appending to a list leaves the element at an index unchanged
   pub get_more : (xs ys : List X) (n : ℕ) (P : X → Type 0) → IsSomeAnd (slice_get xs n) P → IsSomeAnd (slice_get (xs ++ ys) n) P
   get_more [] ys n P h = absurd h
   get_more (x ∷ xs) ys zero P h = h

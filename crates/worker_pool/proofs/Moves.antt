@@ -1,4 +1,4 @@
--- Each step of a pass keeps the rule of a pool's queue.
+-- Each access of a pass preserves the rule of a pool's queue.
 use Rattle.std.proofs.Common.{◌≡◌, ◌≢◌, ◌<◌, ◌≤◌, ◌+◌, ◌-◌, ℕ, zero, suc, List, [], ◌∷◌, ◌++◌, length, length-append}
 use Rattle.std.proofs.Common.{set, refl, sym, ap, ◌∙◌, subst, ⊎_elim, append_assoc, append-nil, arith}
 use Rattle.std.specs.Prelude.{IsPermutation}
@@ -73,7 +73,7 @@ module _ {T : Type 0} (since : T → T → Type 0) where
       one zero v e = subst (Fits []) (some-injective _ _ e) (record { knows = λ _. refl; idle = λ _. refl })
       one (suc pass) v e = absurd (some-ne-none v (sym e))
 
-  -- what a pass with a part knows of the places
+  -- what a pass with a part knows of the slots
   pub rooms : (pass : ℕ) (v : Hand T) → 0 < v.parts → Learns (IsPooled since) pass v (FindRoom v)
   rooms pass v some_part items views h at =
       let same : v.firsts ≡ h.firsts = (h.passes pass v at).knows some_part in
@@ -86,7 +86,7 @@ module _ {T : Type 0} (since : T → T → Type 0) where
       let few = h.few in
       (omega (arith, long, most, all, range, both, queued), omega (arith, long, few))
 
-  -- where a pass holds an item, the queue has a free place
+  -- if a pass holds an item, the queue has a free slot
   pub place : (items : List (Numbered T)) (views : List (Hand T)) → IsPooled since items views
       → (pass : ℕ) (v : Hand T) → get_elem? views pass ≡ some v → v.held ≢ [] → length items < MOST_ITEMS
   place items views rule pass v at some_held =

@@ -1,4 +1,4 @@
--- Items that stand by number are those that were handed in, each at its place.
+-- Items sorted by number are later states of the original ones, each at its index.
 use Rattle.std.proofs.Common.{◌≡◌, ◌≢◌, ◌<◌, ◌≤◌, ◌⊎◌, inl, inr, ⊎_elim, ℕ, zero, suc, ◌+◌, eq-eqb, ne_eqb, get_or}
 use Rattle.std.proofs.Common.{List, [], ◌∷◌, ◌++◌, length, length-append, map, refl, sym, ap, ◌∙◌, subst}
 use Rattle.std.proofs.Common.{append_assoc, arith}
@@ -15,7 +15,7 @@ use Rattle.worker_pool.specs.Later.{IsLater}
 use Rattle.worker_pool.specs.Rule.{Every, IsOneOf, StandOnce, numbers_of, times}
 use Rattle.worker_pool.proofs.Lists.{got_here}
 
--- 1 where the second number is the first, and else 0
+-- 1 if both numbers are equal, otherwise 0
 hit : ℕ → ℕ → ℕ
 hit x y = cond (y == x) 1 0
 
@@ -27,7 +27,7 @@ hit_else : (x y : ℕ) → y ≢ x → hit x y ≡ 0
 unfolding hit
 hit_else x y ne = ap (λ b. cond b 1 0) (ne_eqb y x ne)
 
--- how often a number stands in a list
+-- the number of occurrences of a number in a list
 abbrev counted : ℕ → List ℕ → ℕ
 counted x ys = sum_by (hit x) ys
 
@@ -47,7 +47,7 @@ range_rises : (a b n : ℕ) → a ≤ b → Rises a (range_with_len b n)
 range_rises a b zero le = tt
 range_rises a b (suc n) le = (le, range_rises b (b + 1) n (omega arith))
 
--- where the least number stands no more, the next one is the least
+-- if the least number no longer occurs, the next one is the least
 rises_more : (a : ℕ) (ys : List ℕ) → Rises a ys → counted a ys ≡ 0 → Rises (a + 1) ys
 rises_more a [] r none = tt
 rises_more a (y ∷ ys) r none = (least (cases_eq y a), r.1)
@@ -56,7 +56,7 @@ rises_more a (y ∷ ys) r none = (least (cases_eq y a), r.1)
     least (inl e) = let s = sum_by-cons (hit a) y ys in let h = hit_here a y e in absurd (omega (arith, s, h, none))
     least (inr ne) = let le = r.0 in omega (arith, le, ne)
 
--- the first of a list that rises, and in which each number of a range stands once and no other
+-- the first of a list that rises and in which exactly the numbers of a range occur, once each
 first_of : (a n y : ℕ) (ys : List ℕ) → Rises a (y ∷ ys) → ((x : ℕ) → counted x (y ∷ ys) ≡ counted x (range_with_len a (suc n))) → y ≡ a
 first_of a n y ys r same = one (cases_eq y a)
   where
@@ -103,7 +103,7 @@ module _ {T : Type 0} where
     rises_of xs x.number (λ d some. s 0 1 d (omega arith) (omega (arith, some))) (λ i j d le lt. s (suc i) (suc j) d (omega (arith, le)) (omega (arith, lt))),
   )
 
-  -- items by number, of which each number below n stands once, have the numbers from 0 on
+  -- if items are sorted by number and each number below n occurs once, their numbers are those from 0
   pub numbers_by_number : (n : ℕ) (xs : List (Numbered T)) → IsPermutation (range_with_len 0 n) (numbers_of xs)
       → IsNonDecreasingBy (λ x. x.number) xs → numbers_of xs ≡ range_with_len 0 n
   numbers_by_number n xs once order =
@@ -127,7 +127,7 @@ module _ {T : Type 0} where
   all_of_items P (x ∷ xs) p zero d lt = p.0
   all_of_items P (x ∷ xs) p (suc k) d lt = all_of_items P xs p.1 k d (omega (arith, lt))
 
-  -- there are as many as were handed in
+  -- there are as many as at the start
   pub as_many : (firsts : List T) (kept xs : List (Numbered T)) → StandOnce firsts (numbers_of kept) → IsPermutation kept xs → length xs ≡ length firsts
   as_many firsts kept xs once same =
       let a = length_permutation kept xs same in
@@ -137,7 +137,7 @@ module _ {T : Type 0} where
       omega (arith, a, b, c, d)
 
   module _ (since : T → T → Type 0) where
-    -- items with the numbers from so many on are those that were handed in behind so many
+    -- items with numbers from `a` are later states of the original ones from that index
     placed : (before firsts : List T) (xs : List (Numbered T)) (a : ℕ) → a ≡ length before
         → numbers_of xs ≡ range_with_len a (length firsts) → Every (IsOneOf since (before ++ firsts)) xs
         → AllZip (IsLater since) firsts (map (λ x. x.item.value) xs)
@@ -152,7 +152,7 @@ module _ {T : Type 0} where
           placed (before ++ f ∷ []) fs xs (a + 1) next tail (subst (λ l. Every (IsOneOf since l) xs) (sym (append_assoc before (f ∷ []) fs)) ones.1),
         )
 
-    -- the items by number are those that were handed in, each at its place
+    -- the items by number are later states of the original ones, each at its index
     pub in_place : (firsts : List T) (kept xs : List (Numbered T)) → StandOnce firsts (numbers_of kept)
         → IsPermutation kept xs → IsNonDecreasingBy (λ x. x.number) xs → Every (IsOneOf since firsts) kept
         → AllZip (IsLater since) firsts (map (λ x. x.item.value) xs)
@@ -160,7 +160,7 @@ module _ {T : Type 0} where
         let numbers = numbers_by_number (length firsts) xs (IsPermutation-trans _ _ _ once (IsPermutation-map (λ (x : Numbered T). x.number) kept xs same)) order in
         placed [] firsts xs 0 refl numbers (every_permutation (IsOneOf since firsts) kept xs same ones)
 
--- each number of a range stands in it once, and no other
+-- each number of a range occurs in it once, and no other number does
 range_here : (a n x : ℕ) → a ≤ x → x < a + n → counted x (range_with_len a n) ≡ 1
 range_here a zero x from below = absurd (omega (arith, from, below))
 range_here a (suc n) x from below = ⊎_elim

@@ -12,7 +12,7 @@ use Rattle.worker_pool.proofs.Orders.{stand_once}
 abbrev grows : ℕ → ℕ → Type 0
 grows old new = old ≤ new
 
--- 7 and 8 were handed in
+-- the original items are 7 and 8
 abbrev two : List ℕ
 two = 7 ∷ 8 ∷ []
 
@@ -30,7 +30,7 @@ module _ (boxed : ℕ → Box ℕ Global) (holds : (n : ℕ) → (boxed n).value
   abbrev numbered : ℕ → ℕ → Numbered ℕ
   numbered number item = record { number = number; item = boxed item }
 
-  -- the second waits, and has grown
+  -- the second is in the queue, and has grown
   one_waits : IsPooled grows (numbered 1 9 ∷ []) passes
   one_waits = record {
     firsts = two;
@@ -41,11 +41,11 @@ module _ (boxed : ℕ → Box ℕ Global) (holds : (n : ℕ) → (boxed n).value
     passes = each;
   }
 
-  -- a pass with all parts knows what was handed in
+  -- a pass with all parts knows the original items
   knows : (items : List (Numbered ℕ)) (held : List ℕ) (rule : IsPooled grows items (hand 1024 held two ∷ [])) → two ≡ rule.firsts
   knows items held rule = (rule.passes 0 (hand 1024 held two) refl).knows (omega arith)
 
-  -- no item is lost, or stands twice
+  -- no item is lost, and none occurs twice
   none_lost : IsPooled grows [] (hand 1024 (0 ∷ []) two ∷ []) → ⊥
   none_lost rule =
       let all : 2 ≡ length rule.firsts = ap length (knows [] (0 ∷ []) rule) in
@@ -59,7 +59,7 @@ module _ (boxed : ℕ → Box ℕ Global) (holds : (n : ℕ) → (boxed n).value
       let once : 1 + 1 ≡ 1 = stand_once (length rule.firsts) (1 ∷ []) (1 ∷ []) rule.once 1 (omega (arith, all)) in
       omega (arith, once)
 
-  -- an item in the queue is the one of its number, later on: no other one, and not an earlier one
+  -- an item in the queue is a later state of the original one with its number: no other item, and no earlier state
   none_earlier : IsOneOf grows two (numbered 1 6) → ⊥
   none_earlier one = let least = one 8 (omega arith) in omega (arith, least)
 

@@ -1,5 +1,5 @@
--- That an item is another one, later on.
+-- Later states of an item.
 
--- whatever the first item was, later on, the second is it too; so each visit leaves an item, and so do many
+-- whatever state `item` is later than, `later` is later than it too; each visit preserves this, and so do many
 abbrev pub IsLater : {T : Type 0} → (T → T → Type 0) → T → T → Type 0
 IsLater {T} since item later = (first : T) → since first item → since first later

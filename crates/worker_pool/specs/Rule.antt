@@ -8,7 +8,7 @@ use Rattle.worker_pool.specs.declared.hand.Numbered.{Numbered}
 use Rattle.worker_pool.specs.declared.limits.TheConstants.{MOST_ITEMS}
 use Rattle.worker_pool.specs.Later.{IsLater}
 
--- the parts of the right to know the whole, which all passes have together
+-- the total number of parts of all passes; a pass with all of them knows where every item is
 abbrev pub all_parts : ℕ
 all_parts = 1024
 
@@ -16,7 +16,7 @@ all_parts = 1024
 abbrev pub without_last : {X : Type 0} → List X → List X
 without_last xs = take (length xs - 1) xs
 
--- how often a number stands in a list
+-- the number of occurrences of a number in a list
 abbrev pub times : ℕ → List ℕ → ℕ
 times number numbers = count_by (λ n. n == number) numbers
 
@@ -29,7 +29,7 @@ module _ {T : Type 0} where
   abbrev pub hand : ℕ → List ℕ → List T → Hand T
   hand parts held firsts = record { parts = parts; held = held; firsts = firsts }
 
-  -- the numbers of some items, in their order
+  -- the numbers of some items, in order
   abbrev pub numbers_of : List (Numbered T) → List ℕ
   numbers_of items = map (λ x. x.number) items
 
@@ -37,21 +37,21 @@ module _ {T : Type 0} where
   abbrev pub numbers_out : List (Hand T) → List ℕ
   numbers_out views = flat_map (λ v. v.held) views
 
-  -- the numbers from 0 on, as many as there were items in the beginning, stand once each
+  -- the numbers from 0, as many as there are items in the run, occur once each
   abbrev pub StandOnce : List T → List ℕ → Type 0
   StandOnce firsts numbers = IsPermutation (range_with_len 0 (length firsts)) numbers
 
-  -- the number of the item is that of one that was handed in, and it is that one, later on
+  -- the item's number is that of an item of the run, and the item is a later state of that one
   abbrev pub IsOneOf : (T → T → Type 0) → List T → Numbered T → Type 0
   IsOneOf since firsts x = IsSomeAnd (slice_get firsts x.number) (λ first. IsLater since first x.item.value)
 
-  -- a pass with a part knows all items as they were handed in, and one without holds nothing
+  -- a pass with a part knows the run's original items, and one without holds nothing
   pub record Fits (firsts : List T) (v : Hand T) : Type 0 where
     pub knows : 0 < v.parts → v.firsts ≡ firsts
     pub idle : v.parts ≡ 0 → v.held ≡ []
 
-  -- each number stands once, in the queue or with one pass, and each item in the queue is the one that was handed in
-  -- with its number
+  -- each number occurs once, in the queue or in one pass, and each item in the queue is a later state of the original
+  -- one with its number
   pub record IsPooled (since : T → T → Type 0) (items : List (Numbered T)) (views : List (Hand T)) : Type 0 where
     pub firsts : List T
     pub once : StandOnce firsts (numbers_out views ++ numbers_of items)
@@ -60,11 +60,11 @@ module _ {T : Type 0} where
     pub parts : sum_by (λ v. v.parts) views ≡ all_parts
     pub passes : (pass : ℕ) (v : Hand T) → get_elem? views pass ≡ some v → Fits firsts v
 
-  -- what a pass knows of the places in the queue: what it holds and what the queue holds are no more than all items
+  -- a pass knows that what it holds and what the queue holds are together no more than all items
   abbrev pub FindRoom : Hand T → List (Numbered T) → Type 0
   FindRoom v items = (length v.held + length items ≤ length v.firsts) × (length v.firsts ≤ MOST_ITEMS)
 
-  -- what a pass with all parts knows: what it holds and what the queue holds are all items, each once
+  -- a pass with all parts knows that what it holds and what the queue holds are together all items, each once
   abbrev pub HoldOnce : Hand T → List (Numbered T) → Type 0
   HoldOnce v items = v.parts ≡ all_parts → StandOnce v.firsts (v.held ++ numbers_of items)
 

@@ -20,25 +20,25 @@ module _ {T : Type 0} where
     pub of_queue : IsPassOf q p
     pub places : ruled_capacity q ≡ MOST_ITEMS
 
-  -- a worker keeps the items that it holds, in the order in which it came to hold them, and has room for all there are;
-  -- each is one that was handed in, later on, and unless the worker was stopped, it is over
+  -- A worker keeps the items that it holds, in the order in which it took them, and has room for all items. Each is a
+  -- later state of an original one, and is finished unless the worker was stopped.
   pub record IsWorker (since : T → T → Type 0) (over : T → Type 0) (w : Worker T) : Type 0 where
     pub held : (view w.pass).held ≡ numbers_of w.kept.items
     pub room : length (view w.pass).firsts ≤ vec_capacity w.kept
     pub ones : Every (IsOneOf since (view w.pass).firsts) w.kept.items
     pub ends : w.stopped ≡ false → Every (λ x. over x.item.value) w.kept.items
 
-  -- a worker later on: it has the same pass, with as many parts, and knows the same items as they were handed in
+  -- a later state of a worker: it has the same pass, with as many parts, and knows the same original items
   pub record GoesOn (old new : Worker T) : Type 0 where
     pub pass : IsSamePass old.pass new.pass
     pub parts : (view new.pass).parts ≡ (view old.pass).parts
     pub firsts : (view new.pass).firsts ≡ (view old.pass).firsts
 
-  -- a worker whose pass knows these items as they were handed in
+  -- a worker whose pass knows these original items
   abbrev pub Knows : List T → Worker T → Type 0
   Knows firsts w = (view w.pass).firsts ≡ firsts
 
-  -- a worker of this queue that hasn't begun, with one part
+  -- a worker of this queue that hasn't started, with one part
   pub record IsFresh {Q A : Type 0} (since : T → T → Type 0) (over : T → Type 0)
       (q : LineOf T Q A) (w : Worker T) : Type 0 where
     pub line : IsLinePass q w.pass
@@ -52,7 +52,7 @@ module _ {T : Type 0} where
     pub part : (view w.pass).parts ≡ 1
     pub knows : Knows firsts w
 
-  -- a worker that has ended: it was stopped only with this cause
+  -- a worker that has ended; it was stopped only with this cause
   pub record HasEnded (since : T → T → Type 0) (over : T → Type 0) (Cause : Type 0) (w : Worker T) : Type 0 where
     pub keeps : IsWorker since over w
     pub cause : w.stopped ≡ true → Cause

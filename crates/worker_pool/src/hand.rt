@@ -1,20 +1,21 @@
-//! What each pass of a pool's queue knows, and what its steps tell. No value of `Hand` is made.
+//! The knowledge of each pass of a pool's queue, and what its accesses reveal. No value of `Hand` is ever made.
 
 use crate::visited::Visited;
 use crossbeam_queue::protocol::{Join, Lesson, Outcome, Protocol, Split};
 use crossbeam_queue::{Pass, RuledArrayQueue};
 use std::collections::LinkedList;
 
-// An item with its number: its place among the items of the run. It is boxed, since each visit moves it out of the queue
-// and back.
+// An item with its number: its index among the items of the run. It is boxed, since each visit moves it out of the
+// queue and back.
 #[derive(Drop)]
 pub(crate) struct Numbered<T> {
     pub number: usize,
     pub item: Box<T>,
 }
 
-// What one pass has of the right to know the whole, in parts; the numbers of the items that it holds, one in hand last,
-// before it those that are over; and all items as they were handed in, by number.
+// The view of one pass. It has the pass's parts: a pass with all parts knows where every item is. It has the numbers
+// of the items that the pass holds, finished ones first and one in hand last. And it has all items as they were when
+// the run started, by number.
 pub(crate) struct Hand<T> {
     pub parts: u64,
     pub held: LinkedList<usize>,
@@ -26,7 +27,7 @@ pub(crate) type Line<T> = RuledArrayQueue<Numbered<T>, Hand<T>, Pooling>;
 
 pub(crate) type LinePass<T> = Pass<Numbered<T>, Hand<T>>;
 
-// Each number stands once.
+// Each number occurs once.
 pub(crate) struct Pooling;
 
 impl<T: Visited> Protocol<Numbered<T>, Hand<T>> for Pooling {
@@ -38,7 +39,7 @@ impl<T: Visited> Protocol<Numbered<T>, Hand<T>> for Pooling {
     ghost first = { hand all_parts [] [] };
 }
 
-// A new item comes, with the next number. Only a pass that has all parts may bring one.
+// A new item enters, with the next number. Only a pass that has all parts may bring one.
 pub(crate) struct Enters;
 
 impl<T> Outcome<Numbered<T>, Hand<T>> for Enters {
@@ -54,7 +55,7 @@ impl<T> Lesson<Numbered<T>, Hand<T>> for Enters {
     ghost fact = { FindRoom };
 }
 
-// The oldest item comes into the hand.
+// The pass takes the oldest item into its hand.
 pub(crate) struct Takes;
 
 impl<T: Visited> Outcome<Numbered<T>, Hand<T>> for Takes {
@@ -63,14 +64,14 @@ impl<T: Visited> Outcome<Numbered<T>, Hand<T>> for Takes {
     ghost then = { Took T.since };
 }
 
-// Where the queue is empty, a pass that has all parts holds every item.
+// If the queue is empty, a pass that has all parts holds every item.
 impl<T> Lesson<Numbered<T>, Hand<T>> for Takes {
     ghost use Rattle.worker_pool.specs.Rule.{HoldOnce};
 
     ghost fact = { HoldOnce };
 }
 
-// The item in the hand goes back behind those that wait.
+// The item in the hand goes to the end of the queue.
 pub(crate) struct Returns;
 
 impl<T> Outcome<Numbered<T>, Hand<T>> for Returns {
@@ -86,7 +87,7 @@ impl<T> Lesson<Numbered<T>, Hand<T>> for Returns {
     ghost fact = { FindRoom };
 }
 
-// One part goes to a pass for a worker, and comes back with what that holds.
+// One part goes to a worker's pass, and returns with the items that it holds.
 pub(crate) struct Shares;
 
 impl<T> Split<Hand<T>> for Shares {

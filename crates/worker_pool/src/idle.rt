@@ -1,13 +1,13 @@
-//! What a worker does where it finds nothing to do.
+//! What a worker does when it finds nothing to do.
 
 use pauses::Pauses;
 use std::sync::Wait;
 
-// What one worker found idle since it last did something. It pauses once it has found nothing to do at as many items in
-// a row as are left, or has found the queue empty.
+// The idle visits of one worker since it last did something. It pauses after as many idle visits in a row as there
+// are unfinished items, and whenever the queue is empty.
 #[derive(Drop)]
 pub(crate) struct Idle {
-    // Visits since the last pause that had nothing to do.
+    // The idle visits since the last pause.
     visits: u64,
     pauses: Pauses,
 }
@@ -26,7 +26,7 @@ impl Idle {
         self.pauses.reset();
     }
 
-    // An item had nothing to do, of so many that aren't over.
+    // An item had nothing to do; `left` items are unfinished.
     pub(crate) fn after_visit<R: Wait>(&mut self, rt: &R, left: u64) {
         self.visits = self.visits.saturating_add(1);
         if self.visits >= left {

@@ -1,4 +1,4 @@
-//! The law of a pool's queue. The function does nothing; its clauses hold.
+//! The law of a pool's queue. The function has no effect: each clause is a law.
 
 ghost use Rattle.std.specs.Prelude.{◌≡◌, ◌≢◌, ◌≤◌, ◌<◌, ◌+◌, ℕ, List, [], length};
 ghost use mathlib.Core.Option.{some};
@@ -10,9 +10,9 @@ ghost use Rattle.worker_pool.specs.Rule.{IsPooled, numbers_of, numbers_out, time
 
 use crate::visited::Visited;
 
-/// The law of the items' places: whatever the queue of a run holds and whatever its passes know, the number of each
-/// item stands once, in the queue or with one pass, and no other number stands anywhere. So where a pass holds an item,
-/// as after it took one, the queue has a free place.
+/// The law of item numbers, for any contents of a run's queue and any views of its passes. The number of each item
+/// occurs once, in the queue or in one pass, and no other number occurs. So if a pass holds an item, as after taking
+/// one, the queue has a free slot.
 pub fn items_stand_once<T: Visited>()
     ensures once { (items : List (Numbered T)) (views : List (Hand T)) (rule : IsPooled T.since items views)
         (number : ℕ) → number < length rule.firsts

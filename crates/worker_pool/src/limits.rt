@@ -1,7 +1,7 @@
-//! How many items and workers there may be.
+//! The limits of a run.
 
-/// At most so many items are in a run.
+/// The maximum number of items of a run.
 pub const MOST_ITEMS: usize = 16;
 
-/// At most so many workers does a run start.
+/// The maximum number of workers that a run starts.
 pub const MOST_WORKERS: usize = 8;

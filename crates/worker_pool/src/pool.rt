@@ -21,21 +21,21 @@ use std::thread;
 use std::thread::Threads;
 use stop_flag::StopFlag;
 
-/// What a run gives back.
+/// The result of a run.
 #[derive(Drop)]
 pub struct Ran<T> {
-    /// The items, each at the place at which it was handed in.
+    /// The items, each at its original index.
     pub items: Vec<T>,
-    /// Whether the stop flag was seen to be set. If not, each item is over.
+    /// Whether a worker saw the stop flag set. If not, each item is finished.
     pub stopped: bool,
 }
 
-/// Visits items by so many workers, until all are over or the flag is set, and gives them back. A visit does what can
-/// be done now, and may wait only where the item's own handle lets it. Items are numbered by their places in the list.
-/// Where no thread can be made, the workers run one after another.
+/// Visits items with up to `workers` workers, until all are finished or the stop flag is set, and returns them. A
+/// visit does what can be done now, and may block only if the item's own handle allows it. Items are numbered by
+/// their indices in the list. If no thread can be started, the workers run one after another.
 ///
-/// It fails only where no memory was found, and then all items are dropped. Whatever it needs is taken before the first
-/// visit, but for what the start of threads takes.
+/// The only error is out of memory; then all items are dropped. All memory is allocated before the first visit,
+/// except for what starting threads takes.
 pub fn run<
     R: Threads + Wait + Sync,
     T: Visited + Send + Drop,
@@ -75,7 +75,7 @@ pub fn run<
     Ok(all.into_items(back))
 }
 
-// Puts the items into the queue, each with its place for its number.
+// Pushes the items into the queue, each with its index as its number.
 fn enter_all<R: Wait, T: Visited + Drop>(
     rt: &R,
     alloc: Global,
@@ -99,7 +99,7 @@ fn enter_all<R: Wait, T: Visited + Drop>(
     Ok(())
 }
 
-// Puts an item into the queue, with the next number.
+// Pushes an item into the queue, with the next number.
 fn enter<R: Wait, T: Visited>(rt: &R, line: &Line<T>, pass: &mut LinePass<T>, numbered: Numbered<T>)
     requires pass { IsLinePass line.now pass.old }
     requires all { (view pass.old).parts ≡ all_parts }
@@ -115,7 +115,7 @@ fn enter<R: Wait, T: Visited>(rt: &R, line: &Line<T>, pass: &mut LinePass<T>, nu
     }
 }
 
-// So many workers, each with one part and with room for every item.
+// The workers, each with one part and with room for every item.
 fn start<T: Visited + Drop>(
     alloc: Global,
     line: &Line<T>,
@@ -162,7 +162,7 @@ fn share<T: Visited>(line: &Line<T>, pass: &mut LinePass<T>, kept: Vec<Numbered<
     }
 }
 
-// Lets workers work beside each other, up to the end of each.
+// Runs the workers concurrently, until each has ended.
 fn work_beside<
     R: Threads + Wait + Sync,
     T: Visited + Send + Drop,
@@ -197,7 +197,7 @@ fn work_beside<
     )
 }
 
-// Takes in all workers.
+// Absorbs all workers.
 fn absorb_all<T: Visited + Drop, S: StopFlag>(
     line: &Line<T>,
     all: &mut Worker<T>,

@@ -1,24 +1,24 @@
-//! What a visit of an item came to.
+//! The result of visiting an item.
 
-/// What a visit came to.
+/// The result of a visit.
 #[derive(Clone, Copy, PartialEq, Eq)]
 pub enum Visit {
     /// Something was done, and there may be more to do.
     Worked,
     /// There was nothing to do.
     Idle,
-    /// The item is over. It gets no further visit.
+    /// The item is finished. It isn't visited again.
     Over,
 }
 
-/// An item of a pool: a connection with everything that belongs to it. One worker at a time holds it by value, each
-/// time perhaps another one. What a visit does is a closure of its own, which a run is given: it may call whatever asks
-/// of its types that threads share them.
+/// An item of a pool: a connection with everything that belongs to it. One worker at a time holds it by value; each
+/// time it may be a different one. A visit is a closure that a run is given, so it can use whatever its types let
+/// threads share.
 pub trait Visited {
-    /// That the second is the first, later on: whatever an item was once, each visit leaves it so. It says which parts
-    /// of an item are constants, those that its references show included, and how the others may come to change.
+    /// `since first later`: `later` is a later state of the item `first`. Every visit preserves it. It defines which
+    /// parts of an item are constant, such as what its references view, and how the others may change.
     ghost since: { Self → Self → Type 0 };
 
-    /// That it is over.
+    /// The item is finished.
     ghost over: { Self → Type 0 };
 }

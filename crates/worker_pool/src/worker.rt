@@ -19,7 +19,7 @@ use std::sync::Wait;
 use std::sync::atomic::{AtomicU64, Ordering};
 use stop_flag::StopFlag;
 
-// What a turn at the queue came to.
+// The result of a turn at the queue.
 #[derive(Clone, Copy, PartialEq, Eq)]
 pub(crate) enum Turn {
     // The queue was empty.
@@ -28,11 +28,11 @@ pub(crate) enum Turn {
     Idle,
     // Something was done.
     Worked,
-    // The worker keeps the item from now on.
+    // The worker keeps the item.
     Kept,
 }
 
-// A worker is a job of a thread and its result at once. The items that it keeps are over, unless it was stopped.
+// A worker is both the job of a thread and its result. The items that it keeps are finished, unless it was stopped.
 #[derive(Drop)]
 pub(crate) struct Worker<T> {
     pub pass: LinePass<T>,
@@ -40,7 +40,7 @@ pub(crate) struct Worker<T> {
     pub stopped: bool,
 }
 
-// Takes the oldest item into the hand. Where there is none, a pass with all parts holds every item.
+// Takes the oldest item into the hand. If there is none, a pass with all parts holds every item.
 fn take<R: Wait, T: Visited>(rt: &R, line: &Line<T>, pass: &mut LinePass<T>) -> Option<Numbered<T>>
     requires pass { IsLinePass line.now pass.old }
     requires part { 0 < (view pass.old).parts }
@@ -53,7 +53,7 @@ fn take<R: Wait, T: Visited>(rt: &R, line: &Line<T>, pass: &mut LinePass<T>) -> 
     line.pop_as::<Takes, R>(rt, pass)
 }
 
-// Puts the item in the hand back. It finds a place, since the item came out of the queue.
+// Puts the item in the hand back. There is a slot for it, since the item came out of the queue.
 fn put_back<R: Wait, T: Visited>(
     rt: &R,
     line: &Line<T>,
@@ -112,7 +112,7 @@ impl<T: Visited + Drop> Worker<T> {
         }
     }
 
-    // Takes an item and keeps it as it is.
+    // Takes an item and keeps it unchanged.
     fn take_unvisited<R: Wait>(&mut self, rt: &R, line: &Line<T>) -> Turn
         requires pass { IsLinePass line.now self.old.pass }
         requires part { 0 < (view self.old.pass).parts }
@@ -131,7 +131,7 @@ impl<T: Visited + Drop> Worker<T> {
         Turn::Kept
     }
 
-    // Takes turns beside other workers, until no item is left that isn't over, or the flag is set.
+    // Takes turns alongside other workers, until all items are finished or the flag is set.
     pub(crate) fn work<R: Wait, S: StopFlag, V: Fn(&mut T) -> Visit>(
         mut self,
         rt: &R,
@@ -169,7 +169,8 @@ impl<T: Visited + Drop> Worker<T> {
         self
     }
 
-    // Takes turns alone, until the queue is empty. Once the flag is set it visits nothing more, and keeps what waits.
+    // Takes turns alone, until the queue is empty. Once the flag is set it visits no more items, and keeps those in
+    // the queue.
     pub(crate) fn finish<R: Wait, S: StopFlag, V: Fn(&mut T) -> Visit>(
         &mut self,
         rt: &R,
@@ -225,7 +226,8 @@ impl<T: Visited + Drop> Worker<T> {
         }
     }
 
-    // Takes in another worker, with what it keeps. There is room for it: both hold no more items than there are.
+    // Absorbs another worker, with the items that it keeps. There is room for them: both hold at most as many items
+    // as there are.
     pub(crate) fn absorb(&mut self, line: &Line<T>, other: Worker<T>)
         requires pass { IsLinePass line.now self.old.pass }
         requires other_pass { IsLinePass line.now other.pass }
@@ -275,7 +277,7 @@ impl<T: Visited + Drop> Worker<T> {
     }
 }
 
-// The same items, by number.
+// Sorts the items by number.
 fn by_number<T>(mut kept: Vec<Numbered<T>>) -> Vec<Numbered<T>>
     ensures same { IsPermutation kept.items result.items }
     ensures order { IsNonDecreasingBy (λ x. x.number) result.items }
@@ -284,7 +286,7 @@ fn by_number<T>(mut kept: Vec<Numbered<T>>) -> Vec<Numbered<T>>
     kept
 }
 
-// Puts items, without their numbers, into an empty list that has room for them.
+// Moves items, without their numbers, into an empty list that has room for them.
 fn put_items<T: Drop>(kept: Vec<Numbered<T>>, mut items: Vec<T>) -> Vec<T>
     requires none { items.items ≡ [] }
     requires room { length kept.items ≤ vec_capacity items }

@@ -1,5 +1,5 @@
-//! A connection with its heap, its tickets and its link, and what is done with them. Where memory or a number runs out, an
-//! answer is `None`.
+//! A connection with its heap, its tickets and its link, and the work on them. A result is `None` if it is
+//! out of memory or a number overflows.
 
 ghost use Rattle.std.specs.Prelude.{◌≡◌, ◌<◌, All, IfSome};
 ghost use Rattle.std.specs.Bool.{OnTrue};
@@ -25,7 +25,7 @@ pub(crate) const TABLE: &[u8] =
 field 4 plain uint64 d\nfield 5 plain uint64 e\nfield 6 plain uint64 f\nfield 7 plain uint64 g\n\
 field 8 plain uint64 h\nfield 9 plain uint64 i\nfield 10 plain uint64 j\nmethod 0 S Get M M\n";
 
-// Rules none of which denies a message.
+// Rules that deny no message.
 const RULES: [&[u8]; 4] = [
     b"rule a deny method 0 where 1 eq 1",
     b"rule b deny method 0 where 5 eq 1",
@@ -33,7 +33,7 @@ const RULES: [&[u8]; 4] = [
     b"default allow",
 ];
 
-// As many calls as a rate can pay for at one moment.
+// As many calls as a rate can let pass at one timestamp.
 const RATE: Rate = Rate {
     amount: 1,
     per: 1,
@@ -41,7 +41,7 @@ const RATE: Rate = Rate {
     hold: true,
 };
 
-// A call at each moment, for which the others wait.
+// One call at each timestamp; the others wait.
 const CALL_A_MOMENT: Rate = Rate {
     amount: 1,
     per: 1,
@@ -49,7 +49,7 @@ const CALL_A_MOMENT: Rate = Rate {
     hold: true,
 };
 
-// A connection of number 1, with its heap of 32 words, the tickets of a tenant, its link, and a policy of the rules.
+// Connection 1, with its heap of 32 words, the tickets of a tenant, its link, and a policy with the rules.
 pub(crate) struct Work<'t> {
     alloc: Global,
     table: &'t Table,
@@ -60,7 +60,7 @@ pub(crate) struct Work<'t> {
     conn: Conn<'t>,
 }
 
-// By hand, so that a drop is one call where it is needed, and not a drop of each part.
+// Written by hand, so that a drop is one call, not a drop of each part.
 impl<'t> Drop for Work<'t> {
     fn drop(self) {
         let Work {
@@ -86,7 +86,7 @@ impl<'t> Model for Work<'t> {
     ghost invariant = { λ w. IsWork w.table.now w.rules w.words.size w.tickets.tenants };
 }
 
-// Whether the numbers of a connection have room for one more of each.
+// Whether each counter of a connection has room for one more.
 #[tactic(auto, using(crate::proofs::Young::young))]
 fn is_young(conn: &Conn) -> bool
     ensures { OnTrue result (IsYoung conn.now) }
@@ -95,7 +95,7 @@ fn is_young(conn: &Conn) -> bool
     conn.history().len() < 1000000000
 }
 
-// Whether a policy is of no other tenant than the first.
+// Whether a policy is of no tenant other than the first.
 fn knows_tenant(policy: &Policy) -> bool
     ensures { OnTrue result (KnowsTenantOf (λ t. t ≡ 0) policy.now) }
 {
@@ -130,7 +130,7 @@ fn rules(alloc: Global) -> Option<Lines> {
     Some(lines)
 }
 
-// A policy of the rules.
+// A policy with the rules.
 fn access(alloc: Global, table: &Table) -> Option<Policy>
     requires { IsValid table.now }
     ensures { IfSome result IsPolicy }
@@ -198,7 +198,7 @@ impl<'t> Work<'t> {
         Some(())
     }
 
-    // ---- steps of an operator
+    // ---- operations of an operator
 
     fn operate(&mut self, step: Op) -> Option<()>
         requires { IfPolicy step IsPolicy }
@@ -244,7 +244,7 @@ impl<'t> Work<'t> {
         self.attach(at, name, policy)
     }
 
-    // Attaches four access policies, a rate and a count.
+    // Attaches four access policies, a rate and a count policy.
     pub(crate) fn attach_all(&mut self) -> Option<()> {
         self.attach_access(0, b"a")?;
         self.attach_access(1, b"b")?;
@@ -254,8 +254,8 @@ impl<'t> Work<'t> {
         self.attach(5, b"count", Policy::Count)
     }
 
-    // Attaches an access policy, a rate that lets a call go at each moment and holds the others, another access policy and
-    // a count.
+    // Attaches an access policy, a rate that lets one call pass at each timestamp and holds the others,
+    // another access policy and a count policy.
     pub(crate) fn attach_holding(&mut self) -> Option<()> {
         self.attach_access(0, b"a")?;
         self.attach(1, b"rate", Policy::Rate(CALL_A_MOMENT))?;
@@ -263,7 +263,7 @@ impl<'t> Work<'t> {
         self.attach(3, b"count", Policy::Count)
     }
 
-    // Puts the rules once more into the first policy, so that all calls go back to it.
+    // Upgrades the first policy to the same rules, so that all calls go back to it.
     pub(crate) fn upgrade_first(&mut self) -> Option<()> {
         let policy = self.rules.copied(self.alloc).ok()?;
         self.upgrade(b"a", policy)
@@ -279,7 +279,7 @@ impl<'t> Work<'t> {
 
     // ---- calls
 
-    // Accepts the message so often.
+    // Accepts the message this many times.
     pub(crate) fn accept(&mut self, times: u32) -> Option<()> {
         for _ in 0..times {
             self.accept_one()?;
@@ -302,12 +302,12 @@ impl<'t> Work<'t> {
         accepted.is_ok().then_some(())
     }
 
-    // Shows a moment, in milliseconds.
+    // Advances the clock to a timestamp, in milliseconds.
     pub(crate) fn show(&mut self, moment: u64) -> Option<()> {
         self.conn.clock(moment).ok()
     }
 
-    // Has the engines take turns, from the first on, until no call can go on. Nothing is sent.
+    // Runs the engines in order until no call can advance. Sends nothing.
     pub(crate) fn judge(&mut self) -> Option<()> {
         if !knows_tenants(self.conn.chain(), &self.tickets) {
             return None;
@@ -316,7 +316,7 @@ impl<'t> Work<'t> {
         Some(())
     }
 
-    // Has the engines take turns, and sends the calls that are ready.
+    // Runs the engines, and sends the calls that are ready.
     pub(crate) fn drain(&mut self) -> Option<()> {
         if !knows_tenants(self.conn.chain(), &self.tickets) {
             return None;
@@ -325,14 +325,14 @@ impl<'t> Work<'t> {
         (drained == Drained::Done).then_some(())
     }
 
-    // ---- what came of it
+    // ---- results
 
-    // How many happenings there are.
+    // The number of events.
     pub(crate) fn happenings(&self) -> usize {
         self.conn.history().len()
     }
 
-    // How many frames the link was handed.
+    // The number of frames that the link was handed.
     pub(crate) fn frames(&self) -> usize {
         self.link.handed().len()
     }

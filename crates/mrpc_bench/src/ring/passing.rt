@@ -15,11 +15,11 @@ use std::thread;
 use std::thread::{Threads, join};
 use untouched_copy::copy_message;
 
-// How many descriptors the ring holds.
+// The number of descriptors that the ring holds.
 const CAPACITY: u64 = 64;
 
-// Messages lie at so many places in turn, in two words each. They are more than a ring holds and two threads have at
-// hand, so no word is stored again before it was loaded.
+// The number of slots for messages, of two words each, that are used in turn. There are more than a ring and
+// two threads hold, so that no word is overwritten before it was loaded.
 const MESSAGES: u64 = 128;
 
 const WORDS: u64 = 258;
@@ -27,19 +27,19 @@ const WORDS: u64 = 258;
 // One word of a message is loaded, its number.
 const LIMIT: u64 = 1;
 
-// What came through a ring.
+// The results of a ring's reader.
 #[derive(Clone, Copy)]
 pub(crate) struct Passed {
-    // How many descriptors were taken.
+    // The number of descriptors taken.
     pub taken: u64,
-    // How many of their messages were copied.
+    // The number of their messages that were copied.
     pub copied: u64,
     // The sum of the numbers in these messages, modulo 2^64.
     pub sum: u64,
 }
 
-// Passes descriptors of so many messages of the first type of a table. A message for which no memory is found isn't
-// copied.
+// Sends descriptors of this number of messages of the first type of a table. It doesn't copy a message for
+// which it runs out of memory.
 pub(crate) fn pass<R: Threads + Wait + Sync>(
     rt: &R,
     alloc: Global,
@@ -54,7 +54,7 @@ pub(crate) fn pass<R: Threads + Wait + Sync>(
     over_heap(rt, alloc, table, u64::from(count), writer, reader)
 }
 
-// The same over a new heap.
+// Like `pass`, over a new heap.
 fn over_heap<R: Threads + Wait + Sync>(
     rt: &R,
     alloc: Global,
@@ -124,7 +124,7 @@ fn message(writer: &mut Writer, addr: u64) -> Descriptor
     }
 }
 
-// Tries until the ring has room.
+// Retries until the ring has room.
 fn send<R: Wait>(rt: &R, sender: &mut Sender, mut descriptor: Descriptor)
     requires of_heap { IsOf sender.old.heap descriptor }
     requires few { length sender.old.sent < 4294967294 }
@@ -146,7 +146,7 @@ fn send<R: Wait>(rt: &R, sender: &mut Sender, mut descriptor: Descriptor)
     }
 }
 
-// Tries until the ring has room.
+// Retries until the ring has room.
 fn close<R: Wait>(rt: &R, mut sender: Sender) {
     for _ in rt.forever() {
         match sender.close(rt) {
@@ -157,7 +157,7 @@ fn close<R: Wait>(rt: &R, mut sender: Sender) {
     }
 }
 
-// Takes descriptors until the closing, and copies the message of each.
+// Takes descriptors until the ring is closed, and copies the message of each.
 fn read_all<R: Wait>(
     rt: &R,
     alloc: Global,
@@ -191,7 +191,7 @@ fn read_all<R: Wait>(
     unreachable!()
 }
 
-// Meets the descriptor's note, copies its message, and gives its number, or 0 where it has none.
+// Meets the descriptor's note, copies its message, and returns its number, or 0 if it has none.
 fn number_of(
     alloc: Global,
     table: &Table,

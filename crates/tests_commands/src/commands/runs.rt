@@ -1,4 +1,4 @@
-//! Runs over links in memory, which fail as they are listed.
+//! Runs over links in memory, which fail as listed.
 
 use crate::devices::{Devices, Failing, words_of};
 use mem_fabric::{ListedFaults, MemFabric};
@@ -9,13 +9,13 @@ use std::process::Abort;
 use std::sync::Wait;
 use std::thread::Threads;
 
-// A client whose one message comes back from an echo.
+// A client whose one message is returned by an echo.
 const SCENARIO: &[u8] = b"mrpc = 1\nservice = \"S\"\nschema = \"\"\"\nsyntax = \"proto3\";\n\
       message M { uint64 a = 1; }\nservice S { rpc Get (M) returns (M); }\n\"\"\"\n\
       [[app]]\nconn = 1\nrole = \"client\"\nprogram = [\"store 2 150\", \"submit 0 2\"]\n\
       [[app]]\nconn = 2\nrole = \"echo\"\n[[link]]\na = 1\nb = 2\n";
 
-// The same, where the client gives back a block that it doesn't hold.
+// Like `SCENARIO`, but the client reclaims a block that it doesn't hold.
 const FALSE_RECLAIM: &[u8] = b"mrpc = 1\nservice = \"S\"\nschema = \"\"\"\nsyntax = \"proto3\";\n\
       message M { uint64 a = 1; }\nservice S { rpc Get (M) returns (M); }\n\"\"\"\n\
       [[app]]\nconn = 1\nrole = \"client\"\nprogram = [\"store 2 150\", \"submit 0 2\", \"reclaim 9\"]\n\
@@ -27,7 +27,7 @@ const NONE: Failing<'static> = Failing {
     beside: &[],
 };
 
-// The openings that fail, and the sends of connection 1.
+// The openings that fail, and the sends of connection 1 that fail.
 fn listed(rt: &impl Abort, alloc: Global, openings: &[u64], sends: &[u64]) -> ListedFaults {
     let mut failing_sends = Vec::new(alloc);
     for send in sends {
@@ -40,8 +40,8 @@ fn listed(rt: &impl Abort, alloc: Global, openings: &[u64], sends: &[u64]) -> Li
     }
 }
 
-// The status of the run over links of a fabric. The fabric is owned here: what a drop comes to is proved in each function
-// that has one.
+// The status of the run over links of a fabric. The fabric is owned here: what dropping a value does is
+// proved in each function that drops one.
 fn status_over<R, F>(rt: &R, alloc: Global, devices: &mut Devices, mut fabric: F) -> u8
 where
     R: Abort + Threads + Wait + Sync,
@@ -61,7 +61,8 @@ where
     )
 }
 
-// What the run of a scenario leaves, over links in memory that fail as they are listed, where it ends with this status.
+// The devices after the run of a scenario over links in memory that fail as listed, if it ends with this
+// status.
 fn ran<R: Abort + Threads + Wait + Sync>(
     rt: &R,
     alloc: Global,
@@ -82,14 +83,14 @@ fn nothing_is_told_where_a_link_was_not_opened(rt: HostRuntime) {
     assert!(rt; devices.out.calls() == 0);
 }
 
-// The scenario behind a key that says how many workers there are.
+// The scenario after a key with the number of workers.
 fn with_workers(rt: &impl Abort, alloc: Global, key: &[u8]) -> Vec<u8> {
     let mut text = key.to_vec(alloc).expect(rt, "memory");
     text.extend_from_slice(SCENARIO).expect(rt, "memory");
     text
 }
 
-// A send of connection 1 fails: what is told then.
+// The send of connection 1 that fails, and the report then.
 type Row<'a> = (u64, &'a [u8]);
 
 fn assert_fails<R: Abort + Threads + Wait + Sync>(
@@ -105,7 +106,7 @@ fn assert_fails<R: Abort + Threads + Wait + Sync>(
     }
 }
 
-// The first one is that of its hello. The frame of its call is the second one: it was in the queue before.
+// The first send is that of its hello. The second is the frame of its call, which was in the queue before.
 #[test]
 fn a_link_that_fails_is_told(rt: HostRuntime) {
     let rows: [Row; 2] = [
@@ -122,7 +123,7 @@ fn a_link_that_fails_is_told(rt: HostRuntime) {
     }
 }
 
-// What is told of the block that isn't held stands before the arrival of the reply, or behind it.
+// The line of the block that isn't held is before the arrival of the reply, or after it.
 const BEFORE: &[u8] = b"took 1 1 0 0 2 1 1 copy 089601\nsent 1 1 19\nnotheld 1 9\n\
     arrived 1 2 0 1 089601\ntook 2 1 0 1 2 1 1 copy 089601\nsent 2 1 19\narrived 2 1 0 1 089601\n\
     method 0 2 2 0 0\ntotals 2 2 0 0\n";

@@ -1,4 +1,4 @@
-//! Commands that run nothing, whose reads, lines or frames fail.
+//! Commands that run no connections, whose reads, lines or frames fail.
 
 use crate::devices::{Devices, Failing, words_of};
 use mrpc_top::{INPUT_FAILED, OUTPUT_FAILED, WIRE_FAILED, one_replay, run_still};
@@ -15,7 +15,7 @@ const THREE_CALLS: &[u8] =
     b"mrpc-replay 1\ntable\nmessage M\nfield 1 plain uint64 a\nmethod 0 S Get M M\nend\n\
       conn 1 16\nstore 1 2 7\nsubmit 1 0 2\nsubmit 1 0 2\nsubmit 1 0 2\ndrain 1\nclose\n";
 
-// The same, and a call on another connection.
+// Like `THREE_CALLS`, with a call on another connection.
 const TWO_CONNECTIONS: &[u8] =
     b"mrpc-replay 1\ntable\nmessage M\nfield 1 plain uint64 a\nmethod 0 S Get M M\nend\n\
       conn 1 16\nconn 2 16\nstore 1 2 7\nsubmit 2 0 2\nsubmit 1 0 2\nsubmit 1 0 2\nsubmit 1 0 2\n\
@@ -35,8 +35,8 @@ const FRAME_150: &[u8] = b"\0\0\0\x03\x01\x01\0\0\0\0\0\x01\0\0\0\x01\x08\x96\x0
 
 const FRAME_7: &[u8] = b"\0\0\0\x02\x01\x01\0\0\0\0\0\x01\0\0\0\x01\x08\x07";
 
-// An input, the calls that fail, and what there is then: the status, the lines, how many writes were tried for them, and
-// the frames.
+// An input, the calls that fail, and the results: the status, the lines, how many writes were attempted for
+// them, and the frames.
 #[derive(Copy, Clone)]
 struct Row<'a> {
     input: &'a [u8],
@@ -66,7 +66,7 @@ fn assert_row(rt: &impl Abort, alloc: Global, command: &str, row: &Row) {
     assert!(rt; devices.beside.written() == row.frames);
 }
 
-// What there is where the second read fails, the first one having given a part of the input.
+// The results if the second read fails, after the first one returned a part of the input.
 fn unread(input: &[u8]) -> Row {
     Row {
         input,
@@ -130,7 +130,7 @@ fn calls_that_stand_are_refused_behind_a_failed_frame(rt: HostRuntime) {
     assert_replays(&rt, rt.alloc(), &rows);
 }
 
-// Each line is a write.
+// Each line is one write.
 #[test]
 fn lines_stand_up_to_the_one_that_fails(rt: HostRuntime) {
     let rows = [

@@ -5,12 +5,12 @@ use std::alloc::Global;
 use std::process::Abort;
 use view_top::{FAULTY_INPUT, INPUT_FAILED, OUTPUT_FAILED, run_view};
 
-// A table, the frame of a request with 150, and the beginning of another frame.
+// A table, the frame of a request with 150, and the start of another frame.
 const CUT_OFF: &[u8] =
     b"mrpc-decode 1\ntable\nmessage M\nfield 1 plain uint64 a\nmethod 0 S Get M M\nend\n\
       \x00\x00\x00\x03\x01\x01\x00\x00\x00\x00\x00\x01\x00\x00\x00\x01\x08\x96\x01\x00";
 
-// What the view of the frames, whose calls fail as listed, leaves where it ends with this status.
+// The devices after the view of the frames, whose calls fail as listed, if it ends with this status.
 fn shown(rt: &impl Abort, alloc: Global, failing: Failing, status: u8) -> Devices {
     let mut devices = Devices::new(rt, alloc, CUT_OFF, failing);
     assert!(rt; show(rt, alloc, &mut devices) == status);

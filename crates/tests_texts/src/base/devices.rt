@@ -8,7 +8,7 @@ use mrpc_base::{
 use std::alloc::Global;
 use std::process::Abort;
 
-// Three bytes are left, of which the first read gives one; the second read fails.
+// Three bytes remain, and the first read returns one of them; the second read fails.
 fn is_read(rt: &impl Abort, source: &mut MemSource) {
     let mut buf = [0; 8];
     assert!(rt; source.read(&mut buf) == Got::Bytes(1));
@@ -47,7 +47,7 @@ fn bytes_are_written_whole_or_a_write_failed(rt: HostRuntime) {
     discard(sink);
 }
 
-// A link with two bytes to come, which fails its second send and is idle at its first receive.
+// A link with two bytes to receive. Its second send fails, and its first receive is idle.
 fn link(rt: &impl Abort, alloc: Global) -> MemLink {
     let incoming = b"xy".to_vec(alloc).expect(rt, "memory");
     let lengths = [0].to_vec(alloc).expect(rt, "memory");

@@ -23,7 +23,7 @@ fn wheel_of(rt: &impl Abort, alloc: Global, entries: &[(u32, u64)]) -> Wheel {
     Wheel::new(alloc, weights_of(rt, alloc, entries)).expect(rt, "a wheel")
 }
 
-// Visits the first connection, as far as its grant reaches.
+// Visits the first connection for `given` rounds, at most its grant; a `Given` visit uses the whole grant.
 fn visit(wheel: &mut Wheel, given: u64, ending: Ending, leaves: bool) {
     if wheel.first().is_some() {
         let grant = wheel.first_grant();
@@ -46,7 +46,7 @@ fn is_account(wheel: &Wheel, conn: u32, visits: u64, rounds: u64, kept: u64, dro
     matches!(wheel.account(conn), Some(account) if *account == want)
 }
 
-// What the first connection is left when it is shut is granted in its next visit.
+// If the first connection is shut, its remaining grant counts in its next visit.
 fn is_counted(rt: &impl Abort, wheel: &mut Wheel) {
     visit(wheel, 1, Ending::Shut, false);
     visit(wheel, 0, Ending::Idle, false);
@@ -64,7 +64,7 @@ fn a_wheel_counts_its_visits(rt: HostRuntime) {
     discard(wheel);
 }
 
-// A connection that comes first, its grant, how many rounds it is given, and how the visit ends.
+// The connection that comes first, its grant, the rounds that it uses, and how the visit ends.
 type Row = (u32, u64, u64, Ending);
 
 const ROWS: [Row; 5] = [
@@ -84,7 +84,7 @@ fn is_visited(rt: &impl Abort, wheel: &mut Wheel, rows: &[Row]) {
     }
 }
 
-// What is left of a shut visit is given in the next one, and what is left of an idle one is dropped.
+// The remaining grant of a shut visit is added to the next one, and that of an idle visit is dropped.
 fn is_shared(rt: &impl Abort, wheel: &mut Wheel) {
     is_visited(rt, wheel, &ROWS);
     assert!(rt; is_account(wheel, 1, 3, 9, 0, 0));

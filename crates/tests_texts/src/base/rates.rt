@@ -1,4 +1,4 @@
-//! Buckets at their bounds, worked out by hand.
+//! Buckets at their bounds, calculated by hand.
 
 use policy_rate::{Bucket, Rate, Step};
 

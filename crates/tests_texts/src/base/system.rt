@@ -6,7 +6,7 @@ use std::io;
 use std::io::{ErrorKind, Read, Write};
 use system_io::{StandardInput, StandardOutput, SystemClock};
 
-// A device that answers its calls by a list: a count, or a failure.
+// A device that answers its calls from a list: a count, or a failure.
 #[derive(Drop)]
 struct Device {
     answers: [Option<usize>; 3],
@@ -18,7 +18,7 @@ impl Device {
         Device { answers, calls: 0 }
     }
 
-    // The next answer, at most `most`; past the list the count is 0.
+    // The next answer, at most `most`; after the end of the list the count is 0.
     fn next(&mut self, most: usize) -> io::Result<usize>
         ensures { IfOk result (λ n. n ≤ most) }
     {

@@ -5,7 +5,7 @@ use std::alloc::Global;
 use std::process::Abort;
 use telemetry::{Totals, What};
 
-// Totals of these happenings, as far as the counts have room.
+// The totals of these events, as far as the counts have room.
 fn totals_of(rt: &impl Abort, alloc: Global, happened: &[(u16, What)]) -> Totals {
     let mut totals = Totals::new(alloc);
     for (method, what) in happened {

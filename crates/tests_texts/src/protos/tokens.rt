@@ -1,4 +1,4 @@
-//! A token of each sort, and what a string stands for.
+//! A token of each kind, and the value of a string.
 
 use mrpc_table::Decimal;
 use proto_tokens::{Kind, Token, next_token, string_value};

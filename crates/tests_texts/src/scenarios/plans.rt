@@ -1,4 +1,4 @@
-//! What a scenario leaves out.
+//! The defaults of a scenario.
 
 use crate::discard;
 use run_plan::{Application, Plan, Role};

@@ -35,7 +35,7 @@ fn number_in(tree: &Tree) -> u64 {
     }
 }
 
-// The number in the copy of a call, or 0 where it has none.
+// The number in the copy of a call, or 0 if it has none.
 fn number_of(call: &Taken) -> u64 {
     match &call.copy {
         TookCopy::Copy { tree } => number_in(tree),

@@ -1,4 +1,4 @@
-//! What the words of a line say.
+//! The values of a line's words.
 
 use mrpc_table::Decimal;
 use script_words::{Judged, Keyword, form_of, judge, keyword_at, name_at, number_at, unbounded_at};

@@ -4,7 +4,7 @@ use crate::discard;
 use audit_input::{AuditInput, read_audit_input};
 use std::process::Abort;
 
-// An item of each kind, behind a table.
+// A declaration of each kind, after a table.
 const INPUT: &[u8] = b"mrpc-audit 1
 table
 end

@@ -9,7 +9,7 @@ use std::process::Abort;
 
 const TEXT: &[u8] = b"message M\nfield 1 plain uint64 a\nmethod 0 S Get M M\n";
 
-// The same with another name for the field.
+// Like the first, with another name for the field.
 const OTHER_NAME: &[u8] = b"message M\nfield 1 plain uint64 b\nmethod 0 S Get M M\n";
 
 const MORE_METHODS: &[u8] = b"message M
@@ -18,7 +18,8 @@ method 0 S Get M M
 method 1 S Put M M
 ";
 
-// The byte where the texts of two tables differ under version 1, and what stands there in each, 0 behind its end.
+// The offset at which the texts of two tables differ under version 1, and the byte there in each, 0 after its
+// end.
 fn mismatch(rt: &impl Abort, alloc: Global, ours: &[u8], theirs: &[u8]) -> (u64, u8, u8) {
     let ours = table(rt, alloc, ours);
     let theirs = table(rt, alloc, theirs);
@@ -42,7 +43,7 @@ fn the_first_byte_that_differs_is_told(rt: HostRuntime) {
     assert!(rt; theirs == 98);
 }
 
-// In a run neither text ends where the other one goes on.
+// In a run neither text is a prefix of the other.
 #[test]
 fn under_version_1_the_texts_are_compared(rt: HostRuntime) {
     let (byte, ours, theirs) = mismatch(&rt, rt.alloc(), TEXT, MORE_METHODS);

@@ -1,4 +1,4 @@
-//! Clients: one call, and the stop flag at each place where a client waits.
+//! Clients: one call, and the stop flag in each place where a client waits.
 
 ghost use Rattle.app_program.specs.Programs.{IsClientProgram};
 ghost use Rattle.tests_threads.specs.declared.apps.port.TheConstants.{WORDS};
@@ -10,11 +10,11 @@ use std::alloc::Global;
 use std::process::Abort;
 use std::sync::Wait;
 
-// What a client is given before it runs.
+// What a client receives before it runs.
 #[derive(Clone, Copy)]
 enum Given {
     Nothing,
-    // A notice, but no number of its block.
+    // A notice, but not the number of its block.
     Half,
     // Both rings are closed.
     Closed,
@@ -47,7 +47,8 @@ fn assert_called<R: Abort + Wait>(rt: &R, taking: &mut Taking) {
     assert!(rt; taking.block(rt) == CLOSED);
 }
 
-// The flag is set, and the client can send one call and give one block back. It ends without what its senders leave.
+// The flag is set, and the client has room to send one call and return one block. It ends without what its
+// senders leave.
 fn assert_stops<R: Abort + Wait>(rt: &R, alloc: Global, program: &Program, given: Given)
     requires { IsClientProgram WORDS program.now }
 {
@@ -56,7 +57,7 @@ fn assert_stops<R: Abort + Wait>(rt: &R, alloc: Global, program: &Program, given
     assert!(rt; !app.client(rt, program));
 }
 
-// There is no room for the second call, or for the closing behind the first one.
+// There is no room for the second call, or for the closing after the first one.
 #[test]
 fn a_client_stops_at_a_full_ring_of_calls(rt: HostRuntime) {
     let two = twice(&rt, rt.alloc(), SUBMIT);
@@ -65,7 +66,7 @@ fn a_client_stops_at_a_full_ring_of_calls(rt: HostRuntime) {
     assert_stops(&rt, rt.alloc(), &one, Given::Nothing);
 }
 
-// There is no room for the second block that is given back, or for the closing behind the first one.
+// There is no room for the second returned block, or for the closing after the first one.
 #[test]
 fn a_client_stops_at_a_full_ring_of_blocks(rt: HostRuntime) {
     let two = twice(&rt, rt.alloc(), RECLAIM);
@@ -74,7 +75,7 @@ fn a_client_stops_at_a_full_ring_of_blocks(rt: HostRuntime) {
     assert_stops(&rt, rt.alloc(), &one, Given::Closed);
 }
 
-// There is no notice, or no number of a block behind one.
+// There is no notice, or no number of a block after one.
 #[test]
 fn a_client_stops_where_nothing_is_delivered(rt: HostRuntime) {
     let program = once(&rt, rt.alloc(), RECLAIM);

@@ -8,8 +8,8 @@ use std::sync::Wait;
 
 const NESTED: &[u8] = b"message M\nfield 1 repeated message:M m\nmethod 0 S Get M M\n";
 
-// Five messages of ten words each, of eight messages each, which are the next one eight times, and behind them one that
-// has none: all 32768 of them are far more than 16384 words.
+// Five messages of ten words each, with eight elements each that are all the next message. The fifth refers
+// to a message without elements, whose 32768 copies take far more than 16384 words.
 fn word_at(place: u64) -> u64
     requires low { 1 ≤ place }
     requires high { place ≤ 50 }
@@ -28,7 +28,7 @@ fn store_messages(giving: &mut Giving) {
     }
 }
 
-// The first of the messages has no reply, and the last one, which has no field, has one.
+// The first message gets no reply, and the last one, which has no field, gets one.
 #[test]
 fn a_request_of_too_many_loads_has_no_reply(rt: HostRuntime) {
     let (app, mut giving, mut taking) = open(&rt, rt.alloc(), 4, false);
@@ -50,7 +50,7 @@ fn assert_one_reply<R: Abort + Wait>(rt: &R, taking: &mut Taking) {
     assert!(rt; taking.block(rt) == CLOSED);
 }
 
-// It waits at the same rings as a client, by the same functions.
+// An echo waits at the same rings as a client, in the same functions.
 #[test]
 fn an_echo_stops_where_it_waits(rt: HostRuntime) {
     let (app, _giving, _taking) = open(&rt, rt.alloc(), 1, true);

@@ -1,4 +1,4 @@
-//! Applications on a port. All but one are given what they take before they run, so that one thread is enough.
+//! Applications on a port. All but one get their input before they run, so that one thread is enough.
 
 mod clients;
 mod echoes;

@@ -1,4 +1,5 @@
-//! An echo beside a service that stores to a block as soon as it is given back: what a reply says was copied before.
+//! An echo beside a service that stores to a block as soon as it is returned: the content of a reply was
+//! copied before.
 
 use crate::apps::port::{App, Giving, Taking, open};
 use std::alloc::Global;
@@ -8,12 +9,12 @@ use std::thread::{Threads, join};
 
 const LIST: &[u8] = b"message M\nfield 1 repeated uint64 a\nmethod 0 S Get M M\n";
 
-// So many elements take a while to be copied, and fit a slice.
+// This many elements take a while to copy, and fit a slice.
 const ELEMENTS: u64 = 1000;
 
 const ROUNDS: u32 = 64;
 
-// Stores a message of so many elements at place 1. They stand behind it, from place 3 on.
+// Stores a message with this many elements at place 1. The elements follow it, from place 3 on.
 fn store_message(giving: &mut Giving) {
     giving.store(1, ELEMENTS);
     giving.store(2, 3);
@@ -22,8 +23,8 @@ fn store_message(giving: &mut Giving) {
     }
 }
 
-// Tells of one request after another, each with its number as last element; stores another one once the block was given
-// back; and counts the replies that have the number.
+// Sends notices of requests one by one, each with its number as last element. Stores the next request once
+// the block was returned, and counts the replies that have the number.
 fn serve<R: Abort + Wait>(rt: &R, mut giving: Giving, mut taking: Taking) -> u32 {
     store_message(&mut giving);
     let mut right = 0u32;

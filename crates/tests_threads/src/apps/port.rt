@@ -1,4 +1,4 @@
-//! A port, taken apart: the application's side, what the service gives through it, and what it takes.
+//! A port in parts: the application's side, what the service sends through it, and what it takes.
 
 ghost use Rattle.std.specs.Prelude.{◌≡◌, ◌≤◌, []};
 ghost use Rattle.app_program.specs.Programs.{IsClientProgram, IsServerProgram};
@@ -19,18 +19,18 @@ use std::thread;
 use stop_flag::{RunFlag, StopFlag};
 use table_text::read_table;
 
-// How many words each heap has.
+// The number of words of each heap.
 pub(crate) const WORDS: u64 = 4096;
 
-// How many notices and numbers of blocks the rings hold towards the application.
+// The number of notices and of block numbers that the rings to the application hold.
 const NOTICES: u64 = 4;
 
-// What a take answers in place of an address or a number.
+// What a take returns in place of an address or a number.
 pub(crate) const CLOSED: u64 = 1 << 20;
 
 pub(crate) const EMPTY: u64 = 1 << 21;
 
-// An application that hasn't begun.
+// An application that hasn't started.
 pub(crate) struct App {
     port: AppPort<RunFlag>,
     begun: u64,
@@ -49,7 +49,7 @@ impl Model for App {
         × (a.port.capacity ≤ 1024) };
 }
 
-// By hand, as of the others below, so that a drop is one call where it is needed.
+// Written by hand, like those below, so that a drop is one call.
 impl Drop for App {
     fn drop(self) {
         let App {
@@ -60,7 +60,7 @@ impl Drop for App {
 }
 
 impl App {
-    // Runs it as a client; whether it came to its end.
+    // Runs it as a client; whether it finished.
     pub(crate) fn client<R: Abort + Wait>(self, rt: &R, program: &Program) -> bool
         requires { IsClientProgram WORDS program.now }
     {
@@ -68,7 +68,7 @@ impl App {
         is_whole(rt, app_stub::client(rt, program, port))
     }
 
-    // The same as a server.
+    // Like `client`, as a server.
     pub(crate) fn server<R: Abort + Wait>(self, rt: &R, program: &Program) -> bool
         requires { IsServerProgram WORDS program.now }
     {
@@ -76,7 +76,7 @@ impl App {
         is_whole(rt, app_stub::server(rt, program, port))
     }
 
-    // The same as an echo under this table.
+    // Like `client`, as an echo under this table.
     pub(crate) fn echo<R: Abort + Wait>(self, rt: &R, alloc: Global, table: &[u8]) -> bool {
         let App { port, begun: _ } = self;
         let table = read_table(alloc, table).expect(rt, "a table");
@@ -84,18 +84,18 @@ impl App {
     }
 }
 
-// Whether the application came to its end, and wasn't stopped.
+// Whether the application finished, and wasn't stopped.
 fn is_whole(rt: &impl Abort, end: AppEnd) -> bool {
     assert!(rt; !end.memory);
     end.sent.is_some()
 }
 
-// What the service gives an application.
+// What the service sends to an application.
 pub(crate) struct Giving {
     writer: Writer,
     notices: Sender,
     blocks: NumberSender,
-    // How many messages it told of.
+    // The number of messages that it sent notices of.
     told: u64,
 }
 
@@ -130,7 +130,8 @@ impl Giving {
         }
     }
 
-    // Tells of a request of method 0, whose message stands at this address in a block of the request's number.
+    // Sends the notice of a request of method 0, whose message is at this address in the block with the
+    // request's number.
     pub(crate) fn tell<R: Abort + Wait>(&mut self, rt: &R, number: u32, addr: u64) {
         assert!(rt; self.told < 1000);
         self.told += 1;
@@ -139,7 +140,7 @@ impl Giving {
         assert!(rt; self.blocks.send(rt, u64::from(number)).is_ok());
     }
 
-    // Tells of a request, but not of its block.
+    // Sends the notice of a request, but not the number of its block.
     pub(crate) fn tell_half<R: Abort + Wait>(&mut self, rt: &R) {
         assert!(rt; self.told < 1000);
         self.told += 1;
@@ -174,12 +175,12 @@ fn notice(writer: &mut Writer, number: u32, addr: u64) -> Descriptor
     }
 }
 
-// What the service takes of an application.
+// What the service takes from an application.
 pub(crate) struct Taking {
     reader: Reader,
     calls: Receiver,
     reclaims: NumberReceiver,
-    // How often it tried to take something.
+    // The number of attempts to take something.
     tried: u64,
 }
 
@@ -220,7 +221,7 @@ impl Taking {
         }
     }
 
-    // The number of the next block that was given back; or `CLOSED` or `EMPTY`.
+    // The number of the next returned block; or `CLOSED` or `EMPTY`.
     pub(crate) fn block<R: Wait>(&mut self, rt: &R) -> u64 {
         self.tried = self.tried.wrapping_add(1);
         match self.reclaims.take(rt) {
@@ -230,7 +231,7 @@ impl Taking {
         }
     }
 
-    // The next call, or else the closing.
+    // The next call, or the closing.
     pub(crate) fn wait_for_call<R: Wait>(&mut self, rt: &R) -> u64 {
         for _ in rt.forever() {
             let addr = self.call(rt);
@@ -251,7 +252,7 @@ impl Taking {
         }
     }
 
-    // The word at a place, or 0 where that lies outside the heap.
+    // The word at a place, or 0 if that is outside the heap.
     pub(crate) fn word(&mut self, place: u64) -> u64 {
         if place < WORDS {
             self.reader.load(place)
@@ -261,7 +262,7 @@ impl Taking {
     }
 }
 
-// What the service gives through new rings, of a new heap, and the application's ends of them.
+// New rings and a new heap for what the service sends, and the application's ends of them.
 fn open_giving(rt: &impl Abort, alloc: Global) -> (Giving, Reader, Receiver, NumberReceiver)
     ensures words { result.1.heap.words ≡ WORDS }
     ensures heap { result.2.heap ≡ result.1.heap }
@@ -279,7 +280,8 @@ fn open_giving(rt: &impl Abort, alloc: Global) -> (Giving, Reader, Receiver, Num
     (giving, reader, notices, blocks)
 }
 
-// What the service takes through new rings with so much room, of a new heap, and the application's ends of them.
+// New rings with this much room and a new heap for what the service takes, and the application's ends of
+// them.
 fn open_taking(rt: &impl Abort, alloc: Global, room: u64) -> (Taking, Writer, Sender, NumberSender)
     requires { (1 ≤ room) × (room ≤ 1024) }
     ensures words { result.1.heap.words ≡ WORDS }
@@ -299,7 +301,7 @@ fn open_taking(rt: &impl Abort, alloc: Global, room: u64) -> (Taking, Writer, Se
     (taking, writer, sender, numbers)
 }
 
-// A flag, which is set or not.
+// A stop flag, set or not.
 fn flag(rt: &impl Abort, alloc: Global, is_set: bool) -> RunFlag {
     let stop = RunFlag::new(alloc).expect(rt, "memory");
     if is_set {
@@ -308,8 +310,8 @@ fn flag(rt: &impl Abort, alloc: Global, is_set: bool) -> RunFlag {
     stop
 }
 
-// A port whose application can send so many calls and give back so many blocks before it waits, and whose flag is set
-// or not.
+// A port whose application can send this number of calls and return this number of blocks before it waits,
+// and whose flag is set or not.
 pub(crate) fn open(
     rt: &impl Abort,
     alloc: Global,

@@ -20,7 +20,7 @@ fn add(rt: &impl Abort, program: &mut Program, line: ProgramLine)
     program.push(line).expect(rt, "memory");
 }
 
-// A store, a request with what was stored, and a block that the client gives back and doesn't have.
+// A store, a request with what was stored, and the return of a block that the client doesn't have.
 pub(crate) fn one_call(rt: &impl Abort, alloc: Global) -> Program
     ensures { IsClientProgram WORDS result }
 {
@@ -53,7 +53,7 @@ pub(crate) fn once(rt: &impl Abort, alloc: Global, line: ProgramLine) -> Program
     program
 }
 
-// The same twice.
+// Like `once`, twice.
 pub(crate) fn twice(rt: &impl Abort, alloc: Global, line: ProgramLine) -> Program
     requires line { IsClientLine WORDS line }
     requires few { length (line_stores line) ≤ 2 }
@@ -65,7 +65,7 @@ pub(crate) fn twice(rt: &impl Abort, alloc: Global, line: ProgramLine) -> Progra
     program
 }
 
-// A server whose replies stand at place 2, behind a store there.
+// A server whose replies are at place 2, after a store there.
 pub(crate) fn one_reply(rt: &impl Abort, alloc: Global) -> Program
     ensures { IsServerProgram WORDS result }
 {

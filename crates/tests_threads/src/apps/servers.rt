@@ -23,7 +23,7 @@ fn assert_replied<R: Abort + Wait>(rt: &R, taking: &mut Taking) {
     assert!(rt; taking.block(rt) == CLOSED);
 }
 
-// It waits at the same rings as a client, by the same functions.
+// A server waits at the same rings as a client, in the same functions.
 #[test]
 fn a_server_stops_where_it_waits(rt: HostRuntime) {
     let program = one_reply(&rt, rt.alloc());

@@ -1,4 +1,4 @@
-//! Copies of a message to which a writer stores meanwhile.
+//! Copies of a message that a writer stores to concurrently.
 
 use graph_copy::CopyResult;
 use graph_form::Reason;
@@ -31,7 +31,7 @@ impl Model for Spinner {
     ghost invariant = { λ s. s.writer.heap.words ≡ 4 };
 }
 
-// By hand, so that a drop is one call where it is needed.
+// Written by hand, so that a drop is one call.
 impl Drop for Spinner {
     fn drop(self) {
         let Spinner {
@@ -42,7 +42,8 @@ impl Drop for Spinner {
 }
 
 impl Spinner {
-    // Stores the next number behind the presence of field 1, and each eighth time a presence that no message has.
+    // Stores the next number after the presence of field 1, and each eighth time a presence that no message
+    // has.
     fn store(&mut self) {
         if self.writer.made() > 1 << 40 {
             return;
@@ -53,7 +54,7 @@ impl Spinner {
             .store(2, if self.number % 8 == 0 { 2 } else { 1 });
     }
 
-    // Stores ever greater numbers until it is told to stop, and answers the last one.
+    // Stores ever greater numbers until it is stopped, and returns the last one.
     fn spin(&mut self, stop: &AtomicBool) -> u64 {
         for _ in 0..1u64 << 40 {
             self.store();
@@ -132,14 +133,14 @@ fn both_ends(rt: &impl Abort, alloc: Global) -> (Spinner, Copier) {
     )
 }
 
-// What copies of a message that is stored to meanwhile were.
+// The results of copies of a message that is stored to concurrently.
 #[derive(Clone, Copy)]
 struct Seen {
-    // The number of the last message that was copied, 0 where there was none.
+    // The number of the last message that was copied, 0 if none was.
     last: u64,
-    // Whether memory was found for each, and none had a lesser number than the one before.
+    // Whether no copy was out of memory, and none had a lesser number than the one before.
     rising: bool,
-    // Whether the others were malformed for the presence that no message has.
+    // Whether the others were malformed because of the presence that no message has.
     torn: bool,
 }
 
@@ -170,7 +171,7 @@ fn number_of(tree: &Tree) -> u64 {
     }
 }
 
-// Copies in one thread until it tells the other thread, which stores without an end, to stop.
+// Copies in one thread, then stops the other thread, which stores without end.
 fn copy_beside_spinning<R: Threads + Sync>(
     rt: &R,
     alloc: Global,

@@ -1,4 +1,4 @@
-//! What threads share: heaps, rings, quotas, and copies of what is stored meanwhile.
+//! What threads share: heaps, rings, quotas, and copies of what is stored concurrently.
 
 mod copies;
 mod notes;

@@ -1,4 +1,4 @@
-//! A heap, and the notes of what was stored to it.
+//! A heap, and the notes of the stores to it.
 
 ghost use Rattle.std.specs.Prelude.{◌≡◌, []};
 
@@ -43,7 +43,7 @@ fn assert_new(rt: &impl Abort, writer: &mut Writer, reader: &mut Reader)
     assert!(rt; reader.load(3) == 0);
 }
 
-// A note of the first store, behind which there is a second one.
+// A note of the first store, which a second one follows.
 fn store_twice(writer: &mut Writer) -> Note
     requires words { writer.old.heap.words ≡ 4 }
     requires unused { writer.old.stores ≡ [] }

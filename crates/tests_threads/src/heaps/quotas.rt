@@ -24,7 +24,7 @@ fn assert_counts(rt: &impl Abort, seat: &mut Seat)
     assert!(rt; seat.draw(1) == 0);
 }
 
-// The seats of a quota take no handle: no call of theirs can wait.
+// The seats of a quota take no runtime handle: none of their calls can wait.
 fn draw_times(seat: &mut Seat, times: u64)
     requires { seat.old.quota.words ≡ 1 }
     ensures { seat.new.quota ≡ seat.old.quota }

@@ -1,4 +1,5 @@
-//! Rings of numbers and of descriptors, full, empty and closed. The program passes items from thread to thread.
+//! Rings of numbers and of descriptors: full, empty and closed. The program sends items from thread to
+//! thread.
 
 ghost use Rattle.std.specs.Prelude.{◌≡◌, ◌≤◌, ◌<◌, ◌+◌, [], length};
 ghost use Rattle.descriptor_ring.specs.Rings.{IsOf};
@@ -14,12 +15,12 @@ use shared_heap::{Reader, Writer};
 use std::process::Abort;
 use std::sync::Wait;
 
-// What a take answers in place of an item.
+// What a take returns in place of an item.
 const CLOSED: u64 = 1000;
 
 const EMPTY: u64 = 2000;
 
-// Sends a number, and answers how many a full ring held, or 0 where there was room.
+// Sends a number, and returns how many items a full ring held, or 0 if there was room.
 fn held<R: Wait>(rt: &R, sender: &mut NumberSender, number: u64) -> u64
     requires { length sender.old.sent < 10 }
     ensures few { length sender.new.sent ≤ length sender.old.sent + 1 }
@@ -31,7 +32,7 @@ fn held<R: Wait>(rt: &R, sender: &mut NumberSender, number: u64) -> u64
     }
 }
 
-// Takes the next number, or answers `CLOSED`, or `EMPTY` and how many the ring held.
+// Takes the next number, or returns `CLOSED`, or `EMPTY` plus how many the ring held.
 fn taken<R: Wait>(rt: &R, receiver: &mut NumberReceiver) -> u64
     ensures { receiver.new.ring ≡ receiver.old.ring }
 {
@@ -93,7 +94,7 @@ fn assert_fills<R: Abort + Wait>(rt: &R, sender: &mut NumberSender)
     assert!(rt; held(rt, sender, 9) == 2);
 }
 
-// Each end hears how far the ring has come, before and behind the take of the first number.
+// Each end observes the ring's progress, before and after the take of the first number.
 fn assert_told<R: Abort + Wait>(rt: &R, sender: &mut NumberSender, receiver: &mut NumberReceiver)
     requires { receiver.old.ring ≡ sender.old.ring }
     ensures { (receiver.new.ring ≡ receiver.old.ring) × (sender.new.ring ≡ sender.old.ring) }
@@ -108,7 +109,7 @@ fn assert_ends<R: Abort + Wait>(rt: &R, receiver: &mut NumberReceiver) {
     assert!(rt; taken(rt, receiver) == CLOSED);
 }
 
-// What the writer has stored at place 2.
+// A descriptor of what the writer stored at place 2.
 fn submission(writer: &mut Writer) -> Descriptor
     ensures of_heap { IsOf writer.old.heap result }
     ensures same { writer.new ≡ writer.old }
@@ -123,7 +124,7 @@ fn submission(writer: &mut Writer) -> Descriptor
     }
 }
 
-// Sends a descriptor, and answers how many a full ring held, or 0 where there was room.
+// Sends a descriptor, and returns how many items a full ring held, or 0 if there was room.
 fn waiting<R: Wait>(rt: &R, writer: &mut Writer, sender: &mut Sender) -> u64
     requires one_heap { sender.old.heap ≡ writer.old.heap }
     requires few { length sender.old.sent < 10 }
@@ -138,7 +139,8 @@ fn waiting<R: Wait>(rt: &R, writer: &mut Writer, sender: &mut Sender) -> u64
     }
 }
 
-// Takes the next descriptor and meets its note; answers its address, or `CLOSED`, or `EMPTY` and how many there were.
+// Takes the next descriptor and meets its note; returns its address, or `CLOSED`, or `EMPTY` plus how many
+// there were.
 fn met<R: Wait>(rt: &R, reader: &mut Reader, receiver: &mut Receiver) -> u64
     requires { receiver.old.heap ≡ reader.old.heap }
     ensures ring { receiver.new.ring ≡ receiver.old.ring }
@@ -191,7 +193,7 @@ fn assert_one_waits<R: Abort + Wait>(rt: &R, writer: &mut Writer, sender: &mut S
     assert!(rt; waiting(rt, writer, sender) == 1);
 }
 
-// What was stored before the descriptor was sent is loaded.
+// A store before the send of the descriptor is loaded.
 fn assert_one_comes<R: Abort + Wait>(rt: &R, reader: &mut Reader, receiver: &mut Receiver)
     requires words { reader.old.heap.words ≡ 4 }
     requires one_heap { receiver.old.heap ≡ reader.old.heap }

@@ -1,4 +1,4 @@
-//! Queues, full and with places that are kept free.
+//! Queues that are full, and queues with reserved slots.
 
 ghost use Rattle.std.specs.Prelude.{◌≡◌};
 ghost use Rattle.one_way_queue.specs.Ends.{producer_queue, consumer_queue, AreEnds};
@@ -10,7 +10,7 @@ use std::alloc::Global;
 use std::process::Abort;
 use std::sync::Wait;
 
-// Puts an item, and answers the item where it was refused, or else 0.
+// Pushes an item; returns the item if the queue is full, or else 0.
 fn refused<R: Wait>(rt: &R, producer: &mut Producer<u32>, item: u32) -> u32
     ensures queue { producer_queue producer.new ≡ producer_queue producer.old }
 {
@@ -20,7 +20,7 @@ fn refused<R: Wait>(rt: &R, producer: &mut Producer<u32>, item: u32) -> u32
     }
 }
 
-// The next item, or 0 where none waits.
+// The next item, or 0 if there is none.
 fn next<R: Wait>(rt: &R, consumer: &mut Consumer<u32>) -> u32
     ensures queue { consumer_queue consumer.new ≡ consumer_queue consumer.old }
 {
@@ -56,7 +56,7 @@ fn assert_comes_out<R: Abort + Wait>(
     assert!(rt; next(rt, consumer) == 0);
 }
 
-// Of two places one is left free, and taken then.
+// Of two slots one is reserved, and used then.
 fn assert_places_stay<R: Abort + Wait>(
     rt: &R,
     producer: &mut Producer<u32>,
@@ -79,7 +79,7 @@ fn put_bytes<R: Abort + Wait>(
     producer.put_waiting(rt, Piece::Bytes(copy));
 }
 
-// A reader of the bytes 7, 8 and 9, of a piece of no bytes and of the mark 5.
+// A reader of the bytes 7, 8 and 9, of an empty chunk and of the sentinel 5.
 fn a_reader<R: Abort + Wait>(rt: &R, alloc: Global) -> PieceReader<u8> {
     let (mut producer, consumer) = open::<Piece<u8>>(alloc, 4).expect(rt, "memory");
     put_bytes(rt, alloc, &mut producer, &[7, 8, 9]);
@@ -88,7 +88,8 @@ fn a_reader<R: Abort + Wait>(rt: &R, alloc: Global) -> PieceReader<u8> {
     PieceReader::new(alloc, consumer)
 }
 
-// What a read into two bytes finds: bytes as decimal digits, a mark as 100 and its number, and nothing as 0.
+// The result of a read into two bytes: bytes as decimal digits, a sentinel as 100 plus its number, and
+// nothing as 0.
 fn found<R: Wait>(rt: &R, reader: &mut PieceReader<u8>) -> u32 {
     let mut buf = [0; 2];
     match reader.read(rt, &mut buf) {

@@ -4,8 +4,8 @@ use mrpc_base::{Came, Handed, Link};
 use std::sync::Wait;
 use std::thread;
 
-// What came of a talk: how many frames the link took, how many bytes came, these as decimal digits, and the last
-// answer.
+// The results of a talk: how many frames the link took, how many bytes were received, these as decimal
+// digits, and the last result.
 #[derive(Clone, Copy)]
 pub(crate) struct Talked {
     pub sent: u64,
@@ -14,7 +14,8 @@ pub(crate) struct Talked {
     pub last: Came,
 }
 
-// Hands over five frames, of no byte, of 1, of 1 and 2, and so on, finishes, and receives until nothing comes any more.
+// Sends five frames, of no byte, of 1, of 1 and 2, and so on, finishes, and receives until nothing more
+// arrives.
 pub(crate) fn talk<R: Wait, L: Link>(rt: &R, link: &mut L) -> Talked
     ensures same_link { (first : L) → L.since first link.old → L.since first link.new }
 {
@@ -28,12 +29,12 @@ pub(crate) fn talk<R: Wait, L: Link>(rt: &R, link: &mut L) -> Talked
     receive_all(rt, link, sent)
 }
 
-// A talk over a link that is then given up.
+// A talk over a link that is dropped after it.
 pub(crate) fn talk_away<R: Wait, L: Link + Drop>(rt: &R, mut link: L) -> Talked {
     talk(rt, &mut link)
 }
 
-// Receives byte by byte, so that frames are cut, until nothing comes any more.
+// Receives byte by byte, so that frames are split, until nothing more arrives.
 pub(crate) fn receive_all<R: Wait, L: Link>(rt: &R, link: &mut L, sent: u64) -> Talked
     ensures same_link { (first : L) → L.since first link.old → L.since first link.new }
 {
@@ -60,7 +61,7 @@ pub(crate) fn receive_all<R: Wait, L: Link>(rt: &R, link: &mut L, sent: u64) -> 
     unreachable!()
 }
 
-// The byte that a frame of one byte gives, or 0.
+// The byte that a frame of one byte has, or 0.
 pub(crate) fn one_byte<L: Link>(link: &mut L) -> u8 {
     let mut buf = [0; 2];
     if link.receive(&mut buf) == Came::Bytes(1) {

@@ -1,4 +1,4 @@
-//! A link over a queue, and the writer that passes its frames on.
+//! A link over a queue, and the writer that forwards its frames.
 
 ghost use Rattle.std.specs.Prelude.{◌≡◌};
 
@@ -12,7 +12,7 @@ use std::sync::Wait;
 use std::thread;
 use std::thread::Threads;
 
-// A link that finds no memory: in each send, and where it is so made, in each receive.
+// A link that is out of memory in each send, and with `in_receives` also in each receive.
 #[derive(Drop)]
 struct Wanting {
     in_receives: bool,
@@ -39,7 +39,7 @@ impl Link for Wanting {
 
     ghost itself = { λ _. refl };
 
-    // A refusal tells no more.
+    // A failure claims nothing more.
     ghost refused = { λ _ _ _. ⊤ };
 
     fn send(&mut self, _frame: &[u8]) -> Handed {
@@ -66,7 +66,7 @@ fn talk_and_close<R: Wait>(rt: &R, mut link: QueueLink<R>) -> (Passed, Talked)
     (link.close(), talked)
 }
 
-// What is left of a talk through a writer, besides the inner link.
+// The results of a talk through a writer, besides the inner link.
 #[derive(Clone, Copy)]
 pub(crate) struct Told {
     pub talked: Talked,
@@ -74,8 +74,8 @@ pub(crate) struct Told {
     pub memory: bool,
 }
 
-// A talk over an inner link through queues of one place, with the writer in a thread of its own. It gives the inner
-// link back.
+// A talk over an inner link through queues of one slot, with the writer in a thread of its own. Returns the
+// inner link.
 pub(crate) fn talk_over<R, L>(rt: &R, alloc: Global, inner: L) -> (L, Told)
 where
     R: Abort + Threads + Wait + Sync,
@@ -97,7 +97,7 @@ where
     (end.into_link(), told)
 }
 
-// A link that gives the bytes 7, 8 and 9, one at a time, and fails where it is listed.
+// A link that returns the bytes 7, 8 and 9, one at a time, and fails as listed.
 fn three_bytes(rt: &impl Abort, alloc: Global, sends: &[u64], receives: &[u64]) -> MemLink {
     MemLink::new(
         alloc,
@@ -108,7 +108,7 @@ fn three_bytes(rt: &impl Abort, alloc: Global, sends: &[u64], receives: &[u64]) 
     )
 }
 
-// The talk over a link of three bytes, with how many frames that link was handed.
+// The talk over a link of three bytes, with the number of frames that the link was handed.
 fn talk_in_memory<R: Abort + Threads + Wait + Sync>(
     rt: &R,
     alloc: Global,
@@ -152,7 +152,8 @@ fn memory_is_wanting(rt: HostRuntime) {
     }
 }
 
-// Sends a frame into a queue of one place, finishes the link twice and closes it, and only then runs the writer.
+// Sends a frame into a queue of one slot, finishes the link twice and closes it, and only then runs the
+// writer.
 fn written_late<R: Abort + Wait>(rt: &R, alloc: Global) -> WriterEnd<MemLink> {
     let inner = three_bytes(rt, alloc, &[], &[]);
     let (mut link, writer) = open(rt, alloc, 1, inner).expect(rt, "memory");
@@ -163,7 +164,7 @@ fn written_late<R: Abort + Wait>(rt: &R, alloc: Global) -> WriterEnd<MemLink> {
     writer.run()
 }
 
-// The same, but the link is neither finished nor closed, and dropped.
+// Like `written_late`, but the link is dropped, neither finished nor closed.
 fn written_for_nobody<R: Abort + Wait>(rt: &R, alloc: Global) -> WriterEnd<MemLink> {
     let inner = three_bytes(rt, alloc, &[], &[]);
     let (mut link, writer) = open(rt, alloc, 1, inner).expect(rt, "memory");

@@ -14,9 +14,9 @@ use worker_pool::{Visit, Visited, run};
 // What an item does.
 #[derive(Clone, Copy)]
 enum Way {
-    // It is over after so many visits, and one at least.
+    // It is finished after this number of visits, and at least one.
     Works(u64),
-    // It is never over, and sets the flag at its third visit.
+    // It is never finished, and sets the flag at its third visit.
     Stops,
     // It has nothing to do until another one has slept.
     Waits,
@@ -54,7 +54,7 @@ impl<'r, R: Abort> Common<'r, R> {
     }
 }
 
-// An item that draws a ticket at each visit, and counts those that weren't its turn among seven.
+// An item that draws a ticket at each visit, and counts the tickets that weren't its turn among seven.
 #[derive(Drop)]
 struct Item<'c, R> {
     common: &'c Common<'c, R>,
@@ -128,13 +128,13 @@ fn items<'c, R: Abort>(alloc: Global, common: &'c Common<'c, R>, ways: &[Way]) -
     items
 }
 
-// What came back of a run.
+// The results of a run.
 #[derive(Clone, Copy)]
 struct Found {
     stopped: bool,
-    // Whether all items came back by number.
+    // Whether all items were returned in order of their numbers.
     in_order: bool,
-    // Whether each that works was visited just so often.
+    // Whether each item that works was visited exactly as planned.
     planned: bool,
     strays: u64,
     // The greatest number of visits of an item.
@@ -168,7 +168,8 @@ impl Found {
     }
 }
 
-// Visits an item of each way by so many workers, under a flag that is set before or not. All come back by number.
+// Visits an item of each way by this number of workers, under a flag that is set before or not. All items are
+// returned by number.
 fn visits_of<R: Abort + Threads + Wait + Sync>(
     rt: &R,
     alloc: Global,
@@ -247,7 +248,7 @@ fn a_flag_that_is_set_lets_nothing_begin(rt: HostRuntime) {
     assert!(rt; found.most == 0);
 }
 
-// A worker that looks again at once makes a visit each microsecond or faster, some hundred thousand in this time.
+// A worker that doesn't sleep makes a visit each microsecond or faster, some hundred thousand in this time.
 const FEW: u64 = 5000;
 
 #[test]

@@ -1,4 +1,4 @@
-//! A link over a socket whose answers are listed.
+//! A link over a socket with listed results.
 
 use crate::discard;
 use crate::tcp::listed_socket::ListedSocket;
@@ -9,7 +9,7 @@ use std::sync::Wait;
 use std::time::Clock;
 use tcp_fabric::{SocketLink, Wrote};
 
-// A link whose socket has bytes to give and answers as listed.
+// A link whose socket has these bytes and answers as listed.
 fn link<'r, R: Abort>(
     rt: &'r R,
     alloc: Global,
@@ -34,7 +34,7 @@ const IDLE: u32 = 2000;
 
 const FAILED: u32 = 3000;
 
-// The bytes that come next, two at most, as decimal digits; or what is answered in their place.
+// The next bytes, at most two, as decimal digits; or the result in their place.
 fn next<R: Wait + Clock>(link: &mut SocketLink<R, ListedSocket>) -> u32 {
     let mut buf = [0; 2];
     match link.receive(&mut buf) {
@@ -57,26 +57,26 @@ fn taken<R>(link: &SocketLink<R, ListedSocket>) -> u32 {
     digits
 }
 
-// What is done with a link, and what comes of it.
+// An operation on a link, and its expected result.
 #[derive(Clone, Copy)]
 enum Step<'a> {
-    // The frame is sent.
+    // The send of a frame succeeds.
     Sends(&'a [u8]),
     // It fails.
     Fails(&'a [u8]),
-    // This comes next.
+    // The next receive has this result.
     Gives(u32),
     // The link is finished.
     Finish,
     // The socket took these bytes so far.
     Taken(u32),
-    // So many calls failed so far.
+    // This number of calls failed so far.
     Faults(u64),
-    // The socket was told that no more bytes go out.
+    // The socket was notified that no more bytes go out.
     Finished,
 }
 
-// Whether a step comes to what it says.
+// Whether a step has its expected result.
 fn holds<R: Wait + Clock>(link: &mut SocketLink<R, ListedSocket>, step: Step) -> bool {
     match step {
         Step::Sends(frame) => sends(link, frame),
@@ -92,7 +92,7 @@ fn holds<R: Wait + Clock>(link: &mut SocketLink<R, ListedSocket>, step: Step) ->
     }
 }
 
-// A link whose socket has bytes to give and answers as listed goes through these steps.
+// A link whose socket has these bytes and answers as listed goes through these steps.
 fn assert_steps<R: Abort + Wait + Clock>(
     rt: &R,
     alloc: Global,
@@ -186,7 +186,7 @@ fn a_frame_that_fails_midway_cuts_the_link(rt: HostRuntime) {
             Step::Finished,
             Step::Fails(&[4]),
             Step::Taken(12),
-            // After a reset the socket would answer that the other side has finished.
+            // After a reset the socket would report that the other side has finished.
             Step::Gives(FAILED),
             Step::Faults(3),
         ],

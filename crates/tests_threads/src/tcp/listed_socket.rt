@@ -1,4 +1,4 @@
-//! A socket in memory whose answers are listed.
+//! A socket in memory with listed results.
 
 ghost use Rattle.std.specs.Prelude.{◌≡◌, ◌≢◌, ◌<◌, ◌≤◌, ◌++◌, [], length, take};
 ghost use Rattle.mrpc_base.specs.Linking.{OnCame, OnNoneCame};
@@ -8,8 +8,9 @@ use mrpc_base::Came;
 use std::alloc::Global;
 use tcp_fabric::{Socket, Wrote};
 
-// The k-th write answers the k-th of `writes`, and takes no more bytes than that says; one past the list takes all.
-// Likewise the k-th read; one past the list gives all that fits, and finds the end where nothing is left.
+// The k-th write answers the k-th entry of `writes`, and takes no more bytes than that allows; a write past
+// the end of the list takes all. Likewise the k-th read; a read past the end of the list returns as much as
+// fits, and the end of the stream if nothing is left.
 #[derive(Drop)]
 pub(crate) struct ListedSocket {
     pub taken: Vec<u8>,
@@ -44,7 +45,7 @@ impl ListedSocket {
         }
     }
 
-    // Gives the next bytes, at most so many.
+    // Returns the next bytes, at most this many.
     fn give(&mut self, buf: &mut [u8], most: usize) -> Came
         requires room { 0 < length buf.old }
         ensures count { OnCame result (λ n. (0 < n) × (n ≤ length buf.old)) }
@@ -67,7 +68,7 @@ impl ListedSocket {
         Came::Bytes(count)
     }
 
-    // Takes the piece's start.
+    // Takes the first bytes of `piece`.
     fn take(&mut self, piece: &[u8], count: usize) -> Wrote
         requires within { count ≤ length piece.now }
         requires some { 0 < count }

@@ -1,4 +1,4 @@
-//! Links over TCP, and a link over a socket whose answers are listed.
+//! Links over TCP, and a link over a socket with listed results.
 
 mod listed;
 mod listed_socket;

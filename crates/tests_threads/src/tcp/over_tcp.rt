@@ -1,4 +1,4 @@
-//! Over the system's TCP.
+//! Links over the system's TCP.
 
 use crate::discard;
 use mrpc_base::{Came, Fabric, Handed, Link, OpenFault};
@@ -19,7 +19,8 @@ const FRAME: usize = 262_160;
 
 const FRAMES: usize = 32;
 
-// Sends frames without receiving, finishes, and counts what comes up to the end, or answers 0 where a call failed.
+// Sends frames without receiving, finishes, and counts the bytes up to the end, or returns 0 if a call
+// failed.
 fn talk<R: Wait, L: Link + Drop>(rt: &R, mut link: L, frame: &[u8]) -> u64 {
     for _ in 0..FRAMES {
         if link.send(frame) != Handed::Done {
@@ -60,14 +61,14 @@ where
     )
 }
 
-// Connections over 127.0.0.1, and what is noted of them.
+// Connections over 127.0.0.1, and the failure that is noted of them.
 fn loopback<'r, R: Abort, N>(rt: &R, alloc: Global, net: &'r N) -> (Loopback<'r, N>, SystemFault) {
     let fault = SystemFault::new(alloc).expect(rt, "memory");
     let noting = fault.try_clone().expect(rt, "memory");
     (Loopback::new(net, noting), fault)
 }
 
-// The system's words of what was noted; empty where nothing was.
+// The system's words for the noted failure; empty if none was noted.
 fn words<R: Abort>(rt: &R, alloc: Global, fault: &SystemFault) -> String {
     match fault.first() {
         Some(error) => format!(in alloc; "{error}").expect(rt, "memory"),
@@ -98,11 +99,11 @@ fn a_peer_that_is_reset_is_a_failure(rt: HostRuntime) {
     } = network.open().expect(&rt, "a connection");
     let link = SocketLink::new(&rt, rt.alloc(), first, first_port, second_port);
     assert_reset(&rt, link, second);
-    // What the last send failed with isn't the first.
+    // The failure of the last send isn't the first.
     assert!(rt; words(&rt, rt.alloc(), &fault).as_str() == RESET);
 }
 
-// Bytes that the peer never reads make its closing a reset.
+// Bytes that the peer never reads turn its close into a reset.
 fn assert_reset<R: Abort, L: Link + Drop, P: Drop>(rt: &R, mut link: L, peer: P) {
     assert!(rt; link.send(b"half a frame") == Handed::Done);
     discard(peer);
@@ -114,7 +115,7 @@ fn sends<L: Link + Drop>(mut link: L, frame: &[u8]) -> Handed {
     link.send(frame)
 }
 
-// Reads a byte, and is gone. The bytes behind it make that a reset.
+// Reads a byte, and closes. The bytes after it turn that into a reset.
 fn reads_a_byte<R: Wait, S: Socket + Drop>(rt: &R, mut socket: S) -> bool {
     let mut buf = [0; 1];
     for _ in rt.forever() {
@@ -127,7 +128,7 @@ fn reads_a_byte<R: Wait, S: Socket + Drop>(rt: &R, mut socket: S) -> bool {
     unreachable!()
 }
 
-// A frame that fills both sockets, of which the peer reads a byte: how its sending ends.
+// A frame that fills both sockets, of which the peer reads a byte: how its send ends.
 fn sends_to_a_reset<R>(rt: &R, alloc: Global, ends: Ends<SystemSocket>) -> Handed
 where
     R: Abort + Threads + Wait + Clock + Sync,

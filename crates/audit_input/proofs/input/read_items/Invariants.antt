@@ -1,4 +1,4 @@
--- The items so far, and what is declared with them.
+-- The declarations so far.
 use Rattle.std.proofs.Common.{length}
 use Rattle.policy_blocks.specs.Declarations.{nothing}
 use Rattle.audit_input.specs.Inputs.{Reads}

@@ -1,4 +1,4 @@
--- the engines so far let the call pass, and nothing has happened
+-- the engines so far let the call pass, and there was no event
 use Rattle.std.proofs.Common.{◌≡◌, ℕ, map, slice_get}
 use Rattle.std.specs.Prelude.{All, Some}
 use Rattle.mrpc_table.specs.Calls.{IsCallOf}

@@ -1,4 +1,4 @@
--- calls before `low` have smaller numbers, and those from `high` on have no smaller ones
+-- calls before `low` have smaller numbers, and calls from `high` on don't
 use Rattle.std.proofs.Common.{ℕ, ◌-◌, ◌<◌, ◌≤◌, get_or, length}
 use Rattle.engine_core.specs.Marks.{seqs_of}
 use Rattle.audit_rules.proofs.ask.search_call.Given as goal

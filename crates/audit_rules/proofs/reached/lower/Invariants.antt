@@ -1,4 +1,4 @@
--- the numbers so far are lowered, and the others as they were
+-- the numbers so far are lowered, and the others are unchanged
 use Rattle.std.proofs.Common.{◌≡◌, length, map, take, drop, min}
 use Rattle.std.specs.VecDeque.{deque_capacity}
 use Rattle.audit_rules.proofs.reached.lower.Given as goal

@@ -1,4 +1,4 @@
--- The digits of the bytes in the row, and then what is left.
+-- The digits of the bytes in the row, and then the remainder.
 use Rattle.std.proofs.Common.{◌≡◌, ◌+◌, ◌*◌, ◌≤◌, ◌++◌, length, take}
 use Rattle.hex.specs.Hex.{IsBytes, encode_lower}
 use Rattle.audit_text.proofs.hexadecimal.read_digits.Given as goal

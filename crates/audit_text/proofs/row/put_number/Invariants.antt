@@ -1,4 +1,4 @@
--- The digits that are left, and how many are written.
+-- The remaining digits, and those that are written.
 use Rattle.std.proofs.Common.{◌≡◌, ◌+◌, ◌≤◌, ◌++◌, drop, length}
 use Rattle.std.specs.Fmt.{decimal}
 use Rattle.audit_text.proofs.row.put_number.Given as goal

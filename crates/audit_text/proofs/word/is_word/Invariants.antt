@@ -1,4 +1,4 @@
--- What is left of the word and of the expected one answers as the whole does.
+-- The words are equal exactly if their remainders are.
 use Rattle.std.proofs.Common.{◌≡◌, ◌-◌, drop, length}
 use Rattle.std.specs.Str.{bytes_eq}
 use Rattle.audit_text.proofs.word.is_word.Given as goal

@@ -1,4 +1,4 @@
--- the engines so far were shown the moment, and the others are as they were
+-- the engines so far have the timestamp, and the others are unchanged
 use Rattle.std.proofs.Common.{◌≡◌, take, drop, map}
 use Rattle.engine_core.specs.Engines.{clocked}
 use Rattle.engine_core.proofs.engines.clock_all.Given as goal

@@ -1,4 +1,4 @@
--- The paths so far are right.
+-- The paths so far are valid.
 use Rattle.std.proofs.Common.{take}
 use Rattle.file_bundle.specs.Packed.{files_of}
 use Rattle.file_bundle.specs.Paths.{HaveRightPaths}

@@ -1,4 +1,4 @@
--- The files so far stand in front of the rest.
+-- The input is the files so far followed by the remainder.
 use Rattle.std.proofs.Common.{length}
 use Rattle.file_bundle.specs.Packed.{files_of}
 use Rattle.file_bundle.proofs.Reading.{StandInFront}

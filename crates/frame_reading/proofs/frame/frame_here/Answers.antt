@@ -14,11 +14,11 @@ use Rattle.frame_reading.specs.declared.fault.ReadFault.TheVariants.{Memory as N
 use Rattle.frame_reading.proofs.OnFaults.{on_fault}
 use Rattle.frame_reading.proofs.frame.frame_here.Goals as goal
 
--- what stands in the rest of a stream stands behind its front
+-- a frame in the remainder of a stream is in the stream, after the prefix
 frame_behind : (stream : List ℕ) (from : ℕ) (f : Frame) → StandsAt from (between from (length stream) stream) f → StandsAt from (drop from stream) f
 frame_behind stream from f h = subst (λ (bs : List ℕ). StandsAt from bs f) (between_to_end stream from (length stream) (omega arith)) h
 
--- there is a byte
+-- the remainder has a byte
 some_left : (from : ℕ) (stream : List ℕ) → from < length stream → drop from stream ≢ []
 some_left from stream h none = omega (arith, h, length-drop from stream, ap length none)
 
@@ -42,7 +42,7 @@ returns-in-Err-clause-fault c =
     subst (λ (bs : List ℕ). HasNoFrame from bs (Some fault)) (between_to_end stream from (length stream) (omega arith)) c.in-Err.ensures.fault in
     on_fault (IsFaultOfHeader fault) (IsFaultOfFront from (drop from stream)) _ (λ place word is. in_header fault none is) c.fault_of.ensures.is
 
--- the fault of a header is no lack of memory
+-- the fault of a header is not `Memory`
 fault_is_of_header : (place : ℕ) (bytes : List ℕ) (fault : FeedFault) → IsFaultAt place bytes fault → fault ≢ NoMemory
 fault_is_of_header place bytes fault (long some much is) none = cc
 fault_is_of_header place bytes fault (no_kind some short none is) memory = cc

@@ -4,7 +4,7 @@ use Rattle.std.specs.Fmt.{decimal}
 use Rattle.mrpc_table.specs.Text.{line}
 use Rattle.frame_view.proofs.heads.put_hello.Goals as goal
 
--- the parts of the line, one behind another
+-- the parts of the line, in order
 line_of_parts : (out size a b c d e : List ℕ) (sent conn : ℕ) → sent ≡ conn → a ≡ out ++ codes "# hello conn"
     → b ≡ a ++ 32 ∷ decimal sent → c ≡ b ++ codes " bytes" → d ≡ c ++ 32 ∷ size → e ≡ d ++ codes "\n"
     → e ≡ out ++ line (codes "#" ∷ codes "hello" ∷ codes "conn" ∷ decimal conn ∷ codes "bytes" ∷ size ∷ [])

@@ -3,7 +3,7 @@ use Rattle.mrpc_table.specs.declared.table.Table.{Table}
 use Rattle.frame_view.specs.Walks.{Shows}
 use Rattle.frame_view.proofs.views.view_piece.Given as goal
 
--- the frames in front of a place were appended
+-- the views of the frames before an offset were appended
 pub record Shown (T : Table) (stream : List ℕ) (from place : ℕ) (old new : List ℕ) : Type 0 where
   pub text : List ℕ
   pub appended : new ≡ old ++ text

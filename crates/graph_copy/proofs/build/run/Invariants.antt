@@ -2,7 +2,7 @@ use Rattle.std.proofs.Common.{◌≡◌, ◌≢◌, ◌+◌, length}
 use Rattle.graph_copy.proofs.Running.{RunsOn}
 use Rattle.graph_copy.proofs.build.run.Given as goal
 
--- so many bytes are left of the run
+-- the remaining bytes of the run
 abbrev pub invariant-loop-left : goal.invariant-loop-left
 invariant-loop-left l = record {
   on : RunsOn l.initial.tape.loads.now l.bytes l.left l.tape.loads.now l.run.items;

@@ -4,7 +4,7 @@ use Rattle.graph_form.specs.Loading.{LeadsTo}
 use Rattle.graph_copy.specs.Expects.{expected, AllFit}
 use Rattle.graph_copy.proofs.take.take_words.Given as goal
 
--- the loads so far lead to what is expected now
+-- the loads so far lead to the words expected now
 abbrev pub invariant-loop-next : goal.invariant-loop-next
 invariant-loop-next g l = record {
   leads : LeadsTo l.table l.fn.walk.size (expected l.table l.fn.walk) l.loads.items (expected l.table l.walk);

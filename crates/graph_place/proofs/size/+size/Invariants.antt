@@ -6,7 +6,7 @@ use Rattle.mrpc_table.specs.Capped.{capped}
 use Rattle.graph_place.specs.Size.{tree_words, fields_words, many_words, pairs_words}
 use Rattle.graph_place.proofs.size.+size.Given as goal
 
--- with the words of the parts that are left, these are all
+-- with the words of the remaining parts, these are all
 abbrev pub invariant-node_words-loop-field : goal.invariant-node_words-loop-field
 invariant-node_words-loop-field l =
     (l.total < 2 ^ 64)

@@ -41,7 +41,7 @@ put_fields-returns t c =
     ap node_of (take_all c.loop-part.part-index c.deref-part-items.result.now c.loop-part-test.false ∙ c.deref-part-items.ensures.value) ∙ c.tree.view_is in
     (before.text, subst (λ t. ShowsFields c.args.table.now c.args.fields.now c.args.deep t before.text) all before.holds, before.behind)
 
--- ---- what a field has
+-- ---- the content of a field
 
 pub put_content-returns-in-One : goal.put_content-returns-in-One
 put_content-returns-in-One t c = rw c.in-One.is c.put_item.ensures

@@ -2,7 +2,7 @@ use Rattle.std.proofs.Common.{◌≡◌, ◌≤◌, ◌-◌, ℕ, List, Option, 
 use Rattle.std.specs.Io.KnownBytes.{Appends}
 use Rattle.mrpc_base.proofs.writing.write_all.Given as goal
 
--- so many of the bytes were written
+-- this many of the bytes were written
 pub record IsWritten {K : Type 0} (written : K → Option (List ℕ)) (faults : K → ℕ) (old new : K) (bytes : List ℕ) (done : ℕ) : Type 0 where
   pub within : done ≤ length bytes
   pub front : Appends (written old) (written new) (take done bytes)

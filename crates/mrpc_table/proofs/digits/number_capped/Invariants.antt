@@ -1,4 +1,4 @@
--- The value of the digits so far, if it is no larger.
+-- The value of the digits so far, unless it exceeds the cap.
 use Rattle.std.proofs.Common.{◌≡◌, ◌≤◌, ◌<◌, ◌^◌, min, take}
 use Rattle.std.specs.Str.Parse.{digits_value}
 use Rattle.mrpc_table.proofs.digits.number_capped.Given as goal

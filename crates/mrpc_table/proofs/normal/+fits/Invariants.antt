@@ -1,4 +1,4 @@
--- All fit where those from the next one on do.
+-- All parts fit if those from the next one on do.
 use Rattle.std.proofs.Common.{◌≡◌, ◌↔◌, ◌+◌, ◌*◌, length, drop}
 use Rattle.mrpc_table.specs.View.{items_of, pairs_of, node_of}
 use Rattle.mrpc_table.specs.Fits.{ItemsFit, PairsFit, RestFits}

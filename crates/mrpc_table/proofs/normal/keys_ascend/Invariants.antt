@@ -1,4 +1,4 @@
--- All keys ascend where those from the last one that was compared do.
+-- All keys ascend if those from the last compared one on do.
 use Rattle.std.proofs.Common.{◌↔◌, ◌-◌, drop}
 use Rattle.mrpc_table.specs.Normal.{KeysAscend}
 use Rattle.mrpc_table.specs.View.{pairs_of}

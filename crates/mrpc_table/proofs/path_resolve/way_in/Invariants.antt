@@ -1,4 +1,4 @@
--- What was walked stands in front of the rest of the way.
+-- The numbers so far precede those of the remaining path.
 use Rattle.std.proofs.Common.{◌≡◌, drop}
 use Rattle.std.specs.Prelude.{option_map}
 use Rattle.mrpc_table.specs.PathFields.{way_in}

@@ -1,4 +1,4 @@
--- What was copied so far stands for what it was copied from.
+-- The copy so far equals the part that it was copied from.
 use Rattle.std.proofs.Common.{◌≡◌, take}
 use Rattle.mrpc_table.specs.View.{items_of, pairs_of, node_of}
 use Rattle.mrpc_table.proofs.tree.+copied.Given as goal

@@ -1,4 +1,4 @@
--- No separator stands before the index.
+-- No separator occurs before the index.
 use Rattle.std.proofs.Common.{◌≡◌, ℕ, ◌<◌, ◌==◌, false, get_or}
 use Rattle.mrpc_table.proofs.words.cut.Given as goal
 

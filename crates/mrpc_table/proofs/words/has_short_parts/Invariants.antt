@@ -1,4 +1,4 @@
--- All parts pass where those of the rest do.
+-- All parts pass if those of the remainder do.
 use Rattle.std.proofs.Common.{◌≡◌, ◌==◌, length}
 use Rattle.std.specs.List.{list_all, slice_split}
 use Rattle.mrpc_table.specs.Names.{is_short}

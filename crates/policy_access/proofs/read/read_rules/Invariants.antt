@@ -1,4 +1,4 @@
--- The lines so far say the rules so far, and none is at fault.
+-- The lines so far are the rules so far, and none is at fault.
 use Rattle.policy_access.specs.Names.{Holds}
 use Rattle.policy_access.specs.Reading.{AreRead, names_in}
 use Rattle.policy_access.proofs.read.read_rules.Given as goal

@@ -1,4 +1,4 @@
--- The line is as many lines further as were passed.
+-- The line number grows by one per line.
 use Rattle.std.proofs.Common.{◌≡◌, ◌≤◌, ◌+◌, length}
 use Rattle.policy_blocks.specs.Blocks.{line_at}
 use Rattle.policy_blocks.specs.Reading.{inner_lines}

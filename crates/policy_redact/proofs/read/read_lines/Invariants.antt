@@ -1,4 +1,4 @@
--- The lines so far say the clears so far, and none is at fault.
+-- The lines so far are the clears so far, and none is at fault.
 use Rattle.policy_redact.specs.Reading.{AreRead}
 use Rattle.policy_redact.proofs.read.read_lines.Given as goal
 

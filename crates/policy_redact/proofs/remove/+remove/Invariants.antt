@@ -1,4 +1,4 @@
--- The way gets shorter at each step into a message.
+-- The way gets shorter with each message that it enters.
 use Rattle.std.proofs.Common.{length, ◌+◌, ◌*◌}
 use Rattle.policy_redact.proofs.remove.+remove.Given as goal
 

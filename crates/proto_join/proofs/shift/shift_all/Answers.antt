@@ -1,4 +1,4 @@
--- the item at hand is as it was, and is moved
+-- the current item was unchanged, and is shifted now
 use Rattle.std.proofs.Common.{◌-◌, ◌^◌, arith}
 use Rattle.proto_join.proofs.Moves.{All-there, moved_more, others_more}
 use Rattle.proto_join.proofs.shift.shift_all.Goals as goal

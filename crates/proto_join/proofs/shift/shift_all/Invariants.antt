@@ -1,4 +1,4 @@
--- the items so far are moved, and the others are as they were
+-- the items so far are shifted, and the others are unchanged
 use Rattle.std.proofs.Common.{◌≡◌, take, drop, map}
 use Rattle.proto_join.proofs.shift.shift_all.Given as goal
 

@@ -1,4 +1,4 @@
--- what is left of the place is what it has past the texts so far
+-- the remaining offset is the given one minus the sizes of the texts so far
 use Rattle.std.proofs.Common.{◌≡◌, ◌+◌, sum, take}
 use Rattle.proto_join.proofs.text.file_at.Given as goal
 

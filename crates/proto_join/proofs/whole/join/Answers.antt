@@ -1,4 +1,4 @@
--- The file at hand is the next of the parts: what stands before it fits, it can stand there, and is joined.
+-- The current file is the next part: what precedes it fits, it can be placed there, and it is joined.
 use Rattle.std.proofs.Common.{◌∙◌, ap, sym, refl, length, rules, arith}
 use Rattle.std.proofs.lemmas.Iterator.Consumers.{YieldsList-turn, YieldsList-so_far}
 use Rattle.std.proofs.lemmas.Iterator.Adapters.{YieldsList-from_vec}

@@ -4,7 +4,7 @@ use Rattle.proto_schema.specs.Running.{depth, draft_of}
 use Rattle.proto_schema.proofs.Next.{Goes}
 use Rattle.proto_schema.proofs.read.read_statements.Given as goal
 
--- the next token is asked for behind the last one, and what comes of the tokens behind it comes of the text
+-- the next token is read after the last one, and the result of the tokens after it is that of the text
 abbrev pub invariant-tokens : goal.invariant-tokens
 invariant-tokens l = record {
   within : l.last.end ≤ length l.text;

@@ -1,4 +1,4 @@
--- No `*/` stands from the first place up to this one.
+-- There is no `*/` from the first offset up to this one.
 use Rattle.std.proofs.Common.{◌≡◌, ◌≤◌, ◌-◌, ℕ, List, length, drop}
 use Rattle.proto_tokens.specs.Scanning.{walk, block}
 use Rattle.proto_tokens.proofs.gap.block_end.Given as goal

@@ -1,4 +1,4 @@
--- Blanks and comments stand from the first place up to this one.
+-- All bytes from the first offset up to this one are blanks and comments.
 use Rattle.std.proofs.Common.{◌≡◌, ◌≤◌, ◌-◌, length, drop}
 use Rattle.proto_tokens.specs.Scanning.{walk, between}
 use Rattle.proto_tokens.proofs.gap.gap_end.Given as goal

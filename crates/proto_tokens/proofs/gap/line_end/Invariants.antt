@@ -1,4 +1,4 @@
--- No line feed stands from the first place up to this one.
+-- There is no line feed from the first offset up to this one.
 use Rattle.std.proofs.Common.{◌≡◌, ◌≤◌, ◌-◌, length, drop}
 use Rattle.proto_tokens.specs.Scanning.{walk, line}
 use Rattle.proto_tokens.proofs.gap.line_end.Given as goal

@@ -1,4 +1,4 @@
--- What the bytes so far stand for, and then what the others do.
+-- The value is the value of the bytes so far followed by that of the remaining bytes.
 use Rattle.std.proofs.Common.{◌≤◌, ◌-◌, length}
 use Rattle.proto_tokens.proofs.Escapes.{GoesOn}
 use Rattle.proto_tokens.proofs.string.string_value.Given as goal

@@ -1,4 +1,4 @@
--- No quote stands from the front up to this place.
+-- There is no closing quote up to this offset.
 use Rattle.std.proofs.Common.{◌≡◌, ◌≤◌, ◌-◌, ◌+◌, length, drop}
 use Rattle.std.specs.Prelude.{option_map}
 use Rattle.proto_tokens.specs.Scanning.{closes}

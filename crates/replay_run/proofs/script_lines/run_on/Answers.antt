@@ -28,7 +28,7 @@ returns-in-Race-clause-ran g c =
 pub returns-in-Race-clause-cause : goal.returns-in-Race-clause-cause
 returns-in-Race-clause-cause g c = cause-none _ _ (no-wire c.race.result c.race.ensures.memory) refl
 
--- ---- what changes a connection
+-- ---- changes of a connection
 
 pub returns-in-Submit-clause-ran : goal.returns-in-Submit-clause-ran
 returns-in-Submit-clause-ran g c =
@@ -75,7 +75,7 @@ returns-in-Moment-clause-ran g c =
 pub returns-in-Moment-clause-cause : goal.returns-in-Moment-clause-cause
 returns-in-Moment-clause-cause g c = cause-none _ _ (no-wire c.show.result c.show.ensures.memory) refl
 
--- ---- turns, sendings, drains
+-- ---- turns, sends, drains
 
 pub returns-in-Turn-clause-ran : goal.returns-in-Turn-clause-ran
 returns-in-Turn-clause-ran g c =

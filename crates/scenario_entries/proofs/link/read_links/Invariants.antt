@@ -1,4 +1,4 @@
--- The entries so far are links, against which nothing stands.
+-- The entries so far are links without faults.
 use Rattle.std.proofs.Common.{◌≡◌, take}
 use Rattle.toml.specs.Data.{Members}
 use Rattle.scenario_lines.specs.Programs.{Each}

@@ -1,4 +1,4 @@
--- A name is lacked exactly where the words that are left lack one, or one was found before.
+-- A name is lacking exactly if the remaining words lack one, or one was found before.
 use Rattle.std.proofs.Common.{◌≡◌, false, drop}
 use Rattle.mrpc_table.specs.Lines.{words_of}
 use Rattle.script_words.specs.Rests.{words_in}

@@ -1,4 +1,4 @@
--- The policies that the names so far have are marked.
+-- The policies with the names so far are marked.
 use Rattle.std.proofs.Common.{map, take}
 use Rattle.scenario_policies.specs.Marking.{AreMarked}
 use Rattle.scenario_policies.proofs.own.marks_of.Given as goal

@@ -1,4 +1,4 @@
--- The policies that are marked so far are read, or this is the first reason against them.
+-- The policies marked so far are read, or this is the first reason of their faults.
 use Rattle.std.proofs.Common.{List, take}
 use Rattle.mrpc_table.specs.declared.table.Table.{Table}
 use Rattle.toml.specs.Data.{Members}

@@ -1,4 +1,4 @@
--- The entries so far are policies, against which nothing stands.
+-- The entries so far are policies without faults.
 use Rattle.std.proofs.Common.{◌≡◌, List, [], take}
 use Rattle.toml.specs.Data.{Members}
 use Rattle.scenario_lines.specs.Programs.{Each}

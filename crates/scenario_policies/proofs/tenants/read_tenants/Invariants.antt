@@ -1,4 +1,4 @@
--- The entries so far are tenants, against which nothing stands.
+-- The entries so far are tenants without faults.
 use Rattle.std.proofs.Common.{◌≡◌, [], take}
 use Rattle.scenario_lines.specs.Programs.{Each}
 use Rattle.scenario_entries.specs.Entries.{AreFree, views}

@@ -1,4 +1,4 @@
--- The entries so far are applications, against which nothing stands.
+-- The entries so far are applications without faults.
 use Rattle.std.proofs.Common.{◌≡◌, All, length, map, sum, take}
 use Rattle.mrpc_table.specs.declared.table.Table.{Table}
 use Rattle.toml.specs.Data.{Members}

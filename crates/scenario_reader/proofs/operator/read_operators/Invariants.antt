@@ -1,4 +1,4 @@
--- The entries so far are operators, against which nothing stands.
+-- The entries so far are operators without faults.
 use Rattle.std.proofs.Common.{◌≡◌, take}
 use Rattle.mrpc_table.specs.Valid.{AreDistinct}
 use Rattle.mrpc_table.specs.declared.table.Table.{Table}

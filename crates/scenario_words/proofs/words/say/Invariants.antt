@@ -1,4 +1,4 @@
--- What was said before stays.
+-- Earlier words stay.
 use Rattle.findings.specs.Said.{SaysOn}
 use Rattle.scenario_words.proofs.words.say.Given as goal
 

@@ -2,7 +2,7 @@ use Rattle.std.proofs.Common.{◌≡◌, ◌+◌, ◌≤◌, length}
 use Rattle.std.specs.Fmt.{decimal}
 use Rattle.schema_offences.proofs.lines.digits.Given as goal
 
--- the digits that were counted and those that are left are those of the number
+-- the number's digits are those counted and those of the remaining number
 abbrev pub invariant-loop-rest : goal.invariant-loop-rest
 invariant-loop-rest l = (l.rest ≤ l.number) × (l.count + length (decimal l.rest) ≡ length (decimal l.number) + 1)
 

@@ -11,7 +11,7 @@ use Rattle.schema_offences.specs.declared.reason.ResolveReason.TheVariants.{Limi
 use Rattle.schema_offences.proofs.Meetings.{meets_when, meets_next, meets_elements}
 use Rattle.schema_offences.proofs.lines.note_lines.Goals as goal
 
--- a sum that is cut off passes the limit where the sum does
+-- a capped sum exceeds the limit only if the sum does
 is_past : (n m : ℕ) → n ≡ capped m → ltb MAX_TEXT n ≡ true → MAX_TEXT < m
 is_past n m e t = omega (arith, ltb-true MAX_TEXT n t)
 

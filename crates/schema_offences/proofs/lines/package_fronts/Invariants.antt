@@ -5,7 +5,7 @@ use Rattle.mrpc_table.specs.Capped.{capped}
 use Rattle.schema_offences.specs.Lengths.{front_length}
 use Rattle.schema_offences.proofs.lines.package_fronts.Given as goal
 
--- the lengths up to here are kept
+-- the lengths so far are stored
 abbrev pub invariant-loop-head : goal.invariant-loop-head
 invariant-loop-head l =
     l.fronts.items

@@ -5,7 +5,7 @@ use Rattle.schema_offences.specs.Members.{TypeOffends}
 use Rattle.schema_offences.specs.Meeting.{Meets, OfFirst, OfElement}
 use Rattle.schema_offences.proofs.messages.note_all_types.Given as goal
 
--- what stands against the elements up to here was met
+-- the violations of the elements so far are recorded
 abbrev pub invariant-loop-i : goal.invariant-loop-i
 invariant-loop-i l = (scope : List (List ℕ)) → IsScope l.scopes (home.Message l.message) scope
     → Meets (OfFirst l.i (OfElement l.fields (λ i. TypeOffends l.scopes l.file scope))) l.initial.first l.first

@@ -3,7 +3,7 @@ use Rattle.schema_offences.specs.Members.{NameOffends}
 use Rattle.schema_offences.specs.Meeting.{Meets, OfFirst, OfElement}
 use Rattle.schema_offences.proofs.messages.note_names.Given as goal
 
--- what stands against the elements up to here was met
+-- the violations of the elements so far are recorded
 abbrev pub invariant-loop-i : goal.invariant-loop-i
 invariant-loop-i l =
     Meets (OfFirst l.i (OfElement l.fn.message.fields (λ i f. NameOffends l.fn.message.names MAX_FIELDS i f.name)))

@@ -3,7 +3,7 @@ use Rattle.schema_offences.specs.Meeting.{Meets, OfFirst}
 use Rattle.schema_offences.proofs.Numbering.{HaveMet}
 use Rattle.schema_offences.proofs.messages.note_numbers.Given as goal
 
--- what stands against the numbers up to here was met, and their places
+-- the violations of the numbers so far are recorded, and their positions were seen
 abbrev pub invariant-loop-i : goal.invariant-loop-i
 invariant-loop-i l = record {
   meets : Meets (OfFirst l.i (NumberOffends l.message)) l.initial.first l.first;

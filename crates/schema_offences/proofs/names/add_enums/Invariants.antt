@@ -2,7 +2,7 @@ use Rattle.proto_file.specs.Joined.{enum_home_of}
 use Rattle.schema_offences.specs.Entries.{HaveNumbers, OfEnum, EntryOfFirst, Adds, entries_of}
 use Rattle.schema_offences.proofs.names.add_enums.Given as goal
 
--- the enums up to here were added, and have numbers
+-- the enums so far are added, and have numbers
 abbrev pub invariant-loop-i : goal.invariant-loop-i
 invariant-loop-i l = record {
   numbers : HaveNumbers l.fn.files l.i l.fn.files.enums enum_home_of;

@@ -3,7 +3,7 @@ use Rattle.proto_file.specs.declared.file.FieldDecl.{FieldDecl}
 use Rattle.schema_offences.specs.Entries.{entry, entries_of}
 use Rattle.schema_offences.proofs.names.add_fields.Given as goal
 
--- the names up to here were added
+-- the names so far are added
 abbrev pub invariant-loop-field : goal.invariant-loop-field
 invariant-loop-field l =
     entries_of l.names.items

@@ -2,7 +2,7 @@ use Rattle.proto_file.specs.Joined.{home_of}
 use Rattle.schema_offences.specs.Entries.{HaveNumbers, HaveOwnNumbers, OfMessage, EntryOfFirst, Adds, entries_of}
 use Rattle.schema_offences.proofs.names.add_messages.Given as goal
 
--- the messages up to here were added, and have numbers
+-- the messages so far are added, and have numbers
 abbrev pub invariant-loop-i : goal.invariant-loop-i
 invariant-loop-i l = record {
   outer : HaveNumbers l.fn.files l.i l.fn.files.messages home_of;

@@ -2,7 +2,7 @@ use Rattle.std.proofs.Common.{◌≡◌, ◌++◌, map, take}
 use Rattle.schema_offences.specs.Entries.{entry, entries_of}
 use Rattle.schema_offences.proofs.names.add_oneofs.Given as goal
 
--- the names up to here were added
+-- the names so far are added
 abbrev pub invariant-loop-oneof : goal.invariant-loop-oneof
 invariant-loop-oneof l =
     entries_of l.names.items

@@ -3,7 +3,7 @@ use Rattle.proto_file.specs.declared.file.RpcDecl.{RpcDecl}
 use Rattle.schema_offences.specs.Entries.{entry, entries_of}
 use Rattle.schema_offences.proofs.names.add_rpcs.Given as goal
 
--- the names up to here were added
+-- the names so far are added
 abbrev pub invariant-loop-rpc : goal.invariant-loop-rpc
 invariant-loop-rpc l =
     entries_of l.names.items

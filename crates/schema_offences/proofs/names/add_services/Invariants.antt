@@ -3,7 +3,7 @@ use Rattle.proto_file.specs.declared.joined.Home.TheVariants as home
 use Rattle.schema_offences.specs.Entries.{HaveNumbers, OfService, EntryOfFirst, Adds, entries_of}
 use Rattle.schema_offences.proofs.names.add_services.Given as goal
 
--- the services up to here were added, and have numbers
+-- the services so far are added, and have numbers
 abbrev pub invariant-loop-i : goal.invariant-loop-i
 invariant-loop-i l = record {
   numbers : HaveNumbers l.fn.files l.i l.fn.files.services (λ (s : ServiceDecl). home.File s.file);

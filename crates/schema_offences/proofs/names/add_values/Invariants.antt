@@ -3,7 +3,7 @@ use Rattle.proto_file.specs.declared.file.ValueDecl.{ValueDecl}
 use Rattle.schema_offences.specs.Entries.{entry, entries_of}
 use Rattle.schema_offences.proofs.names.add_values.Given as goal
 
--- the names up to here were added
+-- the names so far are added
 abbrev pub invariant-loop-value : goal.invariant-loop-value
 invariant-loop-value l =
     entries_of l.names.items

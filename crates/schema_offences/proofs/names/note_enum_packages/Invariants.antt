@@ -5,7 +5,7 @@ use Rattle.schema_offences.specs.Meeting.{Meets, OfFirst, OfElement}
 use Rattle.schema_offences.specs.Entries.{IsPackageNamed}
 use Rattle.schema_offences.proofs.names.note_enum_packages.Given as goal
 
--- those up to here that are packages, too, were met
+-- the enums so far with the name of a package are recorded
 abbrev pub invariant-loop-i : goal.invariant-loop-i
 invariant-loop-i l =
     Meets (OfFirst l.i (OfElement l.fn.files.enums

@@ -5,7 +5,7 @@ use Rattle.schema_offences.specs.Meeting.{Meets, OfFirst, OfElement, MethodIn}
 use Rattle.schema_offences.proofs.Serving.{methods_of}
 use Rattle.schema_offences.proofs.services.note_methods.Given as goal
 
--- what stands against the methods up to here was met, and how many these are
+-- the violations of the methods so far are recorded, and the methods are counted
 abbrev pub invariant-loop-service : goal.invariant-loop-service
 invariant-loop-service l = record {
   meets : Meets (OfFirst (methods_of l.fn.files.services l.service-index) (OfElement (rpcs_of l.fn.files)

@@ -1,4 +1,4 @@
--- A field has a form where its types are known and its map may stand there.
+-- A field has a shape if its types are known and it isn't a misplaced map.
 use Rattle.std.proofs.Common.{ℕ, List, sym, ◌∙◌, subst}
 use Rattle.std.specs.Prelude.{Option, MatchOption}
 use Rattle.std.proofs.lemmas.Bool.{false≢true}

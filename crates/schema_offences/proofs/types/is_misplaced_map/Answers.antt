@@ -1,4 +1,4 @@
--- A map stands under no label but `Plain`, and in no oneof.
+-- A map may only have the label `Plain`, and be in no oneof.
 use Rattle.std.proofs.Common.{refl, sym, ◌∙◌}
 use Rattle.schema_offences.specs.Members
 use Rattle.schema_offences.proofs.FieldForms.{is_plain, isnt_plain, misplaced_in_oneof, in_some_oneof}

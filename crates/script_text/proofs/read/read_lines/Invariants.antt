@@ -1,4 +1,4 @@
--- The lines so far are right, and what is kept of them is.
+-- The lines so far have no fault, and the state kept of them is exact.
 use Rattle.std.proofs.Common.{length}
 use Rattle.script_text.specs.Changes.{IsKept, seen}
 use Rattle.script_text.specs.Texts.{Reaches}

@@ -1,4 +1,4 @@
--- The line has the form exactly where the words that are left have the sorts that are left.
+-- The line has the form exactly if the remaining words fit the remaining sorts.
 use Rattle.std.proofs.Common.{◌≡◌, drop}
 use Rattle.mrpc_table.specs.Lines.{words_of}
 use Rattle.script_words.specs.Lines.{has_form}

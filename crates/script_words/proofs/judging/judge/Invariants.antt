@@ -1,4 +1,4 @@
--- What the words so far say, or the first reason against them; and the words that are left.
+-- The values of the words so far, or their first reason; and the remaining words.
 use Rattle.std.proofs.Common.{◌≡◌, ◌≤◌, length, take, drop}
 use Rattle.arrayvec.specs.ArrayVec.{array_vec_len}
 use Rattle.mrpc_table.specs.Lines.{words_of}

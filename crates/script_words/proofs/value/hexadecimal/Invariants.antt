@@ -1,4 +1,4 @@
--- The bytes so far are hexadecimal digits, and this is the number that they spell.
+-- The bytes so far are hexadecimal digits, and spell this number.
 use Rattle.std.proofs.Common.{◌≡◌, true, take}
 use Rattle.std.specs.List.{list_all}
 use Rattle.std.specs.Str.Parse.{digits_value}

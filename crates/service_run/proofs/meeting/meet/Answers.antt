@@ -5,7 +5,7 @@ use Rattle.service_run.proofs.Members.{seats-stay}
 use Rattle.service_run.proofs.Together.{has-served}
 use Rattle.service_run.proofs.meeting.meet.Goals as goal
 
--- what isn't nothing is something
+-- an option that isn't empty has a value
 something : {T : Type 0} (o : Option T) (none : Bool) → is_some o ≡ not none → none ≡ false → (x : T) × (o ≡ Some x)
 something (Some x) none is there = (x, refl)
 something None none is there = absurd (let wrong : false ≡ true = is ∙ ap not there in cc)

@@ -1,4 +1,4 @@
--- The header's line and the lines of the values so far are written.
+-- The line of the enum and the lines of the values so far are written.
 use Rattle.std.proofs.Common.{◌≡◌, ◌++◌, ◌∷◌, [], codes, take}
 use Rattle.std.specs.List.{flat_map}
 use Rattle.mrpc_table.specs.Text.{line, value_line}

@@ -1,4 +1,4 @@
--- The header's line and the lines of the fields so far are written.
+-- The line of the message and the lines of the fields so far are written.
 use Rattle.std.proofs.Common.{◌≡◌, ◌++◌, ◌∷◌, [], codes, take}
 use Rattle.std.specs.List.{flat_map}
 use Rattle.mrpc_table.specs.Text.{line, field_line}

@@ -1,4 +1,4 @@
--- A value is 0 where one of those to come is.
+-- There is a value 0 if there is one among the remaining values.
 use Rattle.std.proofs.Common.{◌≡◌, drop}
 use Rattle.std.specs.Prelude.{pos}
 use Rattle.std.specs.List.{list_any}

@@ -1,4 +1,4 @@
--- The names of the lines so far are held.
+-- The names of the lines so far are kept.
 use Rattle.std.proofs.Common.{length, []}
 use Rattle.std.specs.List.{filter_map}
 use Rattle.table_lines.specs.Lines.{behind}

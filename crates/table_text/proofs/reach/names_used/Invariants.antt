@@ -1,4 +1,4 @@
--- The names that the lines so far use are held.
+-- The names that the lines so far use are kept.
 use Rattle.std.proofs.Common.{length, []}
 use Rattle.table_text.specs.Reach.{used_in}
 use Rattle.table_text.proofs.NamesLemmas.{NamesSoFar}

@@ -1,4 +1,4 @@
--- The names of the near lines are held, and of those of the far lines so far the ones that are used.
+-- The names of the near lines are kept, and those of the far lines so far that are used.
 use Rattle.std.proofs.Common.{ℕ, List, length}
 use Rattle.std.specs.List.{filter_map}
 use Rattle.mrpc_table.specs.Lines.{whole_lines}

@@ -4,7 +4,7 @@ use Rattle.mrpc_table.specs.declared.table.Table.{Table}
 use Rattle.text_commands.specs.Telling.{Tells}
 use Rattle.text_commands.proofs.decoding.decode_stream.Given as goal
 
--- the lines of the frames in front of a place were written
+-- the lines of the frames before an offset were written
 pub record Written (T : Table) (stream : List ℕ) (place : ℕ) (old new : Option (List ℕ)) : Type 0 where
   pub text : List ℕ
   pub tells : Tells T stream 0 place text

@@ -9,7 +9,7 @@ use Rattle.text_commands.specs.Decoding.{IsCutAt, IsFaultIn, IsFaultOfHeader}
 use Rattle.text_commands.proofs.Decodings.{on_fault, tells_one, cut_in_frame, cut_in_header, cut_short, some_left}
 use Rattle.text_commands.proofs.decoding.tell_frame.Goals as goal
 
--- what stands in the rest of a stream stands behind its front
+-- a frame in the remainder of a stream is in the stream, after the prefix
 frame_behind : (stream : List ℕ) (from : ℕ) (f : Frame) → StandsAt from (between from (length stream) stream) f → StandsAt from (drop from stream) f
 frame_behind stream from f h = subst (λ (bs : List ℕ). StandsAt from bs f) (between_to_end stream from (length stream) (omega arith)) h
 

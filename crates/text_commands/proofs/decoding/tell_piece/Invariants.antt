@@ -3,7 +3,7 @@ use Rattle.mrpc_table.specs.declared.table.Table.{Table}
 use Rattle.text_commands.specs.Telling.{Tells}
 use Rattle.text_commands.proofs.decoding.tell_piece.Given as goal
 
--- the lines of the frames in front of a place were appended
+-- the lines of the frames before an offset were appended
 pub record Told (T : Table) (stream : List ℕ) (from place : ℕ) (old new : List ℕ) : Type 0 where
   pub text : List ℕ
   pub appended : new ≡ old ++ text

@@ -5,7 +5,7 @@ use Rattle.timeline.specs.Views.{all_told, mark, told_by}
 use Rattle.timeline.specs.declared.line.Event.{Event}
 use Rattle.timeline.proofs.mark.marks_of.Goals as goal
 
--- what one more happening adds
+-- what one more event adds
 one_more : (es : List Event) (d : Event) (at i : ℕ) (old new all : List Mark) → at ≡ i → i < length es
     → ((more : List Mark) → new ++ more ≡ old ++ cons_option (mark_at at (told_by (get_or es i d).what)) more)
     → old ++ marks_from i (all_told (drop i es)) ≡ all → new ++ marks_from (i + 1) (all_told (drop (i + 1) es)) ≡ all

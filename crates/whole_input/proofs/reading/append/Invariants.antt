@@ -1,4 +1,4 @@
--- What was appended, and the chunks that are left.
+-- The bytes appended so far, and the remaining chunks.
 use Rattle.std.proofs.Common.{◌≡◌, ◌++◌}
 use Rattle.std.specs.Slice.Iter.{chunks_rest, chunks_size}
 use Rattle.whole_input.proofs.reading.append.Given as goal

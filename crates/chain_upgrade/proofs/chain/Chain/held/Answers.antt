@@ -8,7 +8,7 @@ use Rattle.chain_upgrade.proofs.Reading.{one-call}
 use Rattle.chain_upgrade.proofs.Stands.{none-weaker, not-none, one-number, one-some, some-any, some-weaker, there-at}
 use Rattle.chain_upgrade.proofs.chain.Chain.held.Goals as goal
 
--- the engine that was asked is that of the position
+-- the engine that is asked is that of the position
 its-engine : (c : goal.After-held) (e : EngineParts) → slice_get c.args.self.now.engines c.args.at ≡ Some e → c.index.result.now ≡ e
 its-engine c e is =
     let many : length c.args.self.now.engines ≡ length c.self.inside.engines.items = ap (λ (v : ChainParts). length v.engines) (sym c.self.view_is) in
@@ -21,7 +21,7 @@ its-engine c e is =
 call-there : (c : goal.After-held) → slice_get c.args.self.now.calls c.in_ok-place.place ≡ Some c.at.result.now
 call-there c = ap (λ (v : ChainParts). slice_get v.calls c.in_ok-place.place) (sym c.self.view_is) ∙ c.at.ensures
 
--- the call that it was asked of is the first there
+-- the call is the first there
 its-call : (c : goal.After-held) (s : StandingCall) → first_at c.args.at c.args.self.now.row ≡ Some (s.call.seq, c.args.at)
     → Contains c.args.self.now.calls s → s ≡ c.at.result.now
 its-call c s first has =

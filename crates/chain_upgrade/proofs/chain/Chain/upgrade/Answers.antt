@@ -69,7 +69,7 @@ its-kind c =
     ap (λ (e : EngineParts). is_same_kind e.entry.policy c.args.policy) same
     ∙ (ap (λ (policy : Policy). is_same_kind policy c.args.policy) (sym c.policy.ensures.policy) ∙ (sym c.is_same_kind.ensures ∙ c.if-not-is_same_kind.false))
 
--- the other one stands in its place
+-- the new one is at its position
 replaced : (c : goal.After-drop-name) → c.put.new.items.items ≡ set c.self.inside.engines.items c.in-Some.place c.restore.result
 replaced c = c.put.ensures.items
     ∙ (ap (λ (es : List EngineParts). insert es c.in-Some.place c.restore.result) c.remove.ensures.items
@@ -110,7 +110,7 @@ returns-clause-changes c = λ label.
     }) (Upgrade c.args.name label c.args.policy)
     (record { entries = map (λ e. e.entry) es; attached = c.self.inside.attached })) (sym (replaced c)) (made c label))
 
--- its place, as callers see it
+-- its position, as callers see it
 seen-place : (c : goal.After-drop-name) → place_of c.args.name (map (λ e. e.entry) c.args.self.now.engines) ≡ c.in-Some.place
 seen-place c = ap (λ (v : ChainParts). place_of c.args.name (map (λ e. e.entry) v.engines)) (sym c.self.view_is) ∙ (its-place c).place_is
 

@@ -1,4 +1,4 @@
--- all cuts so far lie above the place
+-- all cuts so far are above the index
 use Rattle.std.proofs.Common.{◌≡◌, ◌+◌, drop}
 use Rattle.chain_upgrade.specs.Cuts.{position_at}
 use Rattle.chain_upgrade.proofs.cuts.Cuts.position.Given as goal

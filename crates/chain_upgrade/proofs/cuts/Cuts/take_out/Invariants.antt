@@ -1,4 +1,4 @@
--- the cuts so far are without the call, and the others are as they were
+-- the cuts so far are without the call, and the others are unchanged
 use Rattle.std.proofs.Common.{◌≡◌, ◌-◌, length, take, drop, map, max, min}
 use Rattle.chain_upgrade.proofs.cuts.Cuts.take_out.Given as goal
 

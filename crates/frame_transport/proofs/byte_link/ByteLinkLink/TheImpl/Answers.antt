@@ -1,4 +1,4 @@
--- `receive` answers the end and leaves the sink, so no other answer's clause asks for anything. The sink stays the same.
+-- `receive` returns `End` and leaves the sink unchanged, so the clauses of all other results hold trivially.
 use Rattle.std.proofs.Common.{arith, refl}
 use Rattle.frame_transport.proofs.Gained.{sent-later, idle-later}
 use Rattle.frame_transport.proofs.byte_link.ByteLinkLink.TheImpl.Goals as goal

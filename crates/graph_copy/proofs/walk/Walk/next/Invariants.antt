@@ -2,7 +2,7 @@ use Rattle.std.proofs.Common.{◌≡◌, length, None}
 use Rattle.graph_copy.specs.Expects.{expected, stack_words}
 use Rattle.graph_copy.proofs.walk.Walk.next.Given as goal
 
--- nothing is left of the frames that were taken
+-- the popped frames have no words
 abbrev pub invariant-loop-frame : goal.invariant-loop-frame
 invariant-loop-frame l = record {
   words : stack_words l.table l.self.frames ≡ expected l.table l.fn.self;

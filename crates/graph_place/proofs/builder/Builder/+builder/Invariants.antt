@@ -7,13 +7,13 @@ use Rattle.graph_place.proofs.Lists.{ElementsOn, EntriesOn}
 use Rattle.graph_place.proofs.Slots.{SlotsOn, CasesOn}
 use Rattle.graph_place.proofs.builder.Builder.+builder.Given as goal
 
--- the slots of the fields that were passed are put
+-- the slots of the fields so far are placed
 abbrev pub invariant-slots-loop-field : goal.invariant-slots-loop-field
 invariant-slots-loop-field l =
     SlotsOn l.table (fields_of l.table l.message) l.tree l.at l.fn.self.free l.fn.self.words.items
     (drop l.field-index l.fields) l.place l.self.free l.self.words.items
 
--- the slots of the oneofs that were passed are put
+-- the slots of the oneofs so far are placed
 abbrev pub invariant-cases-loop-oneof : goal.invariant-cases-loop-oneof
 invariant-cases-loop-oneof l = CasesOn l.table (fields_of l.table l.message) l.tree (oneofs_of l.table l.message) l.at
     l.fn.self.free l.fn.self.words.items l.oneof (oneofs_of l.table l.message - l.oneof) l.place l.self.free

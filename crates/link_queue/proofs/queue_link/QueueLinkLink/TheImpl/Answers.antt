@@ -1,4 +1,4 @@
--- Each call leaves the two queues and how many frames wait at most.
+-- No call changes the two queues or the most frames in the queue.
 use Rattle.std.proofs.Common.{ap, refl, Some, ◌∙◌}
 use Rattle.link_queue.proofs.queue_link.QueueLinkLink.TheImpl.Goals as goal
 

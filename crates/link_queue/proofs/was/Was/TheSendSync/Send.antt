@@ -1,4 +1,4 @@
--- It owns nothing, so it may go to another thread.
+-- It owns nothing, so it may be sent to another thread.
 use denote.RattleType.{RattleType}
 use denote.Param.Send.{IsSend, owning_send, sendable}
 use Rattle.link_queue.specs.contracts.was.Was.{the_row, the_type}

@@ -1,4 +1,4 @@
--- Each call leaves the two queues and the lists of the calls that are to fail.
+-- No call changes the two queues or the lists of injected failures.
 use Rattle.std.proofs.Common.{ap, refl, Some, ◌∙◌}
 use Rattle.mem_fabric.proofs.pair_link.PairLinkLink.TheImpl.Goals as goal
 

@@ -1,4 +1,4 @@
--- The numbers so far stand in front of those of the rest.
+-- The numbers so far precede those of the remainder.
 use Rattle.std.proofs.Common.{◌≡◌, ◌==◌, ◌+◌, length}
 use Rattle.std.specs.Prelude.{option_map}
 use Rattle.std.specs.List.{slice_split}

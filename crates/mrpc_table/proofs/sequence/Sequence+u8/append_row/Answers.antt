@@ -5,7 +5,7 @@ use Rattle.std.specs.Fmt.{decimal}
 use Rattle.mrpc_table.specs.Lines.{behind_spaces}
 use Rattle.mrpc_table.proofs.sequence.Sequence+u8.append_row.Goals as goal
 
--- numbers, each behind a space
+-- numbers, each after a space
 numbers-spaced : (ns : List ℕ) → flat_map (λ n. 32 ∷ decimal n) ns ≡ behind_spaces (map decimal ns)
 numbers-spaced [] = refl
 numbers-spaced (n ∷ ns) = ap (λ l. 32 ∷ decimal n ++ l) (numbers-spaced ns)

@@ -1,4 +1,4 @@
--- It owns nothing, so it may go to another thread.
+-- It owns nothing, so it may be sent to another thread.
 use denote.Param.Send.{IsSend, owning_send}
 use Rattle.one_way_queue.specs.contracts.given.GivenBytes.{the_row, the_type}
 

@@ -1,4 +1,4 @@
--- A value of no bytes, whose ghost field is the list with more bytes behind it.
+-- A zero-sized value whose ghost field is the list with more bytes appended.
 use mathlib.Core.Path.{refl}
 use mathlib.Core.List.{[], ◌∷◌, ◌++◌}
 use seplogic.Ra.Ura.{Ura}

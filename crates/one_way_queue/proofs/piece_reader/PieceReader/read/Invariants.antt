@@ -3,7 +3,7 @@ use Rattle.one_way_queue.specs.Pieces.{marks_of}
 use Rattle.one_way_queue.specs.Readers.{given_by, taken_by, told_by, reader_queue}
 use Rattle.one_way_queue.proofs.piece_reader.PieceReader.read.Given as goal
 
--- nothing was given so far, and no mark was found
+-- nothing was delivered so far, and no sentinel was found
 abbrev pub invariant-loop : goal.invariant-loop
 invariant-loop g l =
     (goal.iterator-loop g).can_next l.iterator'

@@ -2,7 +2,7 @@ use Rattle.std.proofs.Common.{◌≡◌}
 use Rattle.one_way_queue.specs.Ends.{put_of, capacity_of, producer_queue}
 use Rattle.one_way_queue.proofs.producer.Producer.wait_for_more.Given as goal
 
--- nothing was put so far
+-- nothing was pushed so far
 abbrev pub invariant-loop : goal.invariant-loop
 invariant-loop g l =
     (goal.iterator-loop g).can_next l.iterator'

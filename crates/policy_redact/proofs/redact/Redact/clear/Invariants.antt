@@ -1,4 +1,4 @@
--- The tree is what the clears so far leave.
+-- The tree is that after the clears so far.
 use Rattle.std.proofs.Common.{◌≡◌, ◌<◌, take}
 use Rattle.std.specs.Bool.{OnTrue, OnFalse}
 use Rattle.mrpc_table.specs.Weight.{weight}

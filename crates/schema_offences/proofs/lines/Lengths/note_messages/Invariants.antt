@@ -5,7 +5,7 @@ use Rattle.schema_offences.specs.Meeting.{Meets, OfFirst, OfElement}
 use Rattle.schema_offences.specs.Lengths.{IsLongName}
 use Rattle.schema_offences.proofs.lines.Lengths.note_messages.Given as goal
 
--- the long names up to here were met
+-- the long names so far are recorded
 abbrev pub invariant-loop-i : goal.invariant-loop-i
 invariant-loop-i l =
     Meets (OfFirst l.i (OfElement l.fn.files.messages

@@ -1,4 +1,4 @@
--- What is left of a tree weighs no more than the tree, and each part of it less.
+-- The remaining parts of a tree weigh no more than the tree, and each of them less.
 use Rattle.std.proofs.Common.{◌+◌, ◌*◌, ◌≤◌}
 use Rattle.mrpc_table.specs.View.{item_of, items_of, pairs_of, content_of, node_of}
 use Rattle.mrpc_table.specs.Weight.{weight, content_weight, item_weight, items_weight, pairs_weight}

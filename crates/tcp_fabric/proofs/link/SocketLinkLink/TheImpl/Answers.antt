@@ -1,4 +1,4 @@
--- Each call leaves the ports.
+-- No call changes the ports.
 use Rattle.std.proofs.Common.{ap, Some, ◌∙◌}
 use Rattle.tcp_fabric.proofs.Known.{keeps-none}
 use Rattle.tcp_fabric.proofs.link.SocketLinkLink.TheImpl.Goals as goal

@@ -1,4 +1,4 @@
--- It owns nothing, so it may go to another thread.
+-- It owns nothing, so it may be sent to another thread.
 use denote.Param.Send.{IsSend, owning_send}
 use Rattle.tcp_fabric.specs.contracts.pieces.Pieces.{the_row, the_type}
 

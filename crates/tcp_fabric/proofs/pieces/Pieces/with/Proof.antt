@@ -1,4 +1,4 @@
--- A value of no bytes, whose ghost field is the list with one more piece.
+-- A zero-sized value whose ghost field is the list with one more piece.
 use mathlib.Core.Path.{refl}
 use mathlib.Core.List.{[], ◌∷◌, ◌++◌}
 use seplogic.Ra.Ura.{Ura}

@@ -4,7 +4,7 @@ use Rattle.tcp_fabric.specs.Link.{Receives}
 use Rattle.tcp_fabric.specs.declared.wire.Incoming.TheVariants.{Open}
 use Rattle.tcp_fabric.proofs.wire.Wire.write_all.Given as goal
 
--- so many bytes were taken, and what came waits
+-- the bytes before `done` were taken, and bytes that arrived are read ahead
 abbrev pub invariant-loop : goal.invariant-loop
 invariant-loop g l =
     (goal.iterator-loop g).can_next l.iterator'
