@@ -49,12 +49,20 @@ pub record Tells (T : Table) (declared : Declared) (text : List ℕ) (h : Histor
   pub writable : All (IsWritable T declared) h
   pub in_range : All IsStandsLine stands
 
--- a list begins with another
+-- the first list is a prefix of the second
 abbrev pub Begins : {A : Type 0} → List A → List A → Type 0
-Begins {A} list front = (rest : List A) × (list ≡ front ++ rest)
+Begins {A} front list = (rest : List A) × (list ≡ front ++ rest)
 
--- This line of the text, counted from 1, is its first invalid one: the lines before are events and then pending calls,
--- and what follows starts with no line, or with an event's after a pending call's.
+-- the text doesn't start with the line of an event
+abbrev pub IsNoEventLine : Table → Declared → List ℕ → Type 0
+IsNoEventLine T declared text = (x : Happened) → IsWritable T declared x → Begins (audit_line T x) text → ⊥
+
+-- the text doesn't start with the line of a pending call
+abbrev pub IsNoPendingLine : List ℕ → Type 0
+IsNoPendingLine text = (s : StandsLine) → IsStandsLine s → Begins (line_of s) text → ⊥
+
+-- The first fault of the text is at this line, counted from 1: the lines before it are those of a history and then of
+-- pending calls, and what follows is no line, or the line of an event after one of a pending call.
 pub record IsFirstBad (T : Table) (declared : Declared) (text : List ℕ) (line : ℕ) : Type 0 where
   pub front : List ℕ
   pub rest : List ℕ
@@ -63,8 +71,8 @@ pub record IsFirstBad (T : Table) (declared : Declared) (text : List ℕ) (line 
   pub is_text : text ≡ front ++ rest
   pub before : Tells T declared front history stands
   pub more : rest ≡ [] → ⊥
-  pub no_happening : stands ≡ [] → (x : Happened) → IsWritable T declared x → Begins rest (audit_line T x) → ⊥
-  pub no_stands : (s : StandsLine) → IsStandsLine s → Begins rest (line_of s) → ⊥
+  pub no_happening : stands ≡ [] → IsNoEventLine T declared rest
+  pub no_stands : IsNoPendingLine rest
   pub counted : line ≡ length history + length stands + 1
 
 -- ---- the pending calls
@@ -95,11 +103,15 @@ pub record AreAllStanding (h : History) (calls : List CallName) : Type 0 where
   pub each : (conn seq : ℕ) → Contains calls (conn, seq)
       ↔ Contains (map (λ call. call.seq) (standing (behind conn h))) seq
 
--- after lines of calls at these positions, lines list the next calls of the connection, one after another
+-- the level and the cost at which the call is held, if it is
+abbrev pub level_and_cost : StandsLine → Option (ℕ × ℕ)
+level_and_cost s = option_map (λ held. (held.level, held.cost)) s.holding
+
+-- after lines of pending calls at these positions, the lines name the connection's next pending calls, in order
 abbrev pub TellCalls : Under → Behind → List ℕ → List StandsLine → Type 0
 TellCalls u past positions [] = Unit {0}
 TellCalls u past positions (s ∷ stands) =
-    TellsNext u past positions s.seq s.position s.name (option_map (λ held. (held.level, held.cost)) s.holding)
+    TellsNext u past positions s.seq s.position s.name (level_and_cost s)
     × TellCalls u past (positions ++ s.position ∷ []) stands
 
 -- the lines of a connection
@@ -111,7 +123,7 @@ lines_on conn stands = filter (λ s. s.conn == conn) stands
 pub record MayBegin (T : Table) (limit : ℕ) (h : History) (stands : List StandsLine) : Type 0 where
   pub calls : List CallName
   pub all : AreAllStanding h calls
-  pub front : Begins calls (map call_of stands)
+  pub front : Begins (map call_of stands) calls
   pub tell : (conn : ℕ) → TellCalls (on_connection T limit conn) (behind conn h) [] (lines_on conn stands)
 
 -- they list all of them

@@ -2,6 +2,7 @@
 use Rattle.std.specs.Prelude.{◌≡◌, ℕ, ◌+◌, ◌⊎◌, List, [], ◌∷◌, ◌++◌, length}
 use Rattle.mrpc_table.specs.declared.table.Table.{Table}
 use Rattle.call_history.specs.Legal.{History}
+use Rattle.call_history.specs.declared.happening.Happened.{Happened}
 use Rattle.policy_blocks.specs.Declarations.{Declared}
 use Rattle.audit_text.specs.declared.reading.AuditFault.{AuditFault}
 use Rattle.audit_text.specs.declared.reading.AuditFault.TheVariants.{Bad, Memory}
@@ -25,17 +26,28 @@ abbrev pub IsReadableLine : Table → AuditLine → Type 0
 IsReadableLine T (lines.Happened x) = IsReadable T x.what
 IsReadableLine T (lines.Stands conn seq position name holding) = Unit {0}
 
--- one line more
-abbrev pub TakesOn : Table → ℕ → History → List StandsLine → AuditLine → Progress → Type 0
-TakesOn T limit h told (lines.Happened x) p = (told ≡ []) × IsProgress T limit (h ++ x ∷ []) told p
-TakesOn T limit h told (lines.Stands conn seq position name holding) p =
-    IsProgress T limit h
-    (told ++ record { conn = conn; seq = seq; position = position; name = name; holding = holding } ∷ []) p
+-- one event more was read, which comes before all lines of pending calls
+abbrev pub HasReadEvent : Table → ℕ → History → List StandsLine → Happened → Progress → Type 0
+HasReadEvent T limit h told x p = (told ≡ []) × IsProgress T limit (h ++ x ∷ []) told p
 
--- an event after lines of pending calls, or out of memory
+-- one line of a pending call more was read
+abbrev pub HasReadPending : Table → ℕ → History → List StandsLine → StandsLine → Progress → Type 0
+HasReadPending T limit h told pending p = IsProgress T limit h (told ++ pending ∷ []) p
+
+-- one line more was read
+abbrev pub TakesOn : Table → ℕ → History → List StandsLine → AuditLine → Progress → Type 0
+TakesOn T limit h told (lines.Happened x) p = HasReadEvent T limit h told x p
+TakesOn T limit h told (lines.Stands conn seq position name holding) p =
+    HasReadPending T limit h told
+    (record { conn = conn; seq = seq; position = position; name = name; holding = holding }) p
+
+-- an event after a line of a pending call: the fault is at its line
+abbrev pub IsLateEvent : History → List StandsLine → AuditFault → Type 0
+IsLateEvent h told fault = (told ≡ [] → ⊥) × (fault ≡ Bad (length h + length told + 1))
+
+-- a line wasn't read: an event comes after a line of a pending call, or the reader is out of memory
 abbrev pub FailsOn : History → List StandsLine → AuditLine → AuditFault → Type 0
-FailsOn h told (lines.Happened x) fault =
-    ((told ≡ [] → ⊥) × (fault ≡ Bad (length h + length told + 1))) ⊎ (fault ≡ Memory)
+FailsOn h told (lines.Happened x) fault = IsLateEvent h told fault ⊎ (fault ≡ Memory)
 FailsOn h told (lines.Stands conn seq position name holding) fault = fault ≡ Memory
 
 -- a text was read up to this remainder

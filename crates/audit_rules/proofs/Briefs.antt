@@ -80,13 +80,13 @@ behind-drawn (_ ∷ past) what none = tt
 malformed : (past : Behind) (what : Happening) (left : Left) → IsOfCall what → LeavesOpen past left → is_waiting left ≡ false → RefusesMalformed past what
 malformed past what lefts.Nothing of opened free = behind-malformed past what of opened.0
 malformed past what (lefts.Waits seq) of opened free = absurd cc
-malformed past what (lefts.Over seq at ticket cap) of opened free = subst (λ (p : Behind). RefusesMalformed p what) (sym opened.3) (other-malformed what of)
+malformed past what (lefts.Over seq at ticket cap) of opened free = subst (λ (p : Behind). RefusesMalformed p what) (sym opened.is_last) (other-malformed what of)
 
 waits : (past : Behind) (what : Happening) (left : Left) → IsOfCall what → LeavesOpen past left → is_waiting left ≡ true → RefusesMalformed past what → ⊥
 waits past what lefts.Nothing of opened is = absurd cc
 waits past what (lefts.Waits seq) of opened is = λ refuses.
-    (let at : RefusesMalformed (Took opened.0 ∷ opened.1) what = subst (λ (p : Behind). RefusesMalformed p what) opened.2 refuses in
-    no-refusal what of opened.0.seq cause.Malformed (at-once opened.0.copy opened.0.seq what opened.3 at))
+    (let at : RefusesMalformed (Took opened.call ∷ opened.earlier) what = subst (λ (p : Behind). RefusesMalformed p what) opened.is_last refuses in
+    no-refusal what of opened.call.seq cause.Malformed (at-once opened.call.copy opened.call.seq what opened.malformed at))
 waits past what (lefts.Over seq at ticket cap) of opened is = absurd cc
 
 drawn : (past : Behind) (what : Happening) (left : Left) → IsOfCall what → LeavesOpen past left → is_waiting left ≡ false → IsTrue (is_nothing left) ↔ RefusesDrawn past what
@@ -95,8 +95,8 @@ drawn past what (lefts.Waits seq) of opened free = absurd cc
 drawn past what (lefts.Over seq at ticket cap) of opened free = (
   λ is. absurd cc,
   λ refuses.
-      (let next : RefusesDrawn (Drawn seq opened.0.name opened.1 ticket ∷ opened.2) what = subst (λ (p : Behind). RefusesDrawn p what) opened.3 refuses in
-      absurd (no-refusal what of seq (cause.Quota opened.0.name ticket cap) (next opened.6.0 cap opened.6.1 opened.6.2 opened.4))),
+      (let next : RefusesDrawn (Drawn seq opened.entry.name opened.window ticket ∷ opened.earlier) what = subst (λ (p : Behind). RefusesDrawn p what) opened.is_last refuses in
+      absurd (no-refusal what of seq (cause.Quota opened.entry.name ticket cap) (next opened.policy cap opened.is_policy opened.is_cap opened.past_cap))),
 )
 
 -- a call whose ticket isn't below the cap is refused by the entry at the recorded position
@@ -106,18 +106,18 @@ pub over-refused : (T : Table) (past : Behind) (what : Happening) (c : Checker) 
     → IsTrue result ↔ RefusesDrawn past what
 over-refused T past what c seq at ticket cap result knows is answers =
     let opened : LeavesOpen past (lefts.Over seq at ticket cap) = subst (λ (l : Left). LeavesOpen past l) is knows.left in
-    let engine = unmap-at (λ (e : EngineParts). e.entry) c.engines.items at opened.0
-    (subst (λ (x : Chain). slice_get x.entries at ≡ Some opened.0) (sym knows.row.ties.same_chain) opened.5) in
+    let engine = unmap-at (λ (e : EngineParts). e.entry) c.engines.items at opened.entry
+    (subst (λ (x : Chain). slice_get x.entries at ≡ Some opened.entry) (sym knows.row.ties.same_chain) opened.position) in
     let here : IsTrue result ↔ (what ≡ Refused seq (cause.Quota engine.0.entry.name ticket cap)) =
     subst (λ (o : Option EngineParts). IfSome o (λ e. IsTrue result ↔ (what ≡ Refused seq (cause.Quota e.entry.name ticket cap)))) engine.1 answers in
-    let by : IsTrue result ↔ (what ≡ Refused seq (cause.Quota opened.0.name ticket cap)) =
+    let by : IsTrue result ↔ (what ≡ Refused seq (cause.Quota opened.entry.name ticket cap)) =
     subst (λ (e : Entry). IsTrue result ↔ (what ≡ Refused seq (cause.Quota e.name ticket cap))) engine.2 here in (
-      λ true. subst (λ (p : Behind). RefusesDrawn p what) (sym opened.3)
+      λ true. subst (λ (p : Behind). RefusesDrawn p what) (sym opened.is_last)
           (λ policy other is_policy is_cap more.
-          (let same : policy ≡ opened.6.0 = one-some (policy_of opened.0.name opened.2) policy opened.6.0 is_policy opened.6.1 in
-          let equal : cap ≡ other = one-some (cap_of policy) cap other (ap cap_of same ∙ opened.6.2) is_cap in
-          subst (λ (k : ℕ). what ≡ Refused seq (cause.Quota opened.0.name ticket k)) equal (by.0 true))),
-      λ refuses. by.1 (subst (λ (p : Behind). RefusesDrawn p what) opened.3 refuses opened.6.0 cap opened.6.1 opened.6.2 opened.4),
+          (let same : policy ≡ opened.policy = one-some (policy_of opened.entry.name opened.earlier) policy opened.policy is_policy opened.is_policy in
+          let equal : cap ≡ other = one-some (cap_of policy) cap other (ap cap_of same ∙ opened.is_cap) is_cap in
+          subst (λ (k : ℕ). what ≡ Refused seq (cause.Quota opened.entry.name ticket k)) equal (by.0 true))),
+      λ refuses. by.1 (subst (λ (p : Behind). RefusesDrawn p what) opened.is_last refuses opened.policy cap opened.is_policy opened.is_cap opened.past_cap),
     )
 
 linked : (past : Behind) (what : Happening) (failed : Bool) → IsOfCall what → failed ≡ has_failed past → IsTrue (not failed) ↔ EndsWithLink past what

@@ -247,7 +247,7 @@ free-anyway (Refused seq why) left free = free-for why left free
 pub free-before : (past : Behind) (what : Happening) (left : Left) → LeavesOpen past left → RefusesMalformed past what → IsFreeBefore what left
 free-before past what Nothing opened malformed = free-anyway what Nothing tt
 free-before past what (Waits seq) opened malformed =
-    let at : RefusesMalformed (Took opened.0 ∷ opened.1) what = subst (λ (p : Behind). RefusesMalformed p what) opened.2 malformed in
-    let is : what ≡ Refused opened.0.seq cause.Malformed = at-once opened.0.copy opened.0.seq what opened.3 at in
+    let at : RefusesMalformed (Took opened.call ∷ opened.earlier) what = subst (λ (p : Behind). RefusesMalformed p what) opened.is_last malformed in
+    let is : what ≡ Refused opened.call.seq cause.Malformed = at-once opened.call.copy opened.call.seq what opened.malformed at in
     subst (λ (w : Happening). IsFreeBefore w (Waits seq)) (sym is) tt
 free-before past what (Over seq at ticket cap) opened malformed = free-anyway what (Over seq at ticket cap) tt

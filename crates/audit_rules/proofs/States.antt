@@ -104,11 +104,11 @@ pub not-left : (past : Behind) (what : Happening) (left : Left) → LeavesOpen p
     → ((seq : ℕ) (why : Cause) → what ≡ Refused seq why → ⊥) → left ≡ Nothing
 not-left past what Nothing opened malformed drawn other = refl
 not-left past what (Waits seq) opened malformed drawn other =
-    let at : RefusesMalformed (Took opened.0 ∷ opened.1) what = subst (λ (p : Behind). RefusesMalformed p what) opened.2 malformed in
-    absurd (other opened.0.seq cause.Malformed (at-once opened.0.copy opened.0.seq what opened.3 at))
+    let at : RefusesMalformed (Took opened.call ∷ opened.earlier) what = subst (λ (p : Behind). RefusesMalformed p what) opened.is_last malformed in
+    absurd (other opened.call.seq cause.Malformed (at-once opened.call.copy opened.call.seq what opened.malformed at))
 not-left past what (Over seq at ticket cap) opened malformed drawn other =
-    let refuses : RefusesDrawn (Drawn seq opened.0.name opened.1 ticket ∷ opened.2) what = subst (λ (p : Behind). RefusesDrawn p what) opened.3 drawn in
-    absurd (other seq (cause.Quota opened.0.name ticket cap) (refuses opened.6.0 cap opened.6.1 opened.6.2 opened.4))
+    let refuses : RefusesDrawn (Drawn seq opened.entry.name opened.window ticket ∷ opened.earlier) what = subst (λ (p : Behind). RefusesDrawn p what) opened.is_last drawn in
+    absurd (other seq (cause.Quota opened.entry.name ticket cap) (refuses opened.policy cap opened.is_policy opened.is_cap opened.past_cap))
 
 -- ---- a timestamp
 

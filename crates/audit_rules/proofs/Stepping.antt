@@ -387,7 +387,8 @@ module _ (T : Table) (past : Behind) (c c' : Checker) (knows : Knows T past c) (
       let tied : AreTied c.conn (Op step ∷ past) c'.engines.items c'.attached c.calls =
       subst (λ (n : ℕ). AreTied c.conn (Op step ∷ past) c'.engines.items n c.calls) (sym attached)
       (subst (λ (es : List EngineParts). AreTied c.conn (Op step ∷ past) es c.attached c.calls) (sym engines)
-      (law (under T c) past c.engines.items c.attached c.calls name label policy at e e' knows.row.prefix knows.row.ties there named entry level last stays)) in
+      (law (under T c) past c.engines.items c.attached c.calls name label policy at e e' knows.row.prefix knows.row.ties there named
+      (record { entry = entry; level = level; last = last; true_for = stays }))) in
       let old : e.entry.version ≤ length past + 1 = All-at (λ (x : EngineParts). x.entry.version ≤ length past + 1) c.engines.items at e knows.versions there in
       knows-operated T past step at c c' knows may rest tied reached
       (ap (λ (es : List Entry). take at es)

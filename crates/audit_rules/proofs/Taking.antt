@@ -155,7 +155,7 @@ module _ (T : Table) (past : Behind) (call : Taken) (c : Checker) (knows : Knows
     taken = taken-later;
     latest = zip-on (IsLatest past) (IsLatest (Took call ∷ past)) c.engines.items c.latest.items (λ e n is. is) knows.latest;
     failed = knows.failed;
-    left = (call, past, refl, none, refl);
+    left = record { call = call; earlier = past; is_last = refl; malformed = none; number = refl };
     of_table = knows.of_table;
     attachments = omega (arith, knows.attachments);
     versions = all-on (λ (e : EngineParts). e.entry.version ≤ length past + 1) (λ (e : EngineParts). e.entry.version
@@ -178,12 +178,12 @@ no-malformed (_ ∷ past) seq other is = is
 pub waits-malformed : (past : Behind) (left : Left) (seq : ℕ) → LeavesOpen past left → RefusesMalformed past (Refused seq cause.Malformed) → left ≡ Waits seq
 waits-malformed past Nothing seq opened is = absurd (no-malformed past seq opened.0 is)
 waits-malformed past (Waits s) seq opened is =
-    let at : RefusesMalformed (Took opened.0 ∷ opened.1) (Refused seq cause.Malformed) = subst (λ (p : Behind). RefusesMalformed p (Refused seq cause.Malformed)) opened.2 is in
-    let same : Refused seq cause.Malformed ≡ Refused opened.0.seq cause.Malformed = at-once opened.0.copy opened.0.seq (Refused seq cause.Malformed) opened.3 at in
-    let number : s ≡ seq = cc (opened.4, same) in
+    let at : RefusesMalformed (Took opened.call ∷ opened.earlier) (Refused seq cause.Malformed) = subst (λ (p : Behind). RefusesMalformed p (Refused seq cause.Malformed)) opened.is_last is in
+    let same : Refused seq cause.Malformed ≡ Refused opened.call.seq cause.Malformed = at-once opened.call.copy opened.call.seq (Refused seq cause.Malformed) opened.malformed at in
+    let number : s ≡ seq = cc (opened.number, same) in
     ap (λ (n : ℕ). Waits n) number
 waits-malformed past (Over s at ticket cap) seq opened is =
-    absurd (subst (λ (p : Behind). RefusesMalformed p (Refused seq cause.Malformed)) opened.3 is)
+    absurd (subst (λ (p : Behind). RefusesMalformed p (Refused seq cause.Malformed)) opened.is_last is)
 
 pub knows-malformed : (T : Table) (past : Behind) (seq : ℕ) (c : Checker) → Knows T past c
     → May (under T c) past (Refused seq cause.Malformed) → IsFate past seq (Refused seq cause.Malformed)

@@ -143,7 +143,7 @@ same-held one u past ps call q (Some h) (Some k) tells told =
 
 free-settled : (past : Behind) (left : Left) → LeavesOpen past left → (AwaitsMalformed past → ⊥) → IsFree left
 free-settled past Nothing opened none = tt
-free-settled past (Waits seq) opened none = none (subst AwaitsMalformed (sym opened.2) opened.3)
+free-settled past (Waits seq) opened none = none (subst AwaitsMalformed (sym opened.is_last) opened.malformed)
 free-settled past (Over seq at ticket cap) opened none = tt
 
 -- if no call is listed, a checker is unchanged

@@ -88,15 +88,36 @@ greatest (n ∷ numbers) = max n (greatest numbers)
 abbrev pub IsLatest : Behind → EngineParts → ℕ → Type 0
 IsLatest past e n = n ≡ greatest (noted_calls e.entry.name past)
 
--- what the last happening leaves open, other than the refusals of a failed link
+-- no call's refusal is due: the last event is neither a malformed call nor a ticket past the cap
+abbrev pub IsNoRefusalDue : Behind → Type 0
+IsNoRefusalDue past = (AwaitsMalformed past → ⊥) × (AwaitsQuota past → ⊥)
+
+-- the last event accepts a malformed call, of this number: its refusal is due
+pub record IsMalformedRefusalDue (past : Behind) (seq : ℕ) : Type 0 where
+  pub call : Taken
+  pub earlier : Behind
+  pub is_last : past ≡ Took call ∷ earlier
+  pub malformed : HasNoCopy call.copy
+  pub number : call.seq ≡ seq
+
+-- the last event draws a ticket for the call of this number at the entry of this position, and the ticket isn't below
+-- the cap of the entry's quota: the refusal of the call is due
+pub record IsQuotaRefusalDue (past : Behind) (seq at ticket cap : ℕ) : Type 0 where
+  pub entry : Entry
+  pub window : ℕ
+  pub earlier : Behind
+  pub is_last : past ≡ Drawn seq entry.name window ticket ∷ earlier
+  pub past_cap : cap ≤ ticket
+  pub position : slice_get (chain past).entries at ≡ Some entry
+  pub policy : Policy
+  pub is_policy : policy_of entry.name earlier ≡ Some policy
+  pub is_cap : cap_of policy ≡ Some cap
+
+-- what the last event leaves open, other than the refusals of a failed link
 abbrev pub LeavesOpen : Behind → Left → Type 0
-LeavesOpen past Nothing = (AwaitsMalformed past → ⊥) × (AwaitsQuota past → ⊥)
-LeavesOpen past (Waits seq) = (call : Taken) × (earlier : Behind) × (past ≡ Took call ∷ earlier) × HasNoCopy call.copy
-    × (call.seq ≡ seq)
-LeavesOpen past (Over seq at ticket cap) = (entry : Entry) × (window : ℕ) × (earlier : Behind)
-    × (past ≡ Drawn seq entry.name window ticket ∷ earlier) × (cap ≤ ticket)
-    × (slice_get (chain past).entries at ≡ Some entry)
-    × ((policy : Policy) × (policy_of entry.name earlier ≡ Some policy) × (cap_of policy ≡ Some cap))
+LeavesOpen past Nothing = IsNoRefusalDue past
+LeavesOpen past (Waits seq) = IsMalformedRefusalDue past seq
+LeavesOpen past (Over seq at ticket cap) = IsQuotaRefusalDue past seq at ticket cap
 
 -- there is room for all engines and all calls
 pub record HasRoom (c : Checker) : Type 0 where
@@ -105,20 +126,60 @@ pub record HasRoom (c : Checker) : Type 0 where
   pub latest : 8 ≤ vec_capacity c.latest
   pub calls : MAX_CALLS ≤ deque_capacity c.reached
 
--- A checker knows what is behind: that came as the rules say, and the checker's fields are what it has made.
+-- the trace is legal so far, and the checker's engines and calls are what it has made
+abbrev pub HasRowOf : Table → Behind → Checker → Type 0
+HasRowOf T past c = IsRowBehind (under T c) past c.engines.items c.attached c.calls c.reached.items c.moment
+
+-- the checker's numbers are those of the pending calls
+abbrev pub HasNumbersOf : Behind → Checker → Type 0
+HasNumbersOf past c = numbers_of c ≡ map (λ call. call.seq) (standing past)
+
+-- they rise, and none is above that of the latest call
+abbrev pub HasRisingNumbers : Checker → Type 0
+HasRisingNumbers c = IsRising 0 c.taken (numbers_of c)
+
+-- the checker has counted the accepted calls
+abbrev pub HasTakenOf : Behind → Checker → Type 0
+HasTakenOf past c = c.taken ≡ length (taken past)
+
+-- for each engine it has the greatest number of a call that the engine noted something of
+abbrev pub HasLatestOf : Behind → Checker → Type 0
+HasLatestOf past c = AllZip (IsLatest past) c.engines.items c.latest.items
+
+-- it knows whether the link failed
+abbrev pub HasLinkOf : Behind → Checker → Type 0
+HasLinkOf past c = c.failed ≡ has_failed past
+
+-- its calls are valid for the table
+abbrev pub HasCallsOf : Table → Checker → Type 0
+HasCallsOf T c = All (λ s. IsCallOf T s.call) c.calls
+
+-- there were no more attachments than events
+abbrev pub HasFewAttachments : Behind → Checker → Type 0
+HasFewAttachments past c = c.attached ≤ length past
+
+-- no entry has had more new versions than there were events
+abbrev pub HasFewVersions : Behind → Checker → Type 0
+HasFewVersions past c = All (λ e. e.entry.version ≤ length past + 1) c.engines.items
+
+-- no line of a pending call was read yet
+abbrev pub HasReadNoPending : Checker → Type 0
+HasReadNoPending c = (c.told ≡ 0) × (c.position ≡ MAX_ENGINES)
+
+-- The state of a checker after a trace: the trace is legal so far, and the checker's fields are what it has made.
 pub record Knows (T : Table) (past : Behind) (c : Checker) : Type 0 where
-  pub row : IsRowBehind (under T c) past c.engines.items c.attached c.calls c.reached.items c.moment
-  pub numbers : numbers_of c ≡ map (λ call. call.seq) (standing past)
-  pub rising : IsRising 0 c.taken (numbers_of c)
-  pub taken : c.taken ≡ length (taken past)
-  pub latest : AllZip (IsLatest past) c.engines.items c.latest.items
-  pub failed : c.failed ≡ has_failed past
+  pub row : HasRowOf T past c
+  pub numbers : HasNumbersOf past c
+  pub rising : HasRisingNumbers c
+  pub taken : HasTakenOf past c
+  pub latest : HasLatestOf past c
+  pub failed : HasLinkOf past c
   pub left : LeavesOpen past c.left
-  pub of_table : All (λ s. IsCallOf T s.call) c.calls
-  pub attachments : c.attached ≤ length past
-  pub versions : All (λ e. e.entry.version ≤ length past + 1) c.engines.items
+  pub of_table : HasCallsOf T c
+  pub attachments : HasFewAttachments past c
+  pub versions : HasFewVersions past c
   pub room : HasRoom c
-  pub untold : (c.told ≡ 0) × (c.position ≡ MAX_ENGINES)
+  pub untold : HasReadNoPending c
 
 -- it knows some trace, whose length stays below 2^32 by some margin
 abbrev pub IsKnowing : Table → Checker → Type 0

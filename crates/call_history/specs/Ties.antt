@@ -6,6 +6,7 @@ use Rattle.engine_core.specs.Marks.{HasMarksUpTo, IsTrueFor, StandingCall, past_
 use Rattle.engine_core.specs.Policies.{first_level, level_under}
 use Rattle.engine_core.specs.Turns.{noted_in}
 use Rattle.engine_core.specs.Working.{Works}
+use Rattle.engine_core.specs.declared.op.Op.{Op as Operation}
 use Rattle.engine_core.specs.declared.op.Op.TheVariants.{Attach, Detach, Upgrade}
 use Rattle.engine_core.specs.declared.outcome.Outcome.{Outcome}
 use Rattle.engine_core.specs.declared.outcome.Outcome.TheVariants as outcomes
@@ -55,47 +56,86 @@ worked e seq outcome past = note_behind e.name seq (noted_in outcome) past
 
 -- ---- how they go on
 
--- a call of the next number is taken, with a copy that bears no mark yet
+-- In each law, engines and calls are what a trace has made. One event later, the changed ones are what the trace with
+-- that event has made.
+
+-- the call has the next number: one more than there are accepted calls
+abbrev pub HasNextNumber : Behind → Taken → Type 0
+HasNextNumber past call = call.seq ≡ length (taken past) + 1
+
+-- the pending call is the copy that was made of an accepted one
+abbrev pub IsAcceptedCopy : ℕ → Taken → StandingCall → Type 0
+IsAcceptedCopy conn call s = copied conn call call.copy ≡ Some s.call
+
+-- no engine has marked the pending call
+abbrev pub IsUnmarked : StandingCall → Type 0
+IsUnmarked s = s.marks ≡ []
+
+-- a call of the next number is accepted: its copy joins the pending calls, without a mark
 abbrev pub TakesOn : Type 0
 TakesOn = (u : Under) (past : Behind) (engines : List EngineParts) (attached : ℕ) (calls : List StandingCall)
     (call : Taken) (s : StandingCall) → IsPrefix u past → AreTied u.conn past engines attached calls
-    → IsNumberApart call.seq calls → call.seq ≡ length (taken past) + 1 → copied u.conn call call.copy ≡ Some s.call
-    → s.marks ≡ [] → AreTied u.conn (Took call ∷ past) engines attached (calls ++ s ∷ [])
+    → IsNumberApart call.seq calls → HasNextNumber past call → IsAcceptedCopy u.conn call s → IsUnmarked s
+    → AreTied u.conn (Took call ∷ past) engines attached (calls ++ s ∷ [])
 
--- an entry is attached
+-- the operation is valid for the chain that the history has made, which it changes
+abbrev pub IsApplicable : Behind → Operation → Type 0
+IsApplicable past operation = Changes (chain past) operation (changed operation (chain past))
+
+-- the engine of a new entry: its policy's first level, as of the latest timestamp
+abbrev pub new_engine : Behind → Entry → EngineParts
+new_engine past entry = record { entry = entry; level = first_level entry.policy; last = moment past }
+
+-- an entry is attached: its engine joins the others at its position, under the next attachment number
 abbrev pub AttachesOn : Type 0
 AttachesOn = (conn : ℕ) (past : Behind) (engines : List EngineParts) (attached : ℕ) (calls : List StandingCall)
     (at : ℕ) (name label : List ℕ) (policy : Policy) → AreTied conn past engines attached calls
-    → Changes (chain past) (Attach at name label policy) (changed (Attach at name label policy) (chain past))
-    → AreTied conn (Op (Attach at name label policy) ∷ past) (insert engines at (record {
-      entry = new_entry name (attached + 1) policy;
-      level = first_level policy;
-      last = moment past;
-    })) (attached + 1) calls
+    → IsApplicable past (Attach at name label policy)
+    → AreTied conn (Op (Attach at name label policy) ∷ past)
+    (insert engines at (new_engine past (new_entry name (attached + 1) policy))) (attached + 1) calls
 
--- the entry of a name leaves
+-- the engine is at this position of the chain
+abbrev pub IsEngineAt : List EngineParts → ℕ → EngineParts → Type 0
+IsEngineAt engines position e = slice_get engines position ≡ Some e
+
+-- the engine's entry has this name
+abbrev pub IsEngineNamed : List ℕ → EngineParts → Type 0
+IsEngineNamed name e = e.entry.name ≡ name
+
+-- the entry of a name is detached: its engine leaves
 abbrev pub DetachesOn : Type 0
 DetachesOn = (u : Under) (past : Behind) (engines : List EngineParts) (attached : ℕ) (calls : List StandingCall)
     (name : List ℕ) (place : ℕ) (e : EngineParts) → IsPrefix u past → AreTied u.conn past engines attached calls
-    → slice_get engines place ≡ Some e → e.entry.name ≡ name
+    → IsEngineAt engines place e → IsEngineNamed name e
     → AreTied u.conn (Op (Detach name) ∷ past) (remove engines place) attached calls
 
--- the entry of a name gets another policy
+-- the second engine is the first with another policy: a level that is converted, and the same timestamp; and marks that
+-- were true for the first are true for it
+pub record IsUpgradedEngine (policy : Policy) (e e' : EngineParts) : Type 0 where
+  pub entry : e'.entry ≡ upgraded e.entry policy
+  pub level : e'.level ≡ level_under e.entry.policy policy e.level
+  pub last : e'.last ≡ e.last
+  pub true_for : (s : StandingCall) → IsTrueFor e.entry s → IsTrueFor e'.entry s
+
+-- the entry of a name gets another policy: its engine is replaced
 abbrev pub UpgradesOn : Type 0
 UpgradesOn = (u : Under) (past : Behind) (engines : List EngineParts) (attached : ℕ) (calls : List StandingCall)
     (name label : List ℕ) (policy : Policy) (place : ℕ) (e e' : EngineParts) → IsPrefix u past
-    → AreTied u.conn past engines attached calls → slice_get engines place ≡ Some e → e.entry.name ≡ name
-    → e'.entry ≡ upgraded e.entry policy → e'.level ≡ level_under e.entry.policy policy e.level → e'.last ≡ e.last
-    → ((s : StandingCall) → IsTrueFor e.entry s → IsTrueFor e'.entry s)
+    → AreTied u.conn past engines attached calls → IsEngineAt engines place e → IsEngineNamed name e
+    → IsUpgradedEngine policy e e'
     → AreTied u.conn (Op (Upgrade name label policy) ∷ past) (set engines place e') attached calls
 
--- the clock shows a later moment
+-- each engine after a later timestamp
+abbrev pub all_clocked : ℕ → List EngineParts → List EngineParts
+all_clocked now engines = map (λ e. clocked now e) engines
+
+-- the clock advances to a later timestamp: time passes for each engine
 abbrev pub ShowsOn : Type 0
 ShowsOn = (u : Under) (past : Behind) (engines : List EngineParts) (attached : ℕ) (calls : List StandingCall)
     (now : ℕ) → IsPrefix u past → AreTied u.conn past engines attached calls → moment past < now
-    → AreTied u.conn (Moment now ∷ past) (map (λ e. clocked now e) engines) attached calls
+    → AreTied u.conn (Moment now ∷ past) (all_clocked now engines) attached calls
 
--- an engine has worked on a call
+-- an engine has worked on a call: both are replaced, and the event records the outcome
 abbrev pub WorksOn : Type 0
 WorksOn = (u : Under) (past : Behind) (engines : List EngineParts) (attached : ℕ) (calls : List StandingCall)
     (position place now : ℕ) (outcome : Outcome) (engines' : List EngineParts) (calls' : List StandingCall)

@@ -3,7 +3,9 @@ use Rattle.std.specs.Prelude.{◌≡◌, ℕ, ◌<◌, ◌⊎◌, List, [], ◌+
 use Rattle.std.specs.List.{sum_by}
 use Rattle.mrpc_base.specs.declared.tickets.TheConstants.{WINDOWS}
 use Rattle.mrpc_table.specs.Weight.{weight}
+use Rattle.mrpc_table.specs.declared.call.Call.{Call}
 use Rattle.engine_core.specs.Marks.{StandingCall}
+use Rattle.engine_core.specs.Working.{AreTenantsKept, IsLaterState}
 use Rattle.engine_core.specs.declared.op.Op.{Op}
 use Rattle.engine_core.specs.declared.op.Op.TheVariants.{Attach, Detach, Upgrade}
 use Rattle.engine_core.specs.declared.outcome.Outcome.{Outcome}
@@ -72,46 +74,63 @@ pub record FailsToSend {L : Type 0} (Refused : L → List ℕ → L → Type 0) 
   pub ready : IsReady (under before) (course before) seq bytes
   pub refused : Refused old (frame_of before.table ready.sent) new
 
--- A link failed at the frame of the first ready call, after the state advanced by `Front`; the calls that were
--- pending then are refused. `link` is the link before that send. `Refused` is the relation of a failed send of a
--- frame, `handed_of` gives the sent frames and `faults_of` the number of failures. `Since first later` means
--- that `later` is a later state of `first`.
+-- the failure of the link refuses all calls that are pending by then, which leaves the connection as it is after
+abbrev pub IsFailureFrom : Connection → Course → Connection → Type 0
+IsFailureFrom before between after = Comes (under before) between fails (course after)
+
+-- the frame of a call of the connection
+abbrev pub frame_in : Connection → Call → List ℕ
+frame_in before call = frame_of before.table call
+
+-- Some steps (`Front`) lead to the first call that is ready, and the link fails at its frame. `Refused` says what a
+-- failed send of a frame makes of a link, `handed_of` returns the frames that were handed over, `faults_of` the number
+-- of failures, and `Since` says that its second argument is a later state of the first.
 pub record FailsAfter {L : Type 0} (Front : Under → Course → Course → Type 0) (Refused : L → List ℕ → L → Type 0)
     (handed_of : L → List (List ℕ)) (faults_of : L → ℕ) (Since : L → L → Type 0) (before after : Connection)
     (old new : L) : Type 0 where
+  -- the connection and the link right before that send
   pub between : Course
   pub link : L
   pub front : Front (under before) (course before) between
+  -- the number of the call and the size of its frame
   pub seq : ℕ
   pub bytes : ℕ
   pub ready : IsReady (under before) between seq bytes
-  pub failed : Comes (under before) between fails (course after)
-  pub refused : Refused link (frame_of before.table ready.sent) new
+  pub failed : IsFailureFrom before between after
+  pub refused : Refused link (frame_in before ready.sent) new
+  -- that send hands nothing over, and those before it don't fail
   pub same_handed : handed_of link ≡ handed_of new
   pub same_faults : faults_of link ≡ faults_of old
-  pub since : (first : L) → Since first old → Since first link
+  pub since : IsLaterState Since old link
 
 -- a drain as far as it went until the link failed
 abbrev pub FailsInDrain : {L : Type 0} → (L → List ℕ → L → Type 0) → (L → List (List ℕ)) → (L → ℕ) → (L → L → Type 0)
     → Connection → Connection → L → L → Type 0
 FailsInDrain Refuses handed_of faults_of Since = FailsAfter BeginsToDrain Refuses handed_of faults_of Since
 
--- the tickets drawn in a tenant's window, if they are known, are those that the history adds, and no others
-abbrev pub Draws : ℕ → ℕ → Connection → Connection → Option (List ℕ) → Option (List ℕ) → Type 0
-Draws tenant window before after drawn drawn' = IfSome drawn' (λ now. IsSomeAnd drawn (λ earlier.
-    (more : List ℕ) × (tickets_behind tenant window (behind after) ≡ tickets_behind tenant window (behind before)
-    ++ more)
-    × (now ≡ earlier ++ more)))
+-- the tickets of a tenant's window that were drawn on the connection
+abbrev pub drawn_tickets_on : ℕ → ℕ → Connection → List ℕ
+drawn_tickets_on tenant window c = tickets_behind tenant window (behind c)
 
--- the tickets after a transition: those that the history draws are drawn, in windows of known tenants. `Knows`
--- gives the tenants, `drawn_of` the drawn tickets. `Since first later` means that `later` is a later state of
--- `first`.
+-- as many tickets as the connection drew meanwhile were added to the earlier ones, the same ones in the same order
+abbrev pub HasDrawnMore : ℕ → ℕ → Connection → Connection → List ℕ → List ℕ → Type 0
+HasDrawnMore tenant window before after earlier now = (more : List ℕ)
+    × (drawn_tickets_on tenant window after ≡ drawn_tickets_on tenant window before ++ more) × (now ≡ earlier ++ more)
+
+-- of the tickets of a tenant's window, where they are known, those were drawn that the history has, and no others
+abbrev pub Draws : ℕ → ℕ → Connection → Connection → Option (List ℕ) → Option (List ℕ) → Type 0
+Draws tenant window before after drawn drawn' =
+    IfSome drawn' (λ now. IsSomeAnd drawn (λ earlier. HasDrawnMore tenant window before after earlier now))
+
+-- What a step makes of the tickets: those are drawn that the history has, in windows of known tenants. `Knows` says
+-- which tenants have tickets, `drawn_of` returns the tickets that were drawn, and `Since` says that its second argument
+-- is a later state of the first.
 pub record DrawsTickets {Q : Type 0} (Knows : Q → ℕ → Type 0) (drawn_of : Q → ℕ → ℕ → Option (List ℕ))
     (Since : Q → Q → Type 0) (before after : Connection) (old new : Q) : Type 0 where
   pub drawn : (tenant window : ℕ) → Knows old tenant → window < WINDOWS
       → Draws tenant window before after (drawn_of old tenant window) (drawn_of new tenant window)
-  pub knows : (tenant : ℕ) → Knows old tenant → Knows new tenant
-  pub since : (first : Q) → Since first old → Since first new
+  pub knows : AreTenantsKept Knows old new
+  pub since : IsLaterState Since old new
 
 -- the number of parts of the trees of calls, and of the pending calls
 abbrev pub parts_of : List StandingCall → ℕ

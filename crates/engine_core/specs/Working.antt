@@ -22,15 +22,18 @@ use Rattle.engine_core.specs.declared.outcome.Why.TheVariants.{Denied}
 use Rattle.engine_core.specs.declared.outcome.Outcome.{Outcome}
 use Rattle.engine_core.specs.declared.outcome.Outcome.TheVariants.{Passed, Refused, Redacted}
 
+-- a mark of the call says that this version of the entry's policy allowed it
+abbrev pub IsMarkedAllowed : Entry → StandingCall → Type 0
+IsMarkedAllowed entry s = is_allowed s.marks entry.attach entry.version ≡ true
+
 -- a turn of an engine, for a call with its marks
 pub record IsTurn (e : EngineParts) (moment : ℕ) (s : StandingCall) (outcome : Outcome) : Type 0 where
-  -- The turn is that of an entry with the notes of the marks. The condition: if a mark means that this version
-  -- allowed the call, the policy does allow it.
-  pub comes : (is_allowed s.marks e.entry.attach e.entry.version ≡ true → IsAllowing e.entry.policy s.call)
+  -- where the policy allows a call of which a mark says that it did, the turn is that of an entry of which the marks
+  -- say what was noted
+  pub comes : (IsMarkedAllowed e.entry s → IsAllowing e.entry.policy s.call)
       → ComesOut e.entry.policy e.level moment s.call (past_of s.marks e.entry.attach) outcome
-  -- a call that the policy has allowed passes, whatever its verdict now
-  pub allowed : is_allowed s.marks e.entry.attach e.entry.version ≡ true → IsAccess e.entry.policy
-      → outcome ≡ Passed Nothing
+  -- a call that the policy has allowed passes, whatever the policy says of it
+  pub allowed : IsMarkedAllowed e.entry s → IsAccess e.entry.policy → outcome ≡ Passed Nothing
   -- a call is denied by one of the rules, or by the default
   pub rule : (p : AccessPolicy) (noted : Noted) (rule : ℕ) → e.entry.policy ≡ Access p
       → outcome ≡ Refused noted (Denied rule) → rule ≤ length p.rules
@@ -54,54 +57,111 @@ pub record LeavesCall (policy : Policy) (outcome : Outcome) (before after : Call
 abbrev pub IsAllowance : Policy → Outcome → Type 0
 IsAllowance policy outcome = IsAccess policy × (outcome ≡ Passed Nothing)
 
--- the effect of a turn of this entry's engine on the marks
-pub record LeavesMarks (entry : Entry) (outcome : Outcome) (before after : StandingCall) : Type 0 where
-  -- earlier notes for the entry are kept, and the note of this turn is added
-  pub noted : IsSilent entry.policy (past_of before.marks entry.attach)
-      → past_of after.marks entry.attach ≡ past_after (noted_in outcome) (past_of before.marks entry.attach)
-  pub others : (a : ℕ) → a ≢ entry.attach → past_of after.marks a ≡ past_of before.marks a
-  -- a call that an access policy allowed has its mark, which no other turn sets
-  pub allowing : IsAccess entry.policy → outcome ≡ Passed Nothing
-      → is_allowed after.marks entry.attach entry.version ≡ true
-  pub allowing_alone : (version : ℕ) → is_allowed before.marks entry.attach version ≡ false
-      → is_allowed after.marks entry.attach version ≡ true
-      → IsAllowance entry.policy outcome × (version ≡ entry.version)
-  -- such marks of others are kept, but a redaction removes them all
-  pub others_allowing : (a version : ℕ) → a ≢ entry.attach
-      → is_allowed after.marks a version
-      ≡ (if is_redacted_by outcome then false else is_allowed before.marks a version)
-  -- a turn that neither notes nor allows adds no mark, and no turn adds a mark of another engine
-  pub none : noted_in outcome ≡ Nothing → (IsAllowance entry.policy outcome → ⊥)
-      → note_of before.marks entry.attach ≡ None → note_of after.marks entry.attach ≡ None
-  pub others_none : (a : ℕ) → a ≢ entry.attach → note_of before.marks a ≡ None → note_of after.marks a ≡ None
-  -- the number of marks of others doesn't grow
-  pub room : length (other_marks entry.attach after.marks) ≤ length (other_marks entry.attach before.marks)
-  -- marks that are true for an entry stay true
-  pub stays_true : (e : Entry) → (e.attach ≡ entry.attach → e ≡ entry) → IsTrueFor e before → IsTrueFor e after
+-- ---- what a turn of an engine makes of the marks of a call
 
--- The effect of a turn on the tickets: the ticket that was drawn is new, and without a draw nothing changes. `Knows`
--- is whose tickets there are, `drawn_of` which ones were drawn, and `Since` that the second is a later state of the
--- first.
+-- the call has no mark of this attachment
+abbrev pub HasNoMarkOf : ℕ → StandingCall → Type 0
+HasNoMarkOf attach s = note_of s.marks attach ≡ None
+
+-- what the marks note for the entry is what they noted before and then the note of this turn
+abbrev pub HasJoinedNote : Entry → Outcome → StandingCall → StandingCall → Type 0
+HasJoinedNote entry outcome before after =
+    past_of after.marks entry.attach ≡ past_after (noted_in outcome) (past_of before.marks entry.attach)
+
+-- what the marks note for other engines is unchanged
+abbrev pub AreOtherNotesKept : Entry → StandingCall → StandingCall → Type 0
+AreOtherNotesKept entry before after =
+    (attach : ℕ) → attach ≢ entry.attach → past_of after.marks attach ≡ past_of before.marks attach
+
+-- only a turn in which the present policy allows the call leaves a new mark that a version of the policy allowed it
+abbrev pub IsOnlyAllowance : Entry → Outcome → StandingCall → StandingCall → Type 0
+IsOnlyAllowance entry outcome before after = (version : ℕ) → is_allowed before.marks entry.attach version ≡ false
+    → is_allowed after.marks entry.attach version ≡ true → IsAllowance entry.policy outcome × (version ≡ entry.version)
+
+-- marks that other engines allowed the call are unchanged, but a redaction takes them all away
+abbrev pub AreOtherAllowancesKept : Entry → Outcome → StandingCall → StandingCall → Type 0
+AreOtherAllowancesKept entry outcome before after = (attach version : ℕ) → attach ≢ entry.attach
+    → is_allowed after.marks attach version
+    ≡ (if is_redacted_by outcome then false else is_allowed before.marks attach version)
+
+-- a turn that neither notes anything nor allows the call adds no mark of the entry
+abbrev pub HasNoNewOwnMark : Entry → Outcome → StandingCall → StandingCall → Type 0
+HasNoNewOwnMark entry outcome before after = noted_in outcome ≡ Nothing → (IsAllowance entry.policy outcome → ⊥)
+    → HasNoMarkOf entry.attach before → HasNoMarkOf entry.attach after
+
+-- no turn adds a mark of another engine
+abbrev pub HasNoNewOtherMark : Entry → StandingCall → StandingCall → Type 0
+HasNoNewOtherMark entry before after =
+    (attach : ℕ) → attach ≢ entry.attach → HasNoMarkOf attach before → HasNoMarkOf attach after
+
+-- there are no more marks of other engines than before
+abbrev pub HasNoMoreOtherMarks : Entry → StandingCall → StandingCall → Type 0
+HasNoMoreOtherMarks entry before after =
+    length (other_marks entry.attach after.marks) ≤ length (other_marks entry.attach before.marks)
+
+-- marks that were true for an entry are true for it, unless another entry has its attachment number
+abbrev pub AreMarksStillTrue : Entry → StandingCall → StandingCall → Type 0
+AreMarksStillTrue entry before after =
+    (e : Entry) → (e.attach ≡ entry.attach → e ≡ entry) → IsTrueFor e before → IsTrueFor e after
+
+-- what a turn of an engine of this entry makes of the marks
+pub record LeavesMarks (entry : Entry) (outcome : Outcome) (before after : StandingCall) : Type 0 where
+  pub noted : IsSilent entry.policy (past_of before.marks entry.attach) → HasJoinedNote entry outcome before after
+  pub others : AreOtherNotesKept entry before after
+  -- a call that an access policy allowed has its mark, which no other turn leaves
+  pub allowing : IsAccess entry.policy → outcome ≡ Passed Nothing → IsMarkedAllowed entry after
+  pub allowing_alone : IsOnlyAllowance entry outcome before after
+  pub others_allowing : AreOtherAllowancesKept entry outcome before after
+  pub none : HasNoNewOwnMark entry outcome before after
+  pub others_none : HasNoNewOtherMark entry before after
+  pub room : HasNoMoreOtherMarks entry before after
+  pub stays_true : AreMarksStillTrue entry before after
+
+-- ---- what a turn of an engine makes of the tickets
+
+-- Of the parameters below, `Knows` says which tenants have tickets, `drawn_of` returns the tickets that were drawn of a
+-- tenant's window, and `Since` says that its second argument is a later state of the first.
+
+-- a turn draws from one tenant's window at most: the drawn tickets of each other one are unchanged
+abbrev pub AreOtherTicketsKept : {Q : Type 0} → (Q → ℕ → Type 0) → (Q → ℕ → ℕ → Option (List ℕ)) → Policy → Noted → Q
+    → Q → Type 0
+AreOtherTicketsKept Knows drawn_of policy noted before after = (tenant window : ℕ) → Knows before tenant
+    → window < WINDOWS → IsElsewhere policy noted tenant window
+    → drawn_of after tenant window ≡ drawn_of before tenant window
+
+-- each known tenant is still known
+abbrev pub AreTenantsKept : {Q : Type 0} → (Q → ℕ → Type 0) → Q → Q → Type 0
+AreTenantsKept Knows before after = (tenant : ℕ) → Knows before tenant → Knows after tenant
+
+-- a policy whose tenant was known, if it has one, still has a known one
+abbrev pub ArePolicyTenantsKept : {Q : Type 0} → (Q → ℕ → Type 0) → Q → Q → Type 0
+ArePolicyTenantsKept Knows before after =
+    (policy : Policy) → KnowsTenantOf (Knows before) policy → KnowsTenantOf (Knows after) policy
+
+-- whatever the one before is a later state of, so is the one after
+abbrev pub IsLaterState : {Q : Type 0} → (Q → Q → Type 0) → Q → Q → Type 0
+IsLaterState {Q} Since before after = (first : Q) → Since first before → Since first after
+
+-- what a turn makes of the tickets: it draws one, which is new, or changes nothing
 pub record LeavesTickets {Q : Type 0} (Knows : Q → ℕ → Type 0) (drawn_of : Q → ℕ → ℕ → Option (List ℕ))
     (Since : Q → Q → Type 0) (policy : Policy) (noted : Noted) (before after : Q) : Type 0 where
   pub drawn : TellsDraw (drawn_of before) (drawn_of after) policy noted
-  pub elsewhere : (tenant window : ℕ) → Knows before tenant → window < WINDOWS
-      → IsElsewhere policy noted tenant window → drawn_of after tenant window ≡ drawn_of before tenant window
-  pub knows : (tenant : ℕ) → Knows before tenant → Knows after tenant
-  pub known : (p : Policy) → KnowsTenantOf (Knows before) p → KnowsTenantOf (Knows after) p
+  pub elsewhere : AreOtherTicketsKept Knows drawn_of policy noted before after
+  pub knows : AreTenantsKept Knows before after
+  pub known : ArePolicyTenantsKept Knows before after
   pub undrawn : is_draw noted ≡ false → after ≡ before
-  pub since : (first : Q) → Since first before → Since first after
+  pub since : IsLaterState Since before after
 
 -- the call has marks of these engines alone
 abbrev pub HasOnlyMarksOf : List EngineParts → StandingCall → Type 0
-HasOnlyMarksOf engines s = (attach : ℕ) → All (λ e. e.entry.attach ≢ attach) engines → note_of s.marks attach ≡ None
+HasOnlyMarksOf engines s = (attach : ℕ) → All (λ e. e.entry.attach ≢ attach) engines → HasNoMarkOf attach s
 
 -- the call keeps its marks of these engines, loses all others, and gets no new ones
 pub record KeepsMarksOf (engines : List EngineParts) (before after : StandingCall) : Type 0 where
   pub call : after.call ≡ before.call
   pub kept : All (λ e. note_of after.marks e.entry.attach ≡ note_of before.marks e.entry.attach) engines
   pub gone : HasOnlyMarksOf engines after
-  pub none : (attach : ℕ) → note_of before.marks attach ≡ None → note_of after.marks attach ≡ None
+  pub none : (attach : ℕ) → HasNoMarkOf attach before → HasNoMarkOf attach after
 
 -- The engine at a position works on the call at an index of a row. The call keeps only its marks of the chain's
 -- engines.

@@ -21,34 +21,57 @@ pub record IsHeaderOf (bytes : List ℕ) (h : Header) : Type 0 where
   pub conn : h.conn ≡ big_number 4 (drop 8 bytes)
   pub number : h.number ≡ big_number 4 (drop 12 bytes)
 
--- the header at the start of two parts has no fault, and the first part ends inside its frame
+-- the bytes of the header: the first 16 of the two parts, or all where they are fewer
+abbrev pub header_part : List ℕ → List ℕ → List ℕ
+header_part begun piece = take HEADER_LEN (begun ++ piece)
+
+-- the two parts have all bytes of the header
+abbrev pub HasWholeHeader : List ℕ → List ℕ → Type 0
+HasWholeHeader begun piece = HEADER_LEN ≤ length (header_part begun piece)
+
+-- the header of the two parts has no fault, and the first part doesn't have its whole frame
 pub record IsClear (place : ℕ) (begun piece : List ℕ) (h : Header) : Type 0 where
-  pub clean : HasFault place (take HEADER_LEN (begun ++ piece)) None
-  pub long : HEADER_LEN ≤ length (take HEADER_LEN (begun ++ piece))
-  pub header : IsHeaderOf (take HEADER_LEN (begun ++ piece)) h
+  pub clean : HasFault place (header_part begun piece) None
+  pub long : HasWholeHeader begun piece
+  pub header : IsHeaderOf (header_part begun piece) h
   pub small : h.length ≤ MAX_PAYLOAD
   pub longer : length begun < HEADER_LEN + h.length
 
--- this frame starts in `begun` and ends in `piece`
+-- the number of bytes of a frame, its header included
+abbrev pub frame_size : Frame → ℕ
+frame_size f = HEADER_LEN + length f.payload
+
+-- what the second part has after the end of the frame
+abbrev pub after_frame : List ℕ → List ℕ → Frame → List ℕ
+after_frame begun piece f = drop (frame_size f - length begun) piece
+
+-- the frame starts with the first part, and ends in the second
 pub record EndsFrame (place : ℕ) (begun piece : List ℕ) (f : Frame) : Type 0 where
   pub frame : IsFrame f
   pub stands : f.place ≡ place
-  pub longer : length begun < HEADER_LEN + length f.payload
-  pub within : HEADER_LEN + length f.payload ≤ length begun + length piece
-  pub bytes : begun ++ piece ≡ bytes_of f ++ drop (HEADER_LEN + length f.payload - length begun) piece
+  pub longer : length begun < frame_size f
+  pub within : frame_size f ≤ length begun + length piece
+  pub bytes : begun ++ piece ≡ bytes_of f ++ after_frame begun piece f
 
--- the header of two parts: no whole frame, and a fault; no whole frame, and no fault so far; or a complete header
--- without a fault, whose frame doesn't end in the first part
+-- the bytes have no whole frame, but this fault
+abbrev pub HasOnlyFault : ℕ → List ℕ → FeedFault → Type 0
+HasOnlyFault place bytes fault = HasNoFrame place bytes (Some fault)
+
+-- the bytes have no whole frame, and no fault so far
+abbrev pub IsUnfinished : ℕ → List ℕ → Type 0
+IsUnfinished place bytes = HasNoFrame place bytes None
+
+-- what the two parts have up to their first header: a fault, too few bytes to decide, or a header without a fault
 abbrev pub Begins : ℕ → List ℕ → List ℕ → Beginning → Type 0
-Begins place begun piece (BadField e) = HasNoFrame place (begun ++ piece) (Some e)
-Begins place begun piece Short = HasNoFrame place (begun ++ piece) None
-Begins place begun piece (Clear h) = IsClear place begun piece h
+Begins place begun piece (BadField fault) = HasOnlyFault place (begun ++ piece) fault
+Begins place begun piece Short = IsUnfinished place (begun ++ piece)
+Begins place begun piece (Clear header) = IsClear place begun piece header
 
--- what is at the start of two parts
+-- what the two parts have first: a whole frame, a part of one, or a fault
 abbrev pub IsFront : ℕ → List ℕ → List ℕ → Front → Type 0
-IsFront place begun piece (Whole f) = EndsFrame place begun piece f
-IsFront place begun piece Partial = HasNoFrame place (begun ++ piece) None
-IsFront place begun piece (Fault e) = HasNoFrame place (begun ++ piece) (Some e)
+IsFront place begun piece (Whole frame) = EndsFrame place begun piece frame
+IsFront place begun piece Partial = IsUnfinished place (begun ++ piece)
+IsFront place begun piece (Fault fault) = HasOnlyFault place (begun ++ piece) fault
 
 -- the bytes after these frames: the remainder of the piece, preceded by the partial frame if there are no whole frames
 abbrev pub begun_behind : List Frame → List ℕ → List ℕ → List ℕ

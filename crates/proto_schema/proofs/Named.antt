@@ -157,11 +157,11 @@ pub data RpcAt (ys : List Lexeme) : Type 0 where
       → Walks (StepGoes places.Service) states.Begin ys (states.Rpc (rpcs.Output name input names.Start)) → RpcAt ys
 
 rpc_at : {d : Draft} {ys : List Lexeme} → BeforeRpcType d ys → RpcAt ys
-rpc_at (Faults.input a b c n k ha hb hc e) =
+rpc_at (Faults.input k (Faults.rpc_opening a b c n ha hb hc)) =
     let name : Word = word_at n b.span in
-    at_input name (go a (b ∷ c ∷ []) e (rpc_word a ha) (walks_in RpcGoes (StepGoes places.Service) (λ s. states.Rpc s) (in_rpc places.Service)
+    at_input name (go a (b ∷ c ∷ []) refl (rpc_word a ha) (walks_in RpcGoes (StepGoes places.Service) (λ s. states.Rpc s) (in_rpc places.Service)
     (go b (c ∷ []) refl (start_goes b n hb) (go c [] refl (named_goes name c hc) (stay refl refl)))))
-rpc_at (Faults.output a b c e f g n {is = is} {w = w} k ha hb hc t he hf hg q) =
+rpc_at (Faults.output {is = is} {w = w} k (Faults.rpc_opening a b c n ha hb hc) t (Faults.returns_opening e f g he hf hg) q) =
     let name : Word = word_at n b.span in
     let ends : Walks RpcGoes (rpcs.Input name names.Start) (is ++ e ∷ f ∷ g ∷ []) (rpcs.Output name w names.Start) =
     walks_on RpcGoes (walks_in RpcTypeGoes RpcGoes (λ s. rpcs.Input name s) (in_input name) (rpc_type_reads t))
@@ -170,8 +170,8 @@ rpc_at (Faults.output a b c e f g n {is = is} {w = w} k ha hb hc t he hf hg q) =
     (go b (c ∷ (is ++ e ∷ f ∷ g ∷ [])) refl (start_goes b n hb) (go c (is ++ e ∷ f ∷ g ∷ []) refl (named_goes name c hc) ends))))
 
 in_service : {d : Draft} {ys : List Lexeme} → BeforeRpcType d ys → place_of d ≡ places.Service
-in_service {d = d} (Faults.input a b c n k ha hb hc e) = in_block d a_service k
-in_service {d = d} (Faults.output a b c e f g n k ha hb hc t he hf hg q) = in_block d a_service k
+in_service {d = d} (Faults.input k opening) = in_block d a_service k
+in_service {d = d} (Faults.output k opening t returns q) = in_block d a_service k
 
 input_group : (name : Word) (x : Lexeme) → IsWord x (codes "group")
     → statement_step places.Service (states.Rpc (rpcs.Input name names.Start)) x ≡ Err (fault_at reasons.Group x.span)

@@ -287,7 +287,7 @@ input_on d name s ys x (input_so_far a b c word ns k ha hb hc o t q) = by (rpc_t
         (λ zs w v. subst (λ (l : List Lexeme). RpcType l w) (sym (append_assoc ns (x ∷ []) zs)) (t (x ∷ zs) w (i zs w v))) longer
     by (Ok (name_steps.Whole w)) p i =
         returns_so_far a b c x word {is = ns} {w = w} k ha hb hc (subst (λ (l : List Lexeme). RpcType l w) (append-nil ns) (t [] w i.0)) i.1 longer
-    by (Err e) p i = type_fault (Faults.input a b c word k ha hb hc refl) q p
+    by (Err e) p i = type_fault (Faults.input k (Faults.rpc_opening a b c word ha hb hc)) q p
 
 output_on : (d : Draft) (name input : Word) (s : NameState) (ys : List Lexeme) (x : Lexeme) → OutputSoFar d s ys
     → RpcOn d ys x (of_output name input (rpc_type_step s x))
@@ -313,8 +313,8 @@ open_on : (d : Draft) (name input : Word) (ys : List Lexeme) (x : Lexeme) → Op
     → RpcOn d ys x (if is_mark x.means opening_paren then more_rpc (rpcs.Output name input names.Start) else wrong x)
 open_on d name input ys x (open_so_far a b c e f word {is = is} k ha hb hc t he hf q) =
     either_is (RpcOn d ys x) (is_mark x.means opening_paren) (more_rpc (rpcs.Output name input names.Start)) (wrong x)
-    (λ h. output_so_far [] (Faults.output a b c e f x word k ha hb hc t he hf (mark_is x.means opening_paren h)
-    (one_more a b c is (e ∷ f ∷ []) ys x q)) refl (sym (append-nil (ys ++ x ∷ []))))
+    (λ h. output_so_far [] (Faults.output k (Faults.rpc_opening a b c word ha hb hc) t
+    (Faults.returns_opening e f x he hf (mark_is x.means opening_paren h)) (one_more a b c is (e ∷ f ∷ []) ys x q)) refl (sym (append-nil (ys ++ x ∷ []))))
     (λ h. unlike)
 
 start_on : (d : Draft) (ys : List Lexeme) (x : Lexeme) → StartSoFar d ys

@@ -25,13 +25,17 @@ use Rattle.proto_parts.specs.declared.fault.ProtoFault.TheVariants as fault
 abbrev pub CanGoOn : List Lexeme → Type 0
 CanGoOn xs = (ys : List Lexeme) × (file : File) × Forms (xs ++ ys) file
 
--- the tokens before this one can be continued, and with it they can't
+-- the token at an index
+abbrev pub IsTokenAt : List Lexeme → ℕ → Lexeme → Type 0
+IsTokenAt ts k x = slice_get ts k ≡ Some x
+
+-- the tokens before this one can go on, and with it they can't
 pub record BreaksAt (ts : List Lexeme) (k : ℕ) (x : Lexeme) : Type 0 where
-  pub here : slice_get ts k ≡ Some x
+  pub here : IsTokenAt ts k x
   pub before : CanGoOn (take k ts)
   pub behind : CanGoOn (take (k + 1) ts) → ⊥
 
--- a statement starts at an index, after statements that declare this
+-- a statement starts at an index, after statements that mean this
 abbrev pub Begins : List Lexeme → ℕ → Draft → Type 0
 Begins ts k d = Says (take k ts) d
 
@@ -43,14 +47,57 @@ is_path (string path) = true
 is_path the_end = true
 is_path m = says m (codes "public")
 
--- from the start of a statement up to the type of an rpc
+-- a token that isn't this word
+abbrev pub IsOtherThan : Lexeme → List ℕ → Type 0
+IsOtherThan x word = says x.means word ≡ false
+
+-- a token, and not text that is none
+abbrev pub IsToken : Lexeme → Type 0
+IsToken x = is_no_token x.means ≡ false
+
+-- no token
+abbrev pub IsNoToken : Lexeme → Type 0
+IsNoToken x = is_no_token x.means ≡ true
+
+-- it can't follow `import`
+abbrev pub IsNoPath : Lexeme → Type 0
+IsNoPath x = is_path x.means ≡ false
+
+-- a name or a dot
+abbrev pub IsTypePart : Lexeme → Type 0
+IsTypePart x = is_type_part x.means ≡ true
+
+-- `extend` or `extensions`
+abbrev pub IsExtension : Lexeme → Type 0
+IsExtension x = says_one_of x (codes "extend" ∷ codes "extensions" ∷ []) ≡ true
+
+-- a statement is one of a service
+abbrev pub InService : Draft → Type 0
+InService d = d.block ≡ a_service
+
+-- a statement is one of the oneof of this index, which has a field already, or none yet
+abbrev pub InOneof : Draft → ℕ → Bool → Type 0
+InOneof d i filled = d.block ≡ a_oneof i filled
+
+-- the brace that was read last opened a message in 32 others
+abbrev pub IsTooDeep : Draft → Type 0
+IsTooDeep d = length d.messages ≡ MAX_OPEN + 1
+
+-- `rpc NAME (`
+pub data IsRpcOpening : List Lexeme → Type 0 where
+  rpc_opening : (x y z : Lexeme) (name : List ℕ) → IsWord x (codes "rpc") → IsWord y name → IsMark z opening_paren
+      → IsRpcOpening (x ∷ y ∷ z ∷ [])
+
+-- `) returns (`
+pub data IsReturnsOpening : List Lexeme → Type 0 where
+  returns_opening : (x y z : Lexeme) → IsMark x closing_paren → IsWord y (codes "returns") → IsMark z opening_paren
+      → IsReturnsOpening (x ∷ y ∷ z ∷ [])
+
+-- the tokens from the start of a statement up to an rpc's type, of its input or of its output
 pub data BeforeRpcType (d : Draft) (all : List Lexeme) : Type 0 where
-  input : (a b c : Lexeme) (name : List ℕ) → d.block ≡ a_service → IsWord a (codes "rpc") → IsWord b name
-      → IsMark c opening_paren → all ≡ a ∷ b ∷ c ∷ [] → BeforeRpcType d all
-  output : (a b c e f g : Lexeme) (name : List ℕ) {is : List Lexeme} {w : Word} → d.block ≡ a_service
-      → IsWord a (codes "rpc") → IsWord b name → IsMark c opening_paren → RpcType is w → IsMark e closing_paren
-      → IsWord f (codes "returns") → IsMark g opening_paren
-      → all ≡ a ∷ b ∷ c ∷ is ++ e ∷ f ∷ g ∷ [] → BeforeRpcType d all
+  input : InService d → IsRpcOpening all → BeforeRpcType d all
+  output : {hs is rs : List Lexeme} {w : Word} → InService d → IsRpcOpening hs → RpcType is w → IsReturnsOpening rs
+      → all ≡ hs ++ is ++ rs → BeforeRpcType d all
 
 -- `map<`, or a map's key and a comma, any number of times
 pub data BeforeMapPart : List Lexeme → Type 0 where
@@ -58,43 +105,41 @@ pub data BeforeMapPart : List Lexeme → Type 0 where
   value : {ks : List Lexeme} {w : Word} → MapKey ks w → BeforeMapPart ks
   inner : {ks ys all : List Lexeme} {w : Word} → MapKey ks w → BeforeMapPart ys → all ≡ ks ++ ys → BeforeMapPart all
 
--- from the start of a statement up to a point where the name of a type starts
+-- the tokens from the start of a statement up to an index where a type's name starts
 pub data BeforeType (d : Draft) (all : List Lexeme) : Type 0 where
   of_rpc : BeforeRpcType d all → BeforeType d all
   of_field : {label : FieldLabel} {words : List (List ℕ)} → InMessage d → LabelOf all label words → BeforeType d all
   of_map : {ls ms : List Lexeme} {label : FieldLabel} {words : List (List ℕ)} → InMessage d → LabelOf ls label words
       → BeforeMapPart ms → all ≡ ls ++ ms → BeforeType d all
-  of_member : (i : ℕ) (filled : Bool) → d.block ≡ a_oneof i filled → all ≡ [] → BeforeType d all
-  of_member_map : (i : ℕ) (filled : Bool) → d.block ≡ a_oneof i filled → BeforeMapPart all → BeforeType d all
+  of_member : (i : ℕ) (filled : Bool) → InOneof d i filled → all ≡ [] → BeforeType d all
+  of_member_map : (i : ℕ) (filled : Bool) → InOneof d i filled → BeforeMapPart all → BeforeType d all
 
 -- the reasons other than `Expected`, each at its token
 pub data IsNamed (ts : List Lexeme) (k : ℕ) : ProtoReason → Type 0 where
-  -- it is not a token
-  no_token : (x : Lexeme) → BreaksAt ts k x → is_no_token x.means ≡ true → IsNamed ts k NoToken
-  -- after `import`, where a statement of the file starts, comes neither a string nor `public`, nor the end of the
+  -- what is at the index is no token
+  no_token : (x : Lexeme) → BreaksAt ts k x → IsNoToken x → IsNamed ts k NoToken
+  -- `import` starts a statement of the file, and the token after it is no string, not `public` and not the end of the
   -- text
-  import : (j : ℕ) (x y : Lexeme) (d : Draft) → k ≡ j + 1 → Begins ts j d → InFile d → slice_get ts j ≡ Some x
-      → IsWord x (codes "import") → slice_get ts k ≡ Some y → is_no_token y.means ≡ false → is_path y.means ≡ false
-      → IsNamed ts k Import
-  -- `stream` starts the type of an rpc, and a name or a dot follows
+  import : (j : ℕ) (x y : Lexeme) (d : Draft) → k ≡ j + 1 → Begins ts j d → InFile d → IsTokenAt ts j x
+      → IsWord x (codes "import") → IsTokenAt ts k y → IsToken y → IsNoPath y → IsNamed ts k Import
+  -- `stream` is where an rpc's type starts, and a name or a dot follows it
   stream : (xs ys zs : List Lexeme) (x y : Lexeme) (d : Draft) → ts ≡ xs ++ ys ++ x ∷ y ∷ zs → length (xs ++ ys) ≡ k
-      → Says xs d → BeforeRpcType d ys → IsWord x (codes "stream") → is_type_part y.means ≡ true → IsNamed ts k Stream
-  -- `group` starts the name of a type
+      → Says xs d → BeforeRpcType d ys → IsWord x (codes "stream") → IsTypePart y → IsNamed ts k Stream
+  -- `group` is where a type's name starts
   group : (xs ys zs : List Lexeme) (x : Lexeme) (d : Draft) → ts ≡ xs ++ ys ++ x ∷ zs → length (xs ++ ys) ≡ k
       → Says xs d → BeforeType d ys → IsWord x (codes "group") → IsNamed ts k Group
   -- `extend` or `extensions` starts a statement of the file or of a message
-  extend : (x : Lexeme) (d : Draft) → Begins ts k d → InBody d → slice_get ts k ≡ Some x
-      → says_one_of x (codes "extend" ∷ codes "extensions" ∷ []) ≡ true → IsNamed ts k Extend
+  extend : (x : Lexeme) (d : Draft) → Begins ts k d → InBody d → IsTokenAt ts k x → IsExtension x → IsNamed ts k Extend
   -- the first token isn't `syntax`
-  no_syntax : (x : Lexeme) → k ≡ 0 → slice_get ts 0 ≡ Some x → is_no_token x.means ≡ false
-      → says x.means (codes "syntax") ≡ false → IsNamed ts k Syntax2
+  no_syntax : (x : Lexeme) → k ≡ 0 → IsTokenAt ts 0 x → IsToken x → IsOtherThan x (codes "syntax")
+      → IsNamed ts k Syntax2
   -- the first statement names another syntax
   other_syntax : (x y z : Lexeme) (us : List Lexeme) (value : List ℕ) → k ≡ 0 → ts ≡ x ∷ y ∷ z ∷ us
       → IsWord x (codes "syntax") → IsMark y equals → z.means ≡ string value → value ≢ codes "proto3"
       → IsNamed ts k Syntax2
-  -- the brace opens a message nested in 32 others; after it no block of the innermost message is open
-  nesting : (x : Lexeme) (d : Draft) → slice_get ts k ≡ Some x → IsMark x opening_brace → Says (take (k + 1) ts) d
-      → InMessage d → length d.messages ≡ MAX_OPEN + 1 → IsNamed ts k Nesting
+  -- a brace opens a message in 32 others: after it no block of the innermost message is open
+  nesting : (x : Lexeme) (d : Draft) → IsTokenAt ts k x → IsMark x opening_brace → Begins ts (k + 1) d → InMessage d
+      → IsTooDeep d → IsNamed ts k Nesting
 
 -- a token is at fault for a reason: a specific one, or else `Expected`
 pub data IsFault (ts : List Lexeme) (k : ℕ) : ProtoReason → Type 0 where

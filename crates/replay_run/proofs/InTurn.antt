@@ -1,6 +1,6 @@
 -- If all quotas know their tickets, they drew them in turn; so a run ends as its script says.
 use Rattle.std.proofs.Common.{◌≡◌, ℕ, ◌-◌, ◌<◌, ◌≤◌, ◌^◌, ◌⊎◌, inl, inr, Bool, true, false, cond, nat_lt, List, []}
-use Rattle.std.proofs.Common.{◌∷◌, ◌++◌, length, map, take, refl, sym, ap, ◌∙◌, subst, append-nil, length-append}
+use Rattle.std.proofs.Common.{◌∷◌, ◌++◌, length, map, refl, sym, ap, ◌∙◌, subst, append-nil, length-append}
 use Rattle.std.proofs.Common.{arith}
 use Rattle.std.specs.Prelude.{Err, IfSome, Ok, OnErr, OnOk, Option, Result, Some, None}
 use Rattle.std.specs.List.{range_with_len}
@@ -14,7 +14,6 @@ use Rattle.mrpc_base.specs.declared.tickets.TheConstants.{WINDOWS}
 use Rattle.script_text.specs.Lines.{IsScript}
 use Rattle.script_text.specs.declared.script.Line.{Line}
 use Rattle.script_text.specs.declared.script.Script.{Script}
-use Rattle.call_history.specs.Frames.{frame_of}
 use Rattle.call_history.specs.Legal.{History, behind}
 use Rattle.audit_text.specs.Lines.{audit, audit_line}
 use Rattle.replay_run.specs.Follows.{Opened, State, start, on_connection, under}
@@ -121,7 +120,7 @@ module _ (laws : HistoryLaws) (s : Script) (script : IsScript s) where
         follows = record { until = b.until; in_turn = in-turn (b.until.lines ++ b.until.failing ∷ []) b.end quotas stands known b.tenants counted b.drawn };
         told = appends-more out out' last (audit s.table b.end.history) (all_stands b.end.opened) b.told
             (subst (λ os. Appends out' last (all_stands os)) b.opened told);
-        handed = (take b.many (frame_of s.table b.tried), b.many, b.few, refl, b.handed);
+        handed = record { many = b.many; fewer = b.few; handed = b.handed };
       }
 
 -- after a send that failed, writing the pending calls can stop
@@ -140,7 +139,7 @@ broken-stops s cs quotas out out' last wire wire' b some =
       least = omega (arith, length-append (audit s.table before.history) (audit s.table piece), long, least);
       most = tells.most;
       told = tells.told;
-    }) b.many b.few b.handed
+    }) (record { many = b.many; fewer = b.few; handed = b.handed })
 
 -- ---- the results of the lines
 

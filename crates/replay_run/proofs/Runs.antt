@@ -413,7 +413,12 @@ module _ (laws : HistoryLaws) (s : Script) where
         behind = l ∷ b.others;
         order = b.order;
         leads = b.ran.leads;
-        begun = inr (l, b.others, refl, partly (opened_of c) other is_drain drains refl (goes-on l cs quotas out wire b place c it other piece added));
+        begun = inr (record {
+          next = l;
+          others = b.others;
+          order = refl;
+          begun = partly (opened_of c) other is_drain drains refl (goes-on l cs quotas out wire b place c it other piece added);
+        });
       })
       (tells-piece l cs quotas out out wire b c next piece refl (0, omega arith, appends-nothing out))
       (frames-on l cs quotas out wire wire' b c end piece is hands next refl)
@@ -439,7 +444,12 @@ module _ (laws : HistoryLaws) (s : Script) where
         behind = l ∷ b.others;
         order = b.order;
         leads = b.ran.leads;
-        begun = inr (l, b.others, refl, whole (goes_on (opened_of c) (opened_of mid) on done.does (goes-on l cs quotas out wire b place c it (opened_of mid) piece added)));
+        begun = inr (record {
+          next = l;
+          others = b.others;
+          order = refl;
+          begun = whole (goes_on (opened_of c) (opened_of mid) on done.does (goes-on l cs quotas out wire b place c it (opened_of mid) piece added));
+        });
       })
       (tells-piece l cs quotas out out' wire b c next piece refl (untold-some c mid piece out out' added (done.keeps.told ∙ ready.told) done.keeps.same.conn some))
       (frames-on l cs quotas out wire wire' b c (course mid.calls) piece is done.hands next refl)
@@ -453,5 +463,8 @@ module _ (laws : HistoryLaws) (s : Script) where
       stops_behind next broken.tried (leads-until l cs quotas out wire wire' b place c it mid piece q q' on broken added)
       (tells-more s b.st (audit s.table next.history) (all_stands next.opened) b.out out'
       (tells-piece l cs quotas out out' wire b c next piece refl (untold-some c mid piece out out' added (broken.keeps.told ∙ ready.told) broken.keeps.same.conn some)))
-      broken.hands.many broken.hands.few
-      (breaks-on l cs quotas out wire wire' b c (course mid.calls) piece broken.tried is broken.hands)
+      (record {
+        many = broken.hands.many;
+        fewer = broken.hands.few;
+        handed = breaks-on l cs quotas out wire wire' b c (course mid.calls) piece broken.tried is broken.hands;
+      })

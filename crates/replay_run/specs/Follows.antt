@@ -13,7 +13,7 @@ use Rattle.script_text.specs.declared.script.Line.TheVariants as line
 use Rattle.script_text.specs.declared.script.Script.{Script}
 use Rattle.call_history.specs.Behind.{chain}
 use Rattle.call_history.specs.Draining.{BeginsToDrain, Drains}
-use Rattle.call_history.specs.Events.{Course, Comes, IsReady, accepts, beginning, fails, operates, sends, shows, turns, turns_away}
+use Rattle.call_history.specs.Events.{Course, Comes, Event, IsReady, accepts, beginning, fails, operates, sends, shows, turns, turns_away}
 use Rattle.call_history.specs.Legal.{History}
 use Rattle.call_history.specs.Loads.{IsLoaded, Loads}
 use Rattle.call_history.specs.Rules.{Under}
@@ -73,7 +73,19 @@ submitted o own c = record {
 abbrev pub come_to : Opened → Course → Opened
 come_to o c = record o { course = c }
 
--- a line leads an open connection to its next state
+-- an event leads a connection to this course
+abbrev pub IsNextCourse : Script → Opened → Event → Course → Type 0
+IsNextCourse s old event c = Comes (under s old.conn) old.course event c
+
+-- the call is accepted after the stores that were made so far
+abbrev pub IsAfterStores : Opened → Taken → Type 0
+IsAfterStores old call = call.after ≡ length old.stores
+
+-- each of these loads returns the word that is stored by then
+abbrev pub IsReadFrom : Opened → Loads → Type 0
+IsReadFrom old own = ReadsBy (read_at old.stores old.races) 1 own
+
+-- a line leads an open connection from one state to the next
 pub data Does (s : Script) (l : Line) (old new : Opened) : Type 0 where
   stores : (place value : ℕ) → l ≡ line.Store old.conn place value
       → new ≡ record old { stores = old.stores ++ (place, value) ∷ [] } → Does s l old new
@@ -83,27 +95,25 @@ pub data Does (s : Script) (l : Line) (old new : Opened) : Type 0 where
       → Does s l old new
   -- few enough calls are pending: the next one is accepted by loads of what is stored by then
   submits : (call : Taken) (own : Loads) (c : Course) → l ≡ line.Submit old.conn call.method call.number call.addr
-      → call.after ≡ length old.stores → ReadsBy (read_at old.stores old.races) 1 own
-      → IsLoaded s.table old.words s.loads call own
-      → Comes (under s old.conn) old.course (accepts call) c → new ≡ submitted old own c → Does s l old new
+      → IsAfterStores old call → IsReadFrom old own → IsLoaded s.table old.words s.loads call own
+      → IsNextCourse s old (accepts call) c → new ≡ submitted old own c → Does s l old new
   -- too many calls are pending: nothing is loaded, but the races are made
   is_away : (method number addr : ℕ) (c : Course) → l ≡ line.Submit old.conn method number addr
-      → Comes (under s old.conn) old.course (turns_away method number addr) c → new ≡ submitted old [] c
-      → Does s l old new
+      → IsNextCourse s old (turns_away method number addr) c → new ≡ submitted old [] c → Does s l old new
   operates_on : (step : Op) (c : Course) → op_in s.declared.policies l ≡ Some step
-      → Comes (under s old.conn) old.course (operates step) c → new ≡ come_to old c → Does s l old new
+      → IsNextCourse s old (operates step) c → new ≡ come_to old c → Does s l old new
   shows_it : (ms : ℕ) (c : Course) → l ≡ line.Moment old.conn ms
-      → Comes (under s old.conn) old.course (shows ms) c → new ≡ come_to old c → Does s l old new
+      → IsNextCourse s old (shows ms) c → new ≡ come_to old c → Does s l old new
   -- no call is at the position
   is_idle : (position : ℕ) → l ≡ line.Turn old.conn position → first_at position old.course.row ≡ None → new ≡ old
       → Does s l old new
   has_turn : (position seq : ℕ) (outcome : Outcome) (c : Course) → l ≡ line.Turn old.conn position
-      → Comes (under s old.conn) old.course (turns position seq outcome) c → new ≡ come_to old c → Does s l old new
+      → IsNextCourse s old (turns position seq outcome) c → new ≡ come_to old c → Does s l old new
   -- no call is ready
   none_ready : l ≡ line.Send old.conn
       → first_at (length (chain old.course.past).entries) old.course.row ≡ None → new ≡ old → Does s l old new
   is_sent : (seq bytes : ℕ) (c : Course) → l ≡ line.Send old.conn
-      → Comes (under s old.conn) old.course (sends seq bytes) c → new ≡ come_to old c → Does s l old new
+      → IsNextCourse s old (sends seq bytes) c → new ≡ come_to old c → Does s l old new
   drains : (c : Course) → l ≡ line.Drain old.conn → Drains (under s old.conn) old.course c → new ≡ come_to old c
       → Does s l old new
 
@@ -139,11 +149,15 @@ pub record GoesOn (old : State) (one other : Opened) (new : State) : Type 0 wher
   pub past : other.course.past ≡ reverse piece ++ one.course.past
   pub history : new.history ≡ old.history ++ map (on_connection one.conn) piece
 
+-- the line is one of the connection
+abbrev pub IsLineOn : Opened → Line → Type 0
+IsLineOn one l = conn_of l ≡ one.conn
+
 -- a line leads from a state to the next one
 pub data Step (s : Script) (old : State) (l : Line) (new : State) : Type 0 where
   opens : (conn words : ℕ) → l ≡ line.Conn conn words
       → new ≡ record { opened = old.opened ++ new_one conn words ∷ []; history = old.history } → Step s old l new
-  goes_on : (one other : Opened) → conn_of l ≡ one.conn → Does s l one other → GoesOn old one other new
+  goes_on : (one other : Opened) → IsLineOn one l → Does s l one other → GoesOn old one other new
       → Step s old l new
 
 -- the lines lead from one state to another
@@ -158,17 +172,20 @@ pub record Follows (s : Script) (end : State) : Type 0 where
   pub leads : Leads s start s.lines end
   pub in_turn : AreInTurn end.history
 
--- The lines lead up to a sending that fails: that of this call, in its form. The lines behind give nothing.
+-- The lines lead up to a send that fails, of this call in its form. The lines after it aren't run.
 pub record LeadsUntil (s : Script) (tried : Call) (end : State) : Type 0 where
+  -- the lines before the one whose send fails, that one, and those after it
   pub lines : List Line
   pub failing : Line
   pub behind : List Line
   pub order : s.lines ≡ lines ++ failing ∷ behind
+  -- the state before the line that fails
   pub before : State
   pub leads : Leads s start lines before
+  -- the connection of that line, before it and after it
   pub one : Opened
   pub other : Opened
-  pub on : conn_of failing ≡ one.conn
+  pub on : IsLineOn one failing
   pub fails : Fails s failing one tried other
   pub goes : GoesOn before one other end
 

@@ -31,15 +31,19 @@ pub record Replays (s : Script) (out out' wire wire' : Option (List ℕ)) : Type
   pub told : Appends out out' (text s end)
   pub handed : Appends wire wire' (sent s end)
 
--- The script was run up to a send that failed: the frames of the sent calls were written, and then a proper prefix of
--- the call's frame.
+-- the frames of the calls that were sent are followed by a prefix of another call's frame, and not by all of it
+pub record IsPartlySent (s : Script) (tried : Call) (end : State) (wire wire' : Option (List ℕ)) : Type 0 where
+  pub many : ℕ
+  pub fewer : many < length (frame_of s.table tried)
+  pub handed : Appends wire wire' (sent s end ++ take many (frame_of s.table tried))
+
+-- The script was run up to a send that failed, of a call whose frame wasn't sent whole.
 pub record Breaks (s : Script) (out out' wire wire' : Option (List ℕ)) : Type 0 where
   pub end : State
   pub tried : Call
   pub follows : FollowsUntil s tried end
   pub told : Appends out out' (text s end)
-  pub handed : (front : List ℕ) × (n : ℕ) × (n < length (frame_of s.table tried))
-      × (front ≡ take n (frame_of s.table tried)) × Appends wire wire' (sent s end ++ front)
+  pub handed : IsPartlySent s tried end wire wire'
 
 -- ---- runs that end out of memory, or because the audit can't be written
 
@@ -52,34 +56,42 @@ pub data Begins (s : Script) (old : State) (l : Line) (new : State) : Type 0 whe
       → BeginsToDrain (under s one.conn) one.course other.course → other ≡ come_to one other.course
       → GoesOn old one other new → Begins s old l new
 
--- the lines of a script in front of one were run, and that one was begun
+-- the first of the lines that aren't run was begun
+pub record HasBegunNext (s : Script) (before : State) (behind : List Line) (end : State) : Type 0 where
+  pub next : Line
+  pub others : List Line
+  pub order : behind ≡ next ∷ others
+  pub begun : Begins s before next end
+
+-- some lines of a script were run, up to the first state, and then the next line was begun, or none was
 pub record RunsInto (s : Script) (before end : State) : Type 0 where
+  -- the lines that were run, and the others
   pub lines : List Line
   pub behind : List Line
   pub order : s.lines ≡ lines ++ behind
   pub leads : Leads s start lines before
-  pub begun : (end ≡ before) ⊎ ((l : Line) × (others : List Line) × (behind ≡ l ∷ others) × Begins s before l end)
+  pub begun : (end ≡ before) ⊎ HasBegunNext s before behind end
 
 -- what may be written if these lines remain: the events, and the pending calls only if no line remains
 abbrev pub text_before : Script → List Line → State → List ℕ
 text_before s [] end = text s end
 text_before s (l ∷ lines) end = audit s.table end.history
 
--- a prefix of a text was written that has all events before the last line
+-- a prefix of a text was printed, with at least all events before the last line
 pub record TellsFront (s : Script) (before : State) (all : List ℕ) (out out' : Option (List ℕ)) : Type 0 where
+  -- the length of the prefix
   pub many : ℕ
   pub least : length (audit s.table before.history) ≤ many
   pub most : many ≤ length all
   pub told : Appends out out' (take many all)
 
--- The run stopped: with all frames of the calls that were sent, or behind a sending that failed. So each sending that
--- is told is on the wire, and those that aren't told are of one line. A call that stands is told only where no line is
--- left to run: behind the last one, or behind the one whose sending failed.
+-- The run stopped: with all frames of the calls that were sent, or after a send that failed. So each send that is
+-- printed is on the wire, and those that aren't printed are of one line. A pending call is printed only if no line is
+-- left to run: after the last one, or after the one whose send failed.
 pub data Stops (s : Script) (out out' wire wire' : Option (List ℕ)) : Type 0 where
   stops_in : (before end : State) (runs : RunsInto s before end)
       → TellsFront s before (text_before s runs.behind end) out out'
       → Appends wire wire' (sent s end) → Stops s out out' wire wire'
   stops_behind : (end : State) (tried : Call) (leads : LeadsUntil s tried end)
-      → TellsFront s leads.before (text s end) out out'
-      → (n : ℕ) → n < length (frame_of s.table tried)
-      → Appends wire wire' (sent s end ++ take n (frame_of s.table tried)) → Stops s out out' wire wire'
+      → TellsFront s leads.before (text s end) out out' → IsPartlySent s tried end wire wire'
+      → Stops s out out' wire wire'

@@ -19,7 +19,8 @@ pub returns-clause-detaches : goal.returns-clause-detaches
 returns-clause-detaches c = detaches-on c.stays_chain.ensures
 
 pub returns-clause-upgrades : goal.returns-clause-upgrades
-returns-clause-upgrades c = upgrades-on c.stays_chain.ensures
+returns-clause-upgrades c = λ u past engines attached calls name label policy place e e' prefix ties is named new.
+    upgrades-on c.stays_chain.ensures u past engines attached calls name label policy place e e' prefix ties is named new.entry new.level new.last new.true_for
 
 pub returns-clause-shows : goal.returns-clause-shows
 returns-clause-shows c = shows-on c.stays_chain.ensures
