@@ -12,9 +12,9 @@ use crate::port::{AppEnd, AppPort, AppSent};
 use crate::waiting::{self, Stopped};
 use app_program::{Program, ProgramLine};
 use descriptor_ring::NumberSender;
+use polling::StopFlag;
 use shared_heap::Writer;
 use std::sync::Wait;
-use stop_flag::StopFlag;
 
 /// Runs a client. It executes the lines of its program, closes the ring of its calls, takes its notices up to
 /// their closing, reclaims the block of each, and closes the ring of reclaimed blocks. Waits while a ring is full

@@ -6,8 +6,8 @@ ghost use Rattle.app_stub.specs.Pairing.{IsDue, IsPaired};
 
 use crate::waiting::{self, Stopped};
 use descriptor_ring::{NumberReceiver, NumberSender, Receiver};
+use polling::StopFlag;
 use std::sync::Wait;
-use stop_flag::StopFlag;
 
 // The receivers of an application.
 #[derive(Drop)]

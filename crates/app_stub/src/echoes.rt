@@ -29,11 +29,11 @@ use graph_form::sound_tree_is_normal;
 use graph_place::{place, place_words};
 use mrpc_base::Stores;
 use mrpc_table::{MAX_LOADS, Memory, Sort, Table, Tree};
+use polling::StopFlag;
 use shared_heap::{Reader, Writer, calls_are_fresh, writers_go_on};
+use stable_copy::copy_message;
 use std::alloc::Global;
 use std::sync::Wait;
-use stop_flag::StopFlag;
-use untouched_copy::copy_message;
 
 // The state of an echo.
 #[derive(Drop)]

@@ -4,7 +4,7 @@
 //! An application is a thread that shares only its [`AppPort`] with the service: the writer of its heap, the
 //! reader of its receive heap, the ends of four rings, and the stop flag of the run. It waits while a ring is
 //! full or empty, and checks the flag each time. Clients and servers never allocate; an echo allocates only to
-//! copy and to place. The crate uses `shared_heap` and `descriptor_ring`, for echoes `untouched_copy` and
+//! copy and to place. The crate uses `shared_heap` and `descriptor_ring`, for echoes `stable_copy` and
 //! `graph_place`, and what these use.
 //!
 //! The layer above may rely on this: an [`AppEnd`] belongs to the heaps and rings of its port. Unless the run was

@@ -12,9 +12,9 @@ use crate::port::{AppEnd, AppPort, AppSent};
 use crate::waiting::{self, Stopped};
 use app_program::{MAX_REQUEST_STORES, Program, ProgramLine};
 use descriptor_ring::{Descriptor, Sender};
+use polling::StopFlag;
 use shared_heap::Writer;
 use std::sync::Wait;
-use stop_flag::StopFlag;
 
 /// Runs a server. It takes its notices up to their closing. For each request it executes the stores of its
 /// program and replies, unless the request's number is 0. It reclaims the block of each notice, then closes both

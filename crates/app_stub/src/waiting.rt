@@ -7,9 +7,8 @@ use descriptor_ring::{
     Descriptor, Full, NumberReceiver, NumberSender, NumberTaken, NumbersSent, Receiver, Sender,
     Sent, Taken,
 };
-use pauses::{FIRST_SLEEP, Pauses};
+use polling::{FIRST_SLEEP, Pauses, StopFlag};
 use std::sync::Wait;
-use stop_flag::StopFlag;
 
 // A ring of at least this capacity is polled with sleeps in between. Meanwhile many slots come free, or many
 // items arrive, so threads switch less often.

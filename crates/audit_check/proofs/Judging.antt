@@ -10,7 +10,7 @@ use Rattle.call_history.specs.Legal.{History, IsLegal, IsPrefix, behind}
 use Rattle.call_history.specs.Rules.{May, Under}
 use Rattle.call_history.specs.declared.happening.Happened.{Happened}
 use Rattle.call_history.specs.declared.happening.Happening.{Happening}
-use Rattle.policy_blocks.specs.Declarations.{Declared}
+use Rattle.policy_declarations.specs.Declarations.{Declared}
 use Rattle.audit_rules.specs.First.{BreaksFirst, Keeps, order_of}
 use Rattle.audit_rules.specs.declared.rule.Rule.{Rule}
 use Rattle.audit_rules.specs.declared.rule.Rule.TheVariants.{A, B, C, D, E, F, G, Stands}

@@ -8,7 +8,7 @@ use Rattle.mrpc_table.specs.Valid.{IsValid}
 use Rattle.mrpc_table.specs.declared.table.Table.{Table}
 use Rattle.call_history.specs.Legal.{History}
 use Rattle.call_history.specs.declared.happening.Happened.{Happened as Next}
-use Rattle.policy_blocks.specs.Declarations.{Declared}
+use Rattle.policy_declarations.specs.Declarations.{Declared}
 use Rattle.audit_text.specs.Lines.{audit, audit_line, stands_line}
 use Rattle.audit_text.specs.Writable.{IsStanding, IsWritable}
 use Rattle.audit_text.specs.declared.holding.Holding.{Holding}

@@ -10,7 +10,7 @@ use Rattle.call_history.specs.Behind.{Behind}
 use Rattle.call_history.specs.Legal.{History, IsLegal, IsSettledUp, behind}
 use Rattle.call_history.specs.Rules.{May, Under}
 use Rattle.call_history.specs.declared.happening.Happening.{Happening}
-use Rattle.policy_blocks.specs.Declarations.{Declared}
+use Rattle.policy_declarations.specs.Declarations.{Declared}
 use Rattle.audit_text.specs.Lines.{audit_line, happening_words, standing_words}
 use Rattle.audit_rules.specs.First.{Awaits, BreaksFirst, Keeps, order_of}
 use Rattle.audit_rules.specs.declared.rule.Rule.{Rule}

@@ -1,7 +1,7 @@
 -- A result comes if it is the text's.
 use Rattle.std.proofs.Common.{◌≡◌, ℕ, ◌⊎◌, List, Result, Ok, Err, IfOk, IfErr, MatchResult, refl, ap, inl, inr}
 use Rattle.mrpc_table.specs.declared.table.Table.{Table}
-use Rattle.policy_blocks.specs.Declarations.{Declared}
+use Rattle.policy_declarations.specs.Declarations.{Declared}
 use Rattle.audit_text.specs.declared.reading.AuditFault.{AuditFault}
 use Rattle.audit_text.specs.declared.reading.AuditFault.TheVariants.{Bad, Memory}
 use Rattle.audit_text.specs.Faults.{FaultsAs}

@@ -20,8 +20,8 @@ use Rattle.call_history.specs.declared.happening.Happening.TheVariants.{Took, Aw
 use Rattle.call_history.specs.declared.happening.Taken.{Taken}
 use Rattle.call_history.specs.declared.happening.TookCopy.{TookCopy}
 use Rattle.call_history.specs.declared.happening.TookCopy.TheVariants.{Copy, Malformed}
-use Rattle.policy_blocks.specs.Declarations.{Declared}
-use Rattle.policy_blocks.specs.declared.item.NamedPolicy.{NamedPolicy}
+use Rattle.policy_declarations.specs.Declarations.{Declared}
+use Rattle.policy_declarations.specs.declared.item.NamedPolicy.{NamedPolicy}
 use Rattle.audit_text.specs.Lines.{IsCutInto, audit, audit_line, happening_words, standing_words, stands_line}
 use Rattle.audit_text.specs.Writable.{CanBeTold, IsStanding, IsCopyTaken, IsWritable}
 use Rattle.audit_text.specs.declared.holding.Holding.{Holding}

@@ -7,7 +7,7 @@ use Rattle.call_history.specs.Behind.{Behind, standing}
 use Rattle.call_history.specs.Legal.{History, IsLegal, IsPrefix, behind}
 use Rattle.call_history.specs.Rules.{Under}
 use Rattle.call_history.specs.declared.happening.Happened.{Happened}
-use Rattle.policy_blocks.specs.Declarations.{Declared}
+use Rattle.policy_declarations.specs.Declarations.{Declared}
 use Rattle.audit_text.specs.Lines.{audit, audit_line, stands_line}
 use Rattle.audit_text.specs.Writable.{IsStanding, IsWritable}
 use Rattle.audit_text.specs.declared.holding.Holding.{Holding}

@@ -3,7 +3,7 @@ use Rattle.std.specs.Prelude.{◌≡◌, ℕ, ◌+◌, ◌⊎◌, List, [], ◌�
 use Rattle.mrpc_table.specs.declared.table.Table.{Table}
 use Rattle.call_history.specs.Legal.{History}
 use Rattle.call_history.specs.declared.happening.Happened.{Happened}
-use Rattle.policy_blocks.specs.Declarations.{Declared}
+use Rattle.policy_declarations.specs.Declarations.{Declared}
 use Rattle.audit_text.specs.declared.reading.AuditFault.{AuditFault}
 use Rattle.audit_text.specs.declared.reading.AuditFault.TheVariants.{Bad, Memory}
 use Rattle.audit_text.specs.declared.line.AuditLine.{AuditLine}

@@ -18,7 +18,7 @@ use audit_text::{
     AuditFault, a_line_is_cut_into_its_words, a_stands_line_tells_one_call, read_brief, read_line,
 };
 use mrpc_table::Table;
-use policy_blocks::Declarations;
+use policy_declarations::Declarations;
 use std::alloc::Global;
 use wire_encode::Output;
 

@@ -3,7 +3,7 @@
 ghost use Rattle.std.specs.Prelude.{◌≡◌, ℕ, List};
 ghost use Rattle.mrpc_table.specs.Valid.{IsValid};
 ghost use Rattle.mrpc_table.specs.declared.table.Table.{Table};
-ghost use Rattle.policy_blocks.specs.Declarations.{Declared};
+ghost use Rattle.policy_declarations.specs.Declarations.{Declared};
 ghost use Rattle.audit_check.specs.Checking.{IsChecked, IsFirstBad};
 ghost use Rattle.audit_check.specs.declared.checked.Checked.{Checked};
 

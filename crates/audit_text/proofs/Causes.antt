@@ -9,7 +9,7 @@ use Rattle.call_history.specs.declared.happening.Cause.{Cause}
 use Rattle.call_history.specs.declared.happening.Cause.TheVariants as cause
 use Rattle.call_history.specs.declared.happening.Happening.{Happening}
 use Rattle.call_history.specs.declared.happening.Happening.TheVariants.{Op, Refused}
-use Rattle.policy_blocks.specs.Declarations.{Declared}
+use Rattle.policy_declarations.specs.Declarations.{Declared}
 use Rattle.audit_text.specs.Labels.{policy_under}
 use Rattle.audit_text.specs.Lines.{Words, cause_words, step_words}
 use Rattle.audit_text.specs.Writable.{HasNameForm, IsCause, IsDeclared, IsStep}

@@ -13,7 +13,7 @@ use Rattle.mrpc_table.specs.Valid.{IsValid}
 use Rattle.mrpc_table.specs.declared.table.Table.{Table}
 use Rattle.call_history.specs.Legal.{History}
 use Rattle.call_history.specs.declared.happening.Happened.{Happened}
-use Rattle.policy_blocks.specs.Declarations.{Declared}
+use Rattle.policy_declarations.specs.Declarations.{Declared}
 use Rattle.audit_text.specs.Lines.{audit, audit_line, happening_words}
 use Rattle.audit_text.specs.Writable.{IsWritable}
 use Rattle.audit_text.specs.Faults.{HasNoLine, IsFirstBad}

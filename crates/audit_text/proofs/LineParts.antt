@@ -8,7 +8,7 @@ use Rattle.mrpc_table.specs.declared.memory.Memory.{Memory}
 use Rattle.mrpc_table.specs.declared.table.Table.{Table}
 use Rattle.call_history.specs.declared.happening.Happening.{Happening}
 use Rattle.call_history.specs.declared.happening.Happening.TheVariants.{Took, Away, Op, Moment, Charged, Drawn, Counted, Redacted, Sent, Refused}
-use Rattle.policy_blocks.specs.Declarations.{Declared}
+use Rattle.policy_declarations.specs.Declarations.{Declared}
 use Rattle.audit_text.specs.Lines.{Words, happening_words, held_words}
 use Rattle.audit_text.specs.Kinds.{kind_said}
 use Rattle.audit_text.specs.LineWords.{kind_of, kind_word, line_words, stands_said, tail_words}

@@ -30,7 +30,7 @@ use Rattle.call_history.specs.declared.happening.Happening.TheVariants.{Took, Aw
 use Rattle.call_history.specs.declared.happening.Taken.{Taken}
 use Rattle.call_history.specs.declared.happening.TookCopy.{TookCopy}
 use Rattle.call_history.specs.declared.happening.TookCopy.TheVariants.{Copy, Malformed}
-use Rattle.policy_blocks.specs.Declarations.{Declared}
+use Rattle.policy_declarations.specs.Declarations.{Declared}
 use Rattle.audit_text.specs.Labels.{policy_under}
 use Rattle.audit_text.specs.Lines.{Words, hex_word, copy_words, step_words, cause_words, happening_words}
 use Rattle.audit_text.specs.Writable.{IsDeclared, IsStep, IsCopyTaken, IsAcceptance, IsCause, CanBeTold, IsWritable}

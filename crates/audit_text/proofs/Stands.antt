@@ -6,7 +6,7 @@ use Rattle.std.specs.Str.{bytes_eq}
 use Rattle.std.proofs.lemmas.Slice.Eq.{bytes_eq-Decides}
 use Rattle.mrpc_table.specs.Names.{is_name_form}
 use Rattle.mrpc_table.specs.declared.table.Table.{Table}
-use Rattle.policy_blocks.specs.Declarations.{Declared}
+use Rattle.policy_declarations.specs.Declarations.{Declared}
 use Rattle.audit_text.specs.Lines.{Words, held_words, transport}
 use Rattle.audit_text.specs.Writable.{IsHolding, IsQueueName, IsStanding}
 use Rattle.audit_text.specs.declared.holding.Holding.{Holding}

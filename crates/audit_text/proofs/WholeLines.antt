@@ -8,7 +8,7 @@ use Rattle.mrpc_table.specs.Valid.{IsValid}
 use Rattle.mrpc_table.specs.declared.memory.Memory.{Memory}
 use Rattle.mrpc_table.specs.declared.table.Table.{Table}
 use Rattle.call_history.specs.declared.happening.Happened.{Happened}
-use Rattle.policy_blocks.specs.Declarations.{Declared}
+use Rattle.policy_declarations.specs.Declarations.{Declared}
 use Rattle.audit_text.specs.Lines.{IsCutInto, audit_line, happening_words, standing_words, stands_line}
 use Rattle.audit_text.specs.Writable.{IsStanding, IsWritable}
 use Rattle.audit_text.specs.declared.holding.Holding.{Holding}

@@ -1,7 +1,7 @@
 -- The code's own: a line at the start of a text.
 use Rattle.std.specs.Prelude.{◌≡◌, ℕ, List, [], ◌∷◌, ◌++◌}
 use Rattle.mrpc_table.specs.declared.table.Table.{Table}
-use Rattle.policy_blocks.specs.Declarations.{Declared}
+use Rattle.policy_declarations.specs.Declarations.{Declared}
 use Rattle.audit_text.specs.Briefs.{told_by}
 use Rattle.audit_text.specs.LineWords.{kind_of, tail_words}
 use Rattle.audit_text.specs.Lines.{Words}

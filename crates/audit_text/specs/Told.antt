@@ -1,7 +1,7 @@
 -- The lines of an audit text (this project's own).
 use Rattle.std.specs.Prelude.{ℕ, List}
 use Rattle.mrpc_table.specs.declared.table.Table.{Table}
-use Rattle.policy_blocks.specs.Declarations.{Declared}
+use Rattle.policy_declarations.specs.Declarations.{Declared}
 use Rattle.audit_text.specs.Lines.{audit_line, stands_line}
 use Rattle.audit_text.specs.Writable.{IsStanding, IsWritable}
 use Rattle.audit_text.specs.declared.line.AuditLine.{AuditLine}

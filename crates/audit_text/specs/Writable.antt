@@ -19,7 +19,7 @@ use Rattle.call_history.specs.declared.happening.Happening.TheVariants.{Took, Aw
 use Rattle.call_history.specs.declared.happening.Taken.{Taken}
 use Rattle.call_history.specs.declared.happening.TookCopy.{TookCopy}
 use Rattle.call_history.specs.declared.happening.TookCopy.TheVariants.{Copy, Malformed}
-use Rattle.policy_blocks.specs.Declarations.{Declared}
+use Rattle.policy_declarations.specs.Declarations.{Declared}
 use Rattle.audit_text.specs.Labels.{policy_under}
 use Rattle.audit_text.specs.Lines.{transport}
 use Rattle.audit_text.specs.declared.holding.Holding.{Holding}

@@ -5,7 +5,7 @@ ghost use Rattle.mrpc_table.specs.Valid.{IsValid};
 ghost use Rattle.mrpc_table.specs.declared.table.Table.{Table};
 ghost use Rattle.call_history.specs.Legal.{History};
 ghost use Rattle.call_history.specs.declared.happening.Happened.{Happened};
-ghost use Rattle.policy_blocks.specs.Declarations.{Declared};
+ghost use Rattle.policy_declarations.specs.Declarations.{Declared};
 ghost use Rattle.audit_text.specs.Lines.{audit, audit_line, happening_words, stands_line, standing_words, IsCutInto};
 ghost use Rattle.audit_text.specs.Writable.{IsStanding, IsWritable};
 ghost use Rattle.audit_text.specs.Faults.{IsFirstBad};

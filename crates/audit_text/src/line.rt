@@ -19,7 +19,7 @@ use crate::what::{Kind, away, charged, counted, drawn, moment, redacted, refused
 use crate::word::{Rest, end, is_word, last64, next, number32, number64};
 use call_history::{Happened, Happening};
 use mrpc_table::{Memory, Name, Table, is_name_form};
-use policy_blocks::Declarations;
+use policy_declarations::Declarations;
 use std::alloc::Global;
 use wire_encode::Output;
 

@@ -13,7 +13,7 @@ use crate::laws::{a_line_is_cut_into_its_words, a_text_has_one_bad_line, a_text_
 use crate::line::{AuditLine, read_line};
 use call_history::Happened;
 use mrpc_table::{Memory, Sequence, Table, cut};
-use policy_blocks::Declarations;
+use policy_declarations::Declarations;
 use std::alloc::Global;
 use thiserror::Error;
 use wire_encode::Output;

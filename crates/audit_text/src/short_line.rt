@@ -2,7 +2,7 @@
 
 ghost use Rattle.std.specs.Prelude.{◌≡◌, ◌∷◌, ◌++◌, IfSome};
 ghost use Rattle.mrpc_table.specs.declared.table.Table.{Table};
-ghost use Rattle.policy_blocks.specs.Declarations.{Declared};
+ghost use Rattle.policy_declarations.specs.Declarations.{Declared};
 ghost use Rattle.audit_text.specs.Briefs.{told_in};
 ghost use Rattle.audit_text.specs.Fronts.{IsToldBefore};
 ghost use Rattle.audit_text.specs.LineWords.{kind_word};

@@ -9,7 +9,7 @@ ghost use Rattle.audit_text.specs.Said.{attach_said, detach_said, label_said, st
 use crate::word::{Rest, end, is_word, name, next, number32};
 use engine_core::{Op, Policy};
 use mrpc_table::{Memory, Name};
-use policy_blocks::Declarations;
+use policy_declarations::Declarations;
 use std::alloc::Global;
 
 // Returns the policy that was declared under a label.

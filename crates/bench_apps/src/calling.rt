@@ -14,10 +14,10 @@ use crate::wiring::{Wired, open_ports};
 use app_program::{Program, ProgramLine};
 use app_stub::{AppEnd, AppPort, client, echo};
 use mrpc_table::{Memory, Table};
+use polling::RunFlag;
 use std::alloc::Global;
 use std::sync::Wait;
 use std::thread::{Threads, join};
-use stop_flag::RunFlag;
 
 /// The most calls that a client makes here.
 pub const MAX_CALLS: u32 = 500_000;

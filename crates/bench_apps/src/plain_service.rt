@@ -5,9 +5,9 @@ ghost use Rattle.bench_apps.specs.Services.{IsUnused};
 
 use crate::taking::{Found, Taking};
 use descriptor_ring::{Descriptor, Full, Receiver, Sender, Taken};
+use polling::{RunFlag, StopFlag};
 use shared_heap::Writer;
 use std::sync::Wait;
-use stop_flag::{RunFlag, StopFlag};
 
 // The service's side of an application.
 pub(crate) struct Side {

@@ -3,9 +3,9 @@ ghost use Rattle.std.specs.Prelude.{◌≡◌};
 
 use crate::discard;
 use descriptor_ring::{Receiver, Taken};
+use polling::{RunFlag, StopFlag};
 use std::sync::Wait;
 use std::thread;
-use stop_flag::{RunFlag, StopFlag};
 
 /// What was taken from an application.
 #[derive(Clone, Copy)]

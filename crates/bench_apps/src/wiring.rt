@@ -8,10 +8,10 @@ use crate::plain_service::{Service, Side};
 use crate::taking::Taking;
 use app_stub::AppPort;
 use descriptor_ring::{NumberReceiver, NumberSender, Receiver, Sender};
+use polling::RunFlag;
 use shared_heap::{Reader, Writer};
 use std::alloc::{AllocError, Global};
 use std::sync::Wait;
-use stop_flag::RunFlag;
 
 // The number of items of each ring.
 pub(crate) const CAPACITY: u64 = 64;

@@ -4,8 +4,8 @@ use Rattle.mrpc_table.specs.declared.table.Table.{Table}
 use Rattle.frame_transport.specs.declared.format.Frame.{Frame}
 use Rattle.std.specs.Prelude.{drop}
 use Rattle.text_commands.specs.Decoding.{AreLinesOf, IsCutAt}
-use Rattle.frame_reading.specs.Faults.{IsFaultHere}
-use Rattle.frame_reading.specs.Walks.{Stands}
+use Rattle.frame_view.specs.Faults.{IsFaultHere}
+use Rattle.frame_view.specs.FrameWalks.{Stands}
 use Rattle.frame_view.specs.Written.{CutsView, ViewsText, in_text, in_stream}
 use Rattle.decode_laws.specs.Decodings.{IsDecodable, IsDecodeFault, fault_of_text, fault_of_stream}
 use Rattle.decode_laws.proofs.Lines.{lines_of}

@@ -10,9 +10,9 @@ use Rattle.frame_transport.specs.declared.fault.FeedFault.{FeedFault}
 use Rattle.frame_transport.specs.declared.fault.FeedFault.TheVariants.{Version, Kind, TooLong, Memory}
 use Rattle.text_commands.specs.Decoding.{AreLinesOf, StandInFront, IsCutAt, in_frame, in_header, in_short_frame}
 use Rattle.text_commands.specs.Decoding.{IsFaultIn as IsDecodeFaultIn, no_method as decode_no_method, in_payload as decode_in_payload, IsFaultOfHeader as IsDecodeFaultOfHeader}
-use Rattle.frame_reading.specs.Faults.{IsFaultIn, no_method, in_payload, IsFaultOfHeader}
-use Rattle.frame_reading.specs.Faults.{IsFaultOfFront, in_header as header_front, too_short, IsFaultHere, of_front, of_frame}
-use Rattle.frame_reading.specs.Walks.{Stands}
+use Rattle.frame_view.specs.Faults.{IsFaultIn, no_method, in_payload, IsFaultOfHeader}
+use Rattle.frame_view.specs.Faults.{IsFaultOfFront, in_header as header_front, too_short, IsFaultHere, of_front, of_frame}
+use Rattle.frame_view.specs.FrameWalks.{Stands}
 
 -- laws of consecutive frames
 abbrev pub PlaceLaw : Type 0

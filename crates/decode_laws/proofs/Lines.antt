@@ -5,10 +5,10 @@ use Rattle.mrpc_table.specs.declared.table.Table.{Table}
 use Rattle.wire_base.specs.Encoding.{encoding}
 use Rattle.frame_transport.specs.declared.format.Frame.{Frame}
 use Rattle.text_commands.specs.Decoding.{hello_line, call_line, IsLineOf, line_of_hello, line_of_call, AreLinesOf}
-use Rattle.frame_reading.specs.Contents.{IsContentOf, IsMessageOf}
+use Rattle.frame_view.specs.Contents.{IsContentOf, IsMessageOf}
 use Rattle.frame_transport.specs.Messages.{message_in}
-use Rattle.frame_reading.specs.declared.content.Content.{Content}
-use Rattle.frame_reading.specs.declared.content.Content.TheVariants.{Hello, Call}
+use Rattle.frame_view.specs.declared.content.Content.{Content}
+use Rattle.frame_view.specs.declared.content.Content.TheVariants.{Hello, Call}
 use Rattle.frame_view.specs.Views.{IsViewOf, view_of_hello, view_of_call, AreViewsOf}
 
 call_has_line : (T : Table) (f : Frame) (t : Node) → IsMessageOf T f t → IsLineOf T f (call_line f (encoding T (message_in T f) t))

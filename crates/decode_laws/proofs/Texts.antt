@@ -1,7 +1,7 @@
 -- The text before a stream, in the terms of `decode`.
 use Rattle.std.proofs.Common.{ℕ, List}
 use Rattle.mrpc_table.specs.declared.table.Table.{Table}
-use Rattle.frame_reading.specs.Input.{Holds, IsFaultOfTable, IsTextFault, no_first_line, no_second_line, in_table, no_end}
+use Rattle.frame_view.specs.Input.{Holds, IsFaultOfTable, IsTextFault, no_first_line, no_second_line, in_table, no_end}
 use Rattle.text_commands.specs.DecodeInput.{Holds as DecodeHolds, IsFaultOfTable as IsDecodeFaultOfTable, IsTextFault as IsDecodeTextFault}
 use Rattle.text_commands.specs.DecodeInput.{no_first_line as decode_no_first_line, no_second_line as decode_no_second_line, in_table as decode_in_table, no_end as decode_no_end}
 

@@ -5,18 +5,18 @@ ghost use Rattle.mrpc_table.specs.declared.table.Table.{Table};
 ghost use Rattle.frame_transport.specs.declared.format.Frame.{Frame};
 ghost use Rattle.text_commands.specs.Decoding.{AreLinesOf, IsCutAt, IsLineOf};
 ghost use Rattle.text_commands.specs.DecodeInput.{Holds as DecodeHolds, IsTextFault as IsDecodeTextFault};
-ghost use Rattle.frame_reading.specs.Contents.{IsContentOf};
-ghost use Rattle.frame_reading.specs.Faults.{IsFaultHere};
-ghost use Rattle.frame_reading.specs.Input.{Holds, IsTextFault};
-ghost use Rattle.frame_reading.specs.Walks.{Stands};
-ghost use Rattle.frame_reading.specs.declared.content.Content.{Content};
+ghost use Rattle.frame_view.specs.Contents.{IsContentOf};
+ghost use Rattle.frame_view.specs.Faults.{IsFaultHere};
+ghost use Rattle.frame_view.specs.Input.{Holds, IsTextFault};
+ghost use Rattle.frame_view.specs.FrameWalks.{Stands};
+ghost use Rattle.frame_view.specs.declared.content.Content.{Content};
 ghost use Rattle.frame_view.specs.Written.{CutsView, ViewsText};
 ghost use Rattle.decode_laws.specs.Decodings.{IsDecodable, IsDecodeFault};
 
 use frame_transport::frames_join;
 use text_commands::one_decoding;
 
-/// What `frame_reading` returns for an input is what `decode` reads: the same table and stream, or the same
+/// What `frame_view` returns for an input is what `decode` reads: the same table and stream, or the same
 /// fault of the text. Each frame with content has a line of `decode`, and a fault after frames with lines is
 /// one at which `decode` ends.
 pub fn what_is_read_is_that_of_decode()

@@ -1,2 +1,5 @@
+mod Following
+mod ViewHeads
 mod KnownBytes
+mod OnFaults
 mod Viewing

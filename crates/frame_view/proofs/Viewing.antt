@@ -5,10 +5,10 @@ use Rattle.mrpc_table.specs.declared.table.Table.{Table}
 use Rattle.frame_transport.specs.Frames.{Splits}
 use Rattle.frame_transport.specs.Standing.{StandsAt}
 use Rattle.frame_transport.specs.declared.format.Frame.{Frame}
-use Rattle.frame_reading.specs.Faults.{OnFault}
-use Rattle.frame_reading.specs.Walks.{Stands}
-use Rattle.frame_reading.specs.declared.fault.ReadFault.{ReadFault}
-use Rattle.frame_reading.specs.declared.fault.ReadFault.TheVariants.{At, Memory}
+use Rattle.frame_view.specs.Faults.{OnFault}
+use Rattle.frame_view.specs.FrameWalks.{Stands}
+use Rattle.frame_view.specs.declared.fault.ReadFault.{ReadFault}
+use Rattle.frame_view.specs.declared.fault.ReadFault.TheVariants.{At, Memory}
 use Rattle.frame_view.specs.Views.{IsViewOf, AreViewsOf}
 use Rattle.frame_view.specs.Walks.{Shows}
 use Rattle.frame_view.specs.Written.{OnStop}

@@ -5,10 +5,10 @@ use Rattle.std.specs.Fmt.{decimal}
 use Rattle.mrpc_table.specs.Node.{Node}
 use Rattle.mrpc_table.specs.Text.{line}
 use Rattle.mrpc_table.specs.declared.table.Table.{Table}
-use Rattle.message_text.specs.Entries.{IsTextOf}
+use Rattle.text_format.specs.Entries.{IsTextOf}
 use Rattle.frame_transport.specs.declared.format.Frame.{Frame}
 use Rattle.frame_transport.specs.declared.format.TheConstants.{HELLO, REQUEST}
-use Rattle.frame_reading.specs.Contents.{IsMessageOf}
+use Rattle.frame_view.specs.Contents.{IsMessageOf}
 use Rattle.frame_transport.specs.Messages.{message_in}
 
 -- the service of a method, and the method

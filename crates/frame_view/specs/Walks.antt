@@ -3,7 +3,7 @@ use Rattle.std.specs.Prelude.{ℕ, List, Option}
 use Rattle.std.specs.Io.KnownBytes.{Appends}
 use Rattle.mrpc_table.specs.declared.table.Table.{Table}
 use Rattle.frame_transport.specs.declared.format.Frame.{Frame}
-use Rattle.frame_reading.specs.Walks.{Stands}
+use Rattle.frame_view.specs.FrameWalks.{Stands}
 use Rattle.frame_view.specs.Views.{AreViewsOf}
 
 -- the stream is frames from one offset to another, and the text is their view

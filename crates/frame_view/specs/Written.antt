@@ -4,9 +4,9 @@ use Rattle.std.specs.Io.KnownBytes.{Appends}
 use Rattle.mrpc_table.specs.declared.table.Table.{Table}
 use Rattle.frame_transport.specs.Frames.{Splits}
 use Rattle.frame_transport.specs.declared.format.Frame.{Frame}
-use Rattle.frame_reading.specs.Faults.{OnFault, IsFaultHere}
-use Rattle.frame_reading.specs.Input.{Holds, IsTextFault}
-use Rattle.frame_reading.specs.Walks.{Stands}
+use Rattle.frame_view.specs.Faults.{OnFault, IsFaultHere}
+use Rattle.frame_view.specs.Input.{Holds, IsTextFault}
+use Rattle.frame_view.specs.FrameWalks.{Stands}
 use Rattle.frame_view.specs.Views.{AreViewsOf}
 use Rattle.frame_view.specs.declared.views.Stop.{Stop}
 use Rattle.frame_view.specs.declared.views.Stop.TheVariants.{Read, Out}

@@ -4,20 +4,20 @@ ghost use Rattle.std.specs.Prelude.{◌≡◌, ◌<◌, ◌≤◌, ◌^◌, ◌+
 ghost use Rattle.mrpc_base.specs.Faults.{HasCause};
 ghost use Rattle.mrpc_table.specs.Valid.{IsValid};
 ghost use Rattle.frame_transport.specs.Standing.{frame_of};
-ghost use Rattle.frame_reading.specs.Contents.{IsContentOf};
-ghost use Rattle.frame_reading.specs.Faults.{OnFault, IsFaultHere};
+ghost use Rattle.frame_view.specs.Contents.{IsContentOf};
+ghost use Rattle.frame_view.specs.Faults.{OnFault, IsFaultHere};
 ghost use Rattle.frame_view.specs.Views.{IsViewOf};
 ghost use Rattle.frame_view.specs.Walks.{Shows, WritesShown};
 ghost use Rattle.frame_view.specs.Written.{OnStop, ViewsText, CutsView};
 
 use crate::heads::{put_call, put_hello};
-use frame_reading::{Content, ReadFault, content_of, frame_here, frames_follow, read_head};
+use crate::{Content, ReadFault, content_of, frame_here, frames_follow, read_head};
 use frame_transport::{FrameRef, HEADER_LEN};
-use message_text::append_message;
 use mrpc_base::{Sink, write_all};
 use mrpc_table::{Bytes, Memory, Table};
-use spare_trees::Spare;
 use std::alloc::Global;
+use text_format::append_message;
+use wire_decode::Spare;
 
 // The fewest bytes of text that are gathered before a write.
 const PIECE: usize = 65_536;

@@ -1,11 +1,16 @@
+mod Bytes
 mod Completing
 mod Fitting
 mod Gathering
 mod Inserting
+mod Kept
 mod Leading
 mod Making
 mod Messages
+mod Rows
 mod Running
+mod Short
+mod Slots
 mod Sorting
 mod Stacking
 mod Taking

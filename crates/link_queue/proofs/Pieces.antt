@@ -4,9 +4,9 @@ use Rattle.std.proofs.Common.{take, drop, refl, ap, sym, ◌∙◌, append_assoc
 use Rattle.std.proofs.lemmas.List.{append-nil, take-append-drop}
 use Rattle.std.proofs.Math.Seq.{take-length, take-append_seam}
 use mathlib.Core.List.{IsPrefix}
-use Rattle.one_way_queue.specs.declared.piece.Piece.{Piece}
-use Rattle.one_way_queue.specs.declared.piece.Piece.TheVariants.{Bytes, Mark}
-use Rattle.one_way_queue.specs.Pieces.{bytes_of, marks_of, frames_of}
+use Rattle.spsc_queue.specs.declared.piece.Piece.{Piece}
+use Rattle.spsc_queue.specs.declared.piece.Piece.TheVariants.{Bytes, Mark}
+use Rattle.spsc_queue.specs.Pieces.{bytes_of, marks_of, frames_of}
 use Rattle.link_queue.specs.declared.marks.Order.{Order}
 use Rattle.link_queue.specs.declared.marks.Order.TheVariants.{Finish, Close}
 use Rattle.link_queue.specs.declared.marks.News.{News}

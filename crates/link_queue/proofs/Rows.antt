@@ -2,15 +2,15 @@
 -- pieces and the sentinels back.
 use Rattle.std.proofs.Common.{◌≡◌, ℕ, Bool, true, false, true≢false, List, [], ◌∷◌, ◌++◌, None, Some}
 use Rattle.std.proofs.Common.{refl, sym, ap, inl, inr, arith}
-use Rattle.one_way_queue.specs.declared.piece.Piece.{Piece}
-use Rattle.one_way_queue.specs.declared.piece.Piece.TheVariants.{Bytes, Mark}
+use Rattle.spsc_queue.specs.declared.piece.Piece.{Piece}
+use Rattle.spsc_queue.specs.declared.piece.Piece.TheVariants.{Bytes, Mark}
 use Rattle.link_queue.specs.declared.marks.Order.{Order}
 use Rattle.link_queue.specs.declared.marks.Order.TheVariants.{Finish, Close}
 use Rattle.link_queue.specs.declared.marks.News.{News}
 use Rattle.link_queue.specs.declared.marks.News.TheVariants.{End, Failed, Memory}
 use Rattle.link_queue.specs.declared.marks.Health.TheVariants.{Working, Failed as HasFailed, Memory as LacksMemory}
 use Rattle.link_queue.specs.Known.{TellsMore, frames_since}
-use Rattle.one_way_queue.specs.Pieces.{frames_of}
+use Rattle.spsc_queue.specs.Pieces.{frames_of}
 use Rattle.link_queue.specs.Marks.{Among, is_open, is_closed, has_finished, ends_once, may_hold, IsNewsOf}
 use Rattle.link_queue.specs.Marks.{QueuesUp, HearsBack, HasQueuedUp, PassesOn, BringsBack, HasBroughtBack}
 

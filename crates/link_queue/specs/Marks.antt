@@ -1,8 +1,8 @@
 -- The code's own: the contents of the queue to a writer and of the queue back.
 use Rattle.std.specs.Prelude.{◌≡◌, ◌⊎◌, ◌<◌, ◌≤◌, ◌+◌, ◌++◌, ℕ, Bool, true, false, List, [], ◌∷◌, Option, None, Some}
-use Rattle.one_way_queue.specs.declared.piece.Piece.{Piece}
-use Rattle.one_way_queue.specs.declared.piece.Piece.TheVariants.{Bytes, Mark}
-use Rattle.one_way_queue.specs.Pieces.{bytes_of, frames_of, marks_of}
+use Rattle.spsc_queue.specs.declared.piece.Piece.{Piece}
+use Rattle.spsc_queue.specs.declared.piece.Piece.TheVariants.{Bytes, Mark}
+use Rattle.spsc_queue.specs.Pieces.{bytes_of, frames_of, marks_of}
 use Rattle.link_queue.specs.declared.marks.Health.{Health}
 use Rattle.link_queue.specs.declared.marks.Health.TheVariants.{Working, Failed as HasFailed, Memory as LacksMemory}
 use Rattle.link_queue.specs.Known.{BeginsWith}

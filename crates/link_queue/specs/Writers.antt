@@ -2,7 +2,7 @@
 use Rattle.std.specs.Prelude.{◌≡◌, ℕ, List}
 use Rattle.atomic_table.specs.Seated.{TableId}
 use Rattle.mrpc_base.specs.declared.link.Link.{Ghosts}
-use Rattle.one_way_queue.specs.Ends.{consumer_queue, producer_queue}
+use Rattle.spsc_queue.specs.Ends.{consumer_queue, producer_queue}
 use Rattle.link_queue.specs.declared.writer.QueueWriter.{QueueWriter}
 use Rattle.link_queue.specs.declared.writer_end.WriterEnd.{WriterEnd}
 use Rattle.link_queue.specs.declared.marks.Health.TheVariants.{Failed, Memory}

@@ -8,7 +8,7 @@ ghost use Rattle.link_queue.specs.Known.{TellsMore, frames_since};
 use crate::kept::Kept;
 use crate::marks::Health;
 use mrpc_base::{Came, Handed, Link};
-use one_way_queue::GivenBytes;
+use spsc_queue::GivenBytes;
 
 // The link, the bytes received since the writer got it, its health, and whether it returned the end of the
 // stream.

@@ -35,8 +35,8 @@ pub fn open<'r, R: Wait, L: Link + Drop>(
     ensures backward { IfOk result (λ ends. ends.0.backward ≡ writer_backward ends.1) }
 {
     let most = cap as usize;
-    let (out, orders) = one_way_queue::open(alloc, most + MARK_PLACES)?;
-    let (back, incoming) = one_way_queue::open(alloc, most)?;
+    let (out, orders) = spsc_queue::open(alloc, most + MARK_PLACES)?;
+    let (back, incoming) = spsc_queue::open(alloc, most)?;
     let queue_link = QueueLink::new(rt, alloc, most, out, incoming);
     Ok((queue_link, QueueWriter::new(rt, alloc, link, orders, back)))
 }

@@ -4,12 +4,12 @@ ghost use Rattle.std.specs.Prelude.{◌≡◌, ◌≢◌, ◌<◌, ◌≤◌, �
 ghost use mathlib.Core.List.{IsPrefix};
 ghost use Rattle.mrpc_base.specs.Faults.{HasCause, raised};
 ghost use Rattle.mrpc_base.specs.Linking.{OnCame, OnNoneCame};
-ghost use Rattle.one_way_queue.specs.Ends.{put_of, taken_of, told_of, capacity_of, free_of, producer_queue, consumer_queue};
+ghost use Rattle.spsc_queue.specs.Ends.{put_of, taken_of, told_of, capacity_of, free_of, producer_queue, consumer_queue};
 
 use crate::marks::{Health, News, Order};
 use mrpc_base::{Came, Handed, Link};
 use mrpc_table::Bytes;
-use one_way_queue::{Consumer, Found, Piece, PieceReader, Producer};
+use spsc_queue::{Consumer, Found, Piece, PieceReader, Producer};
 use std::alloc::Global;
 use std::marker::Model;
 use std::sync::Wait;
@@ -41,9 +41,9 @@ impl<'r, R: Wait> Drop for QueueLink<'r, R> {
 }
 
 impl<'r, R: Wait> Model for QueueLink<'r, R> {
-    ghost use Rattle.one_way_queue.specs.Ends.{put_of, capacity_of, free_of, producer_queue};
-    ghost use Rattle.one_way_queue.specs.Pieces.{bytes_of, frames_of};
-    ghost use Rattle.one_way_queue.specs.Readers.{given_by, taken_by, told_by, reader_queue};
+    ghost use Rattle.spsc_queue.specs.Ends.{put_of, capacity_of, free_of, producer_queue};
+    ghost use Rattle.spsc_queue.specs.Pieces.{bytes_of, frames_of};
+    ghost use Rattle.spsc_queue.specs.Readers.{given_by, taken_by, told_by, reader_queue};
     ghost use Rattle.link_queue.specs.Marks.{QueuesUp, HearsBack};
     ghost use Rattle.link_queue.specs.Queueing.{Queueing};
 
@@ -310,9 +310,9 @@ pub struct Passed {
 }
 
 impl Model for Passed {
-    ghost use Rattle.one_way_queue.specs.Ends.{put_of, producer_queue};
-    ghost use Rattle.one_way_queue.specs.Readers.{given_by, taken_by, reader_queue};
-    ghost use Rattle.one_way_queue.specs.Pieces.{frames_of};
+    ghost use Rattle.spsc_queue.specs.Ends.{put_of, producer_queue};
+    ghost use Rattle.spsc_queue.specs.Readers.{given_by, taken_by, reader_queue};
+    ghost use Rattle.spsc_queue.specs.Pieces.{frames_of};
     ghost use Rattle.link_queue.specs.Marks.{HasQueuedUp};
     ghost use Rattle.link_queue.specs.Queueing.{PassedOn};
 

@@ -1,7 +1,7 @@
 //! The writer of a queue, which runs in a thread of its own.
 
 ghost use Rattle.std.specs.Prelude.{◌≡◌, ◌<◌, ◌≤◌, IfOk, length, take, true, false};
-ghost use Rattle.one_way_queue.specs.Ends.{put_of, taken_of};
+ghost use Rattle.spsc_queue.specs.Ends.{put_of, taken_of};
 ghost use Rattle.link_queue.specs.Inners.{passed_on};
 ghost use Rattle.link_queue.specs.Marks.{PassesOn, BringsBack};
 
@@ -10,8 +10,8 @@ use crate::inner::Inner;
 use crate::marks::{Health, News, Order};
 use mrpc_base::Link;
 use mrpc_table::Bytes;
-use one_way_queue::{Consumer, Piece, Producer};
-use pauses::Pauses;
+use polling::Pauses;
+use spsc_queue::{Consumer, Piece, Producer};
 use std::alloc::{AllocError, Global};
 use std::mem;
 use std::sync::Wait;
@@ -60,7 +60,7 @@ impl<'r, R, L: Link + Drop> Drop for QueueWriter<'r, R, L> {
 impl<'r, R: Wait, L: Link> QueueWriter<'r, R, L> {
     ghost use Rattle.std.specs.Prelude.{[], None};
     ghost use Rattle.link_queue.specs.Marks.{IsNewsOf};
-    ghost use Rattle.one_way_queue.specs.Ends.{consumer_queue, producer_queue};
+    ghost use Rattle.spsc_queue.specs.Ends.{consumer_queue, producer_queue};
     ghost use Rattle.link_queue.specs.Writers.{writer_start, writer_forward, writer_backward, start_of, end_forward, end_backward};
 
     pub(crate) fn new(

@@ -1,7 +1,7 @@
 //! The state of a writer after it ended.
 
 ghost use Rattle.std.specs.Prelude.{◌≡◌, true};
-ghost use Rattle.one_way_queue.specs.Ends.{put_of, taken_of};
+ghost use Rattle.spsc_queue.specs.Ends.{put_of, taken_of};
 ghost use Rattle.link_queue.specs.Inners.{passed_on};
 ghost use Rattle.link_queue.specs.Marks.{PassesOn, HasBroughtBack};
 
@@ -9,7 +9,7 @@ use crate::inner::Inner;
 use crate::marks::{Health, News, Order};
 use crate::queue_link::Passed;
 use mrpc_base::Link;
-use one_way_queue::{Consumer, Piece, Producer};
+use spsc_queue::{Consumer, Piece, Producer};
 
 /// The state of a writer after it ended: the inner link, and whether it was out of memory.
 pub struct WriterEnd<L: Link> {
@@ -35,7 +35,7 @@ impl<L: Link> WriterEnd<L> {
     ghost use Rattle.std.specs.Prelude.{◌++◌, ◌↔◌, IsTrue, false};
     ghost use mathlib.Core.List.{IsPrefix};
     ghost use Rattle.mrpc_base.specs.Faults.{Rose};
-    ghost use Rattle.one_way_queue.specs.Ends.{consumer_queue, producer_queue};
+    ghost use Rattle.spsc_queue.specs.Ends.{consumer_queue, producer_queue};
     ghost use Rattle.link_queue.specs.Known.{TellsMore};
     ghost use Rattle.link_queue.specs.Writers.{start_of, link_of, handed_since, given_since, end_forward, end_backward, has_failed, lacked_memory};
 
@@ -125,7 +125,7 @@ impl<L: Link> WriterEnd<L> {
             ended: _,
             failed: _,
         } = passed;
-        one_way_queue::meet(&mut out, &mut self.orders);
+        spsc_queue::meet(&mut out, &mut self.orders);
         incoming.meet(&mut self.out);
     }
 }

@@ -3,10 +3,10 @@ use Rattle.std.proofs.Common.{◌≡◌, ℕ, Bool, true, false, List, [], ◌�
 use Rattle.std.specs.List.{concat}
 use Rattle.std.proofs.lemmas.List.{append-nil}
 use mathlib.Core.List.{IsPrefix}
-use Rattle.one_way_queue.specs.declared.piece.Piece.{Piece}
-use Rattle.one_way_queue.specs.declared.piece.Piece.TheVariants.{Bytes, Mark}
-use Rattle.one_way_queue.specs.Pieces.{bytes_of, marks_of, frames_of}
-use Rattle.one_way_queue.specs.Sides.{Agree}
+use Rattle.spsc_queue.specs.declared.piece.Piece.{Piece}
+use Rattle.spsc_queue.specs.declared.piece.Piece.TheVariants.{Bytes, Mark}
+use Rattle.spsc_queue.specs.Pieces.{bytes_of, marks_of, frames_of}
+use Rattle.spsc_queue.specs.Sides.{Agree}
 use Rattle.mem_fabric.specs.Pair.{IsOutgoing, HasTakenAll}
 
 module _ {M : Type 0} where

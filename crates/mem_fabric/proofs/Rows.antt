@@ -1,10 +1,10 @@
 -- Worked by hand: the definitions on a pair whose one end sent two frames and finished.
 use Rattle.std.proofs.Common.{◌≡◌, ℕ, Bool, true, false, true≢false, List, [], ◌∷◌, refl, sym, ap}
 use Rattle.atomic_table.specs.Seated.{TableId}
-use Rattle.one_way_queue.specs.declared.piece.Piece.{Piece}
-use Rattle.one_way_queue.specs.declared.piece.Piece.TheVariants.{Bytes, Mark}
+use Rattle.spsc_queue.specs.declared.piece.Piece.{Piece}
+use Rattle.spsc_queue.specs.declared.piece.Piece.TheVariants.{Bytes, Mark}
 use Rattle.mem_fabric.specs.Fabric.{numbers_of}
-use Rattle.one_way_queue.specs.Pieces.{frames_of}
+use Rattle.spsc_queue.specs.Pieces.{frames_of}
 use Rattle.mem_fabric.specs.Pair.{PairEnd, ArePair, IsHandedOn, told_of_all, IsOutgoing, HasTakenAll}
 
 -- a queue, by its number

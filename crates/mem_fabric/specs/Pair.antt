@@ -3,9 +3,9 @@ use Rattle.std.specs.Prelude.{◌≡◌, ◌≢◌, ℕ, Bool, true, false, List
 use Rattle.std.specs.List.{concat}
 use mathlib.Core.List.{IsPrefix}
 use Rattle.atomic_table.specs.Seated.{TableId}
-use Rattle.one_way_queue.specs.declared.piece.Piece.{Piece}
-use Rattle.one_way_queue.specs.declared.piece.Piece.TheVariants.{Bytes, Mark}
-use Rattle.one_way_queue.specs.Pieces.{bytes_of, marks_of}
+use Rattle.spsc_queue.specs.declared.piece.Piece.{Piece}
+use Rattle.spsc_queue.specs.declared.piece.Piece.TheVariants.{Bytes, Mark}
+use Rattle.spsc_queue.specs.Pieces.{bytes_of, marks_of}
 
 -- one end of a pair
 pub record PairEnd : Type 0 where

@@ -2,7 +2,7 @@
 
 ghost use Rattle.std.specs.Prelude.{◌≡◌, ◌≢◌, ◌<◌, ◌≤◌, ◌↔◌, ◌⊎◌, [], ◌∷◌, ◌++◌, Contains, IfOk, IsTrue, length, take, true, false};
 ghost use mathlib.Core.List.{IsPrefix};
-ghost use Rattle.one_way_queue.specs.Ends.{put_of, taken_of, told_of, free_of, producer_queue, consumer_queue};
+ghost use Rattle.spsc_queue.specs.Ends.{put_of, taken_of, told_of, free_of, producer_queue, consumer_queue};
 ghost use Rattle.mrpc_base.specs.Faults.{HasCause, raised};
 ghost use Rattle.mrpc_base.specs.Linking.{OnCame, OnNoneCame};
 ghost use Rattle.mem_fabric.specs.Fabric.{numbers_of};
@@ -12,7 +12,7 @@ ghost use Rattle.mem_fabric.specs.Pair.{ArePair, IsHandedOn, told_of_all};
 use crate::listed::{EndCalls, ListedConns};
 use mrpc_base::{Came, Handed, Link};
 use mrpc_table::Bytes;
-use one_way_queue::{Consumer, Found, Piece, PieceReader, Producer};
+use spsc_queue::{Consumer, Found, Piece, PieceReader, Producer};
 use std::alloc::{AllocError, Global};
 use std::marker::Model;
 use std::sync::Wait;
@@ -57,9 +57,9 @@ impl<'r, R> Drop for PairLink<'r, R> {
 
 impl<'r, R> Model for PairLink<'r, R> {
     ghost use Rattle.std.specs.Prelude.{◌≡◌, ◌<◌, Bool, true, false};
-    ghost use Rattle.one_way_queue.specs.Ends.{put_of, free_of, producer_queue};
-    ghost use Rattle.one_way_queue.specs.Pieces.{bytes_of, frames_of};
-    ghost use Rattle.one_way_queue.specs.Readers.{given_by, taken_by, told_by, reader_queue};
+    ghost use Rattle.spsc_queue.specs.Ends.{put_of, free_of, producer_queue};
+    ghost use Rattle.spsc_queue.specs.Pieces.{bytes_of, frames_of};
+    ghost use Rattle.spsc_queue.specs.Readers.{given_by, taken_by, told_by, reader_queue};
     ghost use Rattle.mem_fabric.specs.Pair.{PairEnd, IsOutgoing, HasTakenAll};
 
     ghost Value = { PairEnd };
@@ -278,8 +278,8 @@ fn new_ends<'r, R: Wait>(
     ensures first { IfOk result (λ ends. ends.0 ≡ fresh_end first ends.0.outward ends.0.inward) }
     ensures second { IfOk result (λ ends. ends.1 ≡ fresh_end second ends.1.outward ends.1.inward) }
 {
-    let (from_first, to_second) = one_way_queue::open(alloc, MOST_PIECES + END_PLACES)?;
-    let (from_second, to_first) = one_way_queue::open(alloc, MOST_PIECES + END_PLACES)?;
+    let (from_first, to_second) = spsc_queue::open(alloc, MOST_PIECES + END_PLACES)?;
+    let (from_second, to_first) = spsc_queue::open(alloc, MOST_PIECES + END_PLACES)?;
     Ok((
         PairLink::new(rt, alloc, from_first, to_first, first),
         PairLink::new(rt, alloc, from_second, to_second, second),

@@ -8,12 +8,11 @@ ghost use Rattle.mrpc_base.specs.Writing.{OnTook};
 
 use crate::progress::Progress;
 use crate::told::calls_told;
-use mrpc_base::{Got, Put, Sink, Source};
+use mrpc_base::{CHUNK, Got, Put, Sink, Source};
 use mrpc_table::Bytes;
 use std::alloc::Global;
 use std::io::Eprint;
 use std::time::Clock;
-use whole_input::CHUNK;
 
 // How the line of a fault starts.
 const FAULT: &[u8] = b"fault ";

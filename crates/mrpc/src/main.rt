@@ -1,8 +1,8 @@
 //! The program `mrpc`: it hands the words of the command line, standard input, standard output, the file
 //! `mrpc.wire`, links over TCP and the clock to the top call, and exits with the status that it returns.
 //!
-//! It uses `system_io` for the system's source, sinks and clock, `tcp_fabric` for the links, `link_tally` to
-//! count their frames, `mrpc_top`, which does all the work, and `explain`, which explains a faulty input on
+//! It uses `system_io` for the system's source, sinks and clock, `tcp_fabric` for the links, `link_counters` to
+//! count their frames, `mrpc_top`, which does all the work, and `command_diagnostics`, which explains a faulty input on
 //! standard error.
 #![tactic(auto)]
 
@@ -12,10 +12,10 @@ mod progress;
 mod told;
 mod usage;
 
+use command_diagnostics::{explained, no_command};
 use command_line::{Asked, WordsFault, asked_alone, words};
-use explain::{explained, no_command};
 use kept::{KeptSink, KeptSource};
-use link_tally::TallyFabric;
+use link_counters::TallyFabric;
 use mrpc_base::{Fabric, Sink, Source, write_all};
 use mrpc_top::{
     DONE, FABRIC_FAILED, FAULTY_INPUT, LINK_FAILED, NO_COMMAND, NO_MEMORY, OUTPUT_FAILED,

@@ -2,7 +2,7 @@
 
 ghost use Rattle.std.specs.Prelude.{IsTrue};
 
-use link_tally::Tally;
+use link_counters::Tally;
 use mrpc_base::Gate;
 use std::alloc::{AllocError, Global};
 use std::io::Eprint;

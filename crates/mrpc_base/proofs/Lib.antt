@@ -1,5 +1,6 @@
 mod Drawn
 mod Due
+mod InputBytes
 mod KnownBytes
 mod LastStore
 mod Listed

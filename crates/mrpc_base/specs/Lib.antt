@@ -1,6 +1,7 @@
 pub mod Calls
 pub mod Faults
 pub mod Heap
+pub mod InputReading
 pub mod Linking
 pub mod Parts
 pub mod Quota

@@ -9,6 +9,9 @@
 //! Each trait of a device counts its failures, and the count never falls. A call returns `Failed` only if the count
 //! rose in that call or has reached 2^64 - 1, its last value. Any other result leaves the count as it was. So a layer
 //! above can prove that it reports a failure only after a device failed.
+//!
+//! [`read_input`] reads the whole input of a command, up to a limit in bytes. It returns all the remaining bytes of a
+//! source, or that they exceed the limit, that the source failed, or that it is out of memory.
 #![tactic(auto)]
 
 mod calls;
@@ -30,6 +33,7 @@ mod stored_words;
 mod stores;
 mod supply;
 mod tickets;
+mod whole_input;
 mod words;
 mod writing;
 
@@ -47,5 +51,6 @@ pub use sink::{Put, Sink};
 pub use source::{Got, Source};
 pub use stores::Stores;
 pub use tickets::{Tickets, WINDOWS};
+pub use whole_input::{CHUNK, INPUT_LIMIT, Input, read_input};
 pub use words::{Room, Words};
 pub use writing::write_all;

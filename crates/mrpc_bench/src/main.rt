@@ -16,7 +16,7 @@
 
 mod apps;
 mod conn;
-mod drill;
+mod drill_in_memory;
 mod given;
 mod lines;
 mod links;
@@ -98,7 +98,7 @@ where
     match named(&PARTS, part.as_str())? {
         Part::Apps => alone(alloc, apps::told(rt, alloc, behind)),
         Part::Conn => alone(alloc, conn::told(alloc, behind)),
-        Part::Drill => alone(alloc, drill::told(rt, alloc, behind)),
+        Part::Drill => alone(alloc, drill_in_memory::told(rt, alloc, behind)),
         Part::Links => alone(alloc, links::told(rt, alloc, behind)),
         Part::Ring => alone(alloc, ring::told(rt, alloc, behind)),
         Part::Scenario => alone(alloc, scenarios::told(alloc, behind, input)),

@@ -3,7 +3,7 @@
 //!
 //!     mrpc_bench ring COUNT
 //!
-//! It measures `shared_heap`, `descriptor_ring` and `untouched_copy`. It ends with status 1 if the count is
+//! It measures `shared_heap`, `descriptor_ring` and `stable_copy`. It ends with status 1 if the count is
 //! missing or out of its range, 0 to 4294967293, or if it runs out of memory.
 
 mod passing;

@@ -12,7 +12,7 @@ use crate::lines::line_of;
 use mrpc_table::Bytes;
 use run_plan::{Plan, Role};
 use scenario_reader::read_scenario;
-use scenario_values::{tables_at, texts_at};
+use scenario_toml::{tables_at, texts_at};
 use std::alloc::Global;
 use std::io::Read;
 use toml::{Table, table_from_slice};

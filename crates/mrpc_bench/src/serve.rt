@@ -3,7 +3,7 @@
 //!
 //!     mrpc_bench serve
 //!
-//! It measures `scenario_run` and the crates below it. It ends with status 1 if the text is no plan, it runs
+//! It measures `run_driver` and the crates below it. It ends with status 1 if the text is no plan, it runs
 //! out of memory, or a link fails.
 
 ghost use Rattle.std.specs.Prelude.{IfSome};
@@ -14,9 +14,9 @@ use crate::given::text_of;
 use mem_fabric::{ListedFaults, MemFabric};
 use mrpc_base::{Fabric, OpenGate};
 use mrpc_table::Bytes;
+use run_driver::{Run, serve_plan};
 use run_plan::Plan;
 use scenario_reader::read_scenario;
-use scenario_run::{Run, serve_plan};
 use std::alloc::Global;
 use std::io::Read;
 use std::sync::Wait;

@@ -1,9 +1,9 @@
 -- A command does no work on a faulty text.
 use Rattle.std.proofs.Common.{◌≡◌, ℕ, List, Option, sym, subst}
 use Rattle.mrpc_table.specs.declared.table.Table.{Table}
-use Rattle.script_words.specs.declared.fault.ScriptReason.{ScriptReason}
-use Rattle.script_text.specs.declared.script.Script.{Script}
-use Rattle.script_text.specs.Texts.{Spells, IsFault}
+use Rattle.script_grammar.specs.declared.fault.ScriptReason.{ScriptReason}
+use Rattle.replay_script.specs.declared.script.Script.{Script}
+use Rattle.replay_script.specs.Texts.{Spells, IsFault}
 use Rattle.text_commands.specs.Auditing.{AuditsText, HasAuditFault, IsAnswer, IsAuditFault}
 use Rattle.text_commands.specs.Checking.{ChecksAs, ChecksText, IsCheckFault}
 use Rattle.text_commands.specs.DecodeInput.{Holds, IsTextFault}

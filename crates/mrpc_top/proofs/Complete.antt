@@ -6,9 +6,9 @@ use Rattle.std.specs.declared.alloc.Global.{Global}
 use Rattle.std.proofs.lemmas.Bool.{cases_eq}
 use Rattle.text_commands.specs.Decoded.CutsText.{in_text, in_stream}
 use Rattle.text_commands.specs.Decoded.HasDecodeFault.{fault_in_text, fault_in_stream}
-use Rattle.whole_input.specs.declared.reading.TheConstants.{INPUT_LIMIT}
+use Rattle.mrpc_base.specs.declared.whole_input.TheConstants.{INPUT_LIMIT}
 use Rattle.mrpc_top.specs.Command.{IsFaulty, Names, Refuses, command_word}
-use Rattle.whole_input.specs.Reading.{ReadsPast}
+use Rattle.mrpc_base.specs.InputReading.{ReadsPast}
 use Rattle.mrpc_top.specs.declared.command.Command.{Command}
 use Rattle.mrpc_top.specs.declared.command.Command.TheVariants.{Replay, Decode, Check, Audit}
 

@@ -2,17 +2,17 @@
 use Rattle.std.proofs.Common.{◌≡◌, ◌∙◌, ◌<◌, ◌≤◌, ap, arith, inl, inr, length, refl, subst, sym, ℕ, List, ◌∷◌, Option, Some}
 use Rattle.std.specs.Prelude.{String}
 use Rattle.std.specs.declared.alloc.Global.{Global}
-use Rattle.script_words.specs.Reasons.{reason_word}
-use Rattle.script_words.specs.declared.fault.ScriptReason.{ScriptReason}
-use Rattle.script_text.specs.Texts.{Spells, IsFault}
-use Rattle.script_text.specs.declared.script.Script.{Script}
+use Rattle.script_grammar.specs.Reasons.{reason_word}
+use Rattle.script_grammar.specs.declared.fault.ScriptReason.{ScriptReason}
+use Rattle.replay_script.specs.Texts.{Spells, IsFault}
+use Rattle.replay_script.specs.declared.script.Script.{Script}
 use Rattle.text_commands.specs.FaultLines.{WritesFront, fault_line}
 use Rattle.mrpc_top.specs.Command.{HasFault, Names, IsReplay}
-use Rattle.whole_input.specs.Reading.{IsAllOf}
+use Rattle.mrpc_base.specs.InputReading.{IsAllOf}
 use Rattle.mrpc_top.specs.Replaying.{StopsText, HasScriptFault, in_fault}
 use Rattle.mrpc_top.specs.declared.command.Command.{Command}
 use Rattle.mrpc_top.specs.declared.command.Command.TheVariants.{Replay, Decode, Check, Audit}
-use Rattle.whole_input.specs.declared.reading.TheConstants.{INPUT_LIMIT}
+use Rattle.mrpc_base.specs.declared.whole_input.TheConstants.{INPUT_LIMIT}
 use Rattle.mrpc_top.proofs.Commands.{NeverBoth}
 use Rattle.mrpc_top.proofs.KnownBytes.{appends-nothing}
 

@@ -8,27 +8,27 @@ use Rattle.mrpc_base.specs.declared.link.Link.{Ghosts as LinkMembers}
 use Rattle.run_plan.specs.declared.plan.Plan.{Plan}
 use Rattle.scenario.specs.Reasons.{number_of_entry, reason_word}
 use Rattle.scenario.specs.Scenarios.{HasFault}
-use Rattle.drill_plan.specs.Drill.{drill}
+use Rattle.drill.specs.Drill.{drill}
 use Rattle.telemetry.specs.Totals.{SumsCount}
 use Rattle.telemetry.specs.declared.counts.Counts.{Counts}
 use Rattle.scenario.specs.declared.fault.Entry.{Entry}
 use Rattle.scenario.specs.declared.fault.ScenarioReason.{ScenarioReason}
-use Rattle.run_text.specs.Counting.{counted_in}
-use Rattle.run_text.specs.declared.shown.Shown.{Shown}
+use Rattle.run_report.specs.Counting.{counted_in}
+use Rattle.run_report.specs.declared.shown.Shown.{Shown}
 use Rattle.service.specs.Served.{ArePairs}
 use Rattle.service.specs.declared.served.ServedConn.{ServedConn}
-use Rattle.scenario_run.specs.Running.{HasRun, NeverFailed}
-use Rattle.drill_laws.specs.Counting.{counts_told}
-use Rattle.drill_laws.specs.Meeting.{HaveMet}
-use Rattle.drill_laws.specs.Runs.{TellsRun}
-use Rattle.whole_input.specs.Reading.{IsInput}
+use Rattle.run_driver.specs.Running.{HasRun, NeverFailed}
+use Rattle.drill.specs.Counting.{counts_told}
+use Rattle.drill.specs.Meeting.{HaveMet}
+use Rattle.drill.specs.Runs.{TellsRun}
+use Rattle.mrpc_base.specs.InputReading.{IsInput}
 use Rattle.text_commands.specs.FaultLines.{fault_line}
-use Rattle.whole_input.specs.Reading.{IsAllOf}
+use Rattle.mrpc_base.specs.InputReading.{IsAllOf}
 use Rattle.mrpc_top.specs.Runs.{HasRunFault, MayRefuse, MayTell, drill_line}
 use Rattle.mrpc_top.specs.Told.{IsDrillLine, IsPlanOf}
 use Rattle.mrpc_top.specs.declared.run.Running.{Running}
 use Rattle.text_commands.specs.declared.status.TheConstants.{FAULTY_INPUT, NO_MEMORY, OUTPUT_FAILED}
-use Rattle.whole_input.specs.declared.reading.TheConstants.{INPUT_LIMIT}
+use Rattle.mrpc_base.specs.declared.whole_input.TheConstants.{INPUT_LIMIT}
 use Rattle.mrpc_top.specs.declared.run.Running.TheVariants.{Scenario, Drill}
 use Rattle.mrpc_top.proofs.KnownBytes.{appends-nothing}
 

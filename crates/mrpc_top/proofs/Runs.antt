@@ -6,7 +6,7 @@ use Rattle.mrpc_top.specs.Command.{Names}
 use Rattle.mrpc_top.specs.Runs.{IsCallCount, NamesRun}
 use Rattle.mrpc_top.specs.declared.command.Command.{Command}
 use Rattle.mrpc_top.specs.declared.command.Command.TheVariants.{Replay, Decode, Check, Audit}
-use Rattle.drill_plan.specs.declared.plan.TheConstants.{MAX_CALLS}
+use Rattle.drill.specs.declared.plan.TheConstants.{MAX_CALLS}
 use Rattle.mrpc_top.specs.declared.run.Running.{Running}
 use Rattle.mrpc_top.specs.declared.run.Running.TheVariants.{Scenario, Drill}
 

@@ -8,9 +8,9 @@ use Rattle.text_commands.specs.Auditing.{AuditsText, RefusesAudit, HasAuditFault
 use Rattle.text_commands.specs.Checking.{ChecksText, IsCheckFault, RefusesProto}
 use Rattle.text_commands.specs.Decoded.{CutsText, DecodesText, HasDecodeFault}
 use Rattle.text_commands.specs.declared.check.Spot.{Spot}
-use Rattle.whole_input.specs.declared.reading.TheConstants.{INPUT_LIMIT}
+use Rattle.mrpc_base.specs.declared.whole_input.TheConstants.{INPUT_LIMIT}
 use Rattle.mrpc_top.specs.Replaying.{RunsText, BreaksText, StopsText, RefusesScript, HasScriptFault}
-use Rattle.whole_input.specs.Reading.{IsInput, ReadsPast}
+use Rattle.mrpc_base.specs.InputReading.{IsInput, ReadsPast}
 use Rattle.mrpc_top.specs.declared.command.Command.{Command}
 use Rattle.mrpc_top.specs.declared.command.Command.TheVariants.{Replay, Decode, Check, Audit}
 

@@ -1,10 +1,10 @@
 -- What `replay` does with a text.
 use Rattle.std.specs.Prelude.{ℕ, List, [], Option}
 use Rattle.std.specs.Io.KnownBytes.{Appends}
-use Rattle.script_words.specs.Reasons.{reason_word}
-use Rattle.script_words.specs.declared.fault.ScriptReason.{ScriptReason}
-use Rattle.script_text.specs.Texts.{Spells, IsFault}
-use Rattle.script_text.specs.declared.script.Script.{Script}
+use Rattle.script_grammar.specs.Reasons.{reason_word}
+use Rattle.script_grammar.specs.declared.fault.ScriptReason.{ScriptReason}
+use Rattle.replay_script.specs.Texts.{Spells, IsFault}
+use Rattle.replay_script.specs.declared.script.Script.{Script}
 use Rattle.replay_run.specs.Running.{Replays, Breaks, Stops}
 use Rattle.text_commands.specs.FaultLines.{WritesFront, fault_line}
 

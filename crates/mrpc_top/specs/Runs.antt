@@ -9,20 +9,20 @@ use Rattle.mrpc_table.specs.Lines.{number_of}
 use Rattle.mrpc_table.specs.Text.{line}
 use Rattle.telemetry.specs.declared.counts.Counts.{Counts}
 use Rattle.run_plan.specs.declared.plan.Plan.{Plan}
-use Rattle.drill_plan.specs.Drill.{drill}
-use Rattle.drill_plan.specs.declared.plan.TheConstants.{MAX_CALLS}
+use Rattle.drill.specs.Drill.{drill}
+use Rattle.drill.specs.declared.plan.TheConstants.{MAX_CALLS}
 use Rattle.scenario.specs.Reasons.{number_of_entry, reason_word}
 use Rattle.scenario.specs.Scenarios.{HasFault, IsTextOf}
 use Rattle.scenario.specs.declared.fault.Entry.{Entry}
 use Rattle.scenario.specs.declared.fault.ScenarioReason.{ScenarioReason}
 use Rattle.service.specs.Served.{ArePairs}
-use Rattle.scenario_run.specs.Running.{HasRun}
-use Rattle.drill_laws.specs.Counting.{counts_told}
-use Rattle.drill_laws.specs.Meeting.{HaveMet}
-use Rattle.whole_input.specs.Reading.{IsInput}
+use Rattle.run_driver.specs.Running.{HasRun}
+use Rattle.drill.specs.Counting.{counts_told}
+use Rattle.drill.specs.Meeting.{HaveMet}
+use Rattle.mrpc_base.specs.InputReading.{IsInput}
 use Rattle.text_commands.specs.FaultLines.{WritesFront, fault_line}
-use Rattle.whole_input.specs.Reading.{ReadsPast}
-use Rattle.whole_input.specs.declared.reading.TheConstants.{INPUT_LIMIT}
+use Rattle.mrpc_base.specs.InputReading.{ReadsPast}
+use Rattle.mrpc_base.specs.declared.whole_input.TheConstants.{INPUT_LIMIT}
 use Rattle.mrpc_top.specs.declared.run.Running.{Running}
 use Rattle.mrpc_top.specs.declared.run.Running.TheVariants.{Scenario, Drill}
 

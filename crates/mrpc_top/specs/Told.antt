@@ -1,13 +1,13 @@
 -- Which plan is run, and what its run prints: the code's own. No public definition takes a word from here.
 use Rattle.std.specs.Prelude.{◌≡◌, ℕ, List, Option}
 use Rattle.std.specs.Io.KnownBytes.{Appends}
-use Rattle.drill_plan.specs.Drill.{drill}
+use Rattle.drill.specs.Drill.{drill}
 use Rattle.run_plan.specs.declared.plan.Plan.{Plan}
 use Rattle.scenario.specs.Scenarios.{IsTextOf}
 use Rattle.telemetry.specs.Totals.{IsTotals, sums_of}
 use Rattle.telemetry.specs.declared.counts.Counts.{Counts}
 use Rattle.text_commands.specs.FaultLines.{WritesFront}
-use Rattle.whole_input.specs.Reading.{IsInput}
+use Rattle.mrpc_base.specs.InputReading.{IsInput}
 use Rattle.mrpc_top.specs.Runs.{drill_line}
 use Rattle.mrpc_top.specs.declared.run.Running.{Running}
 use Rattle.mrpc_top.specs.declared.run.Running.TheVariants.{Scenario, Drill}

@@ -5,26 +5,25 @@ ghost use Rattle.mrpc_base.specs.Faults.{HasCause, Rose};
 ghost use Rattle.mrpc_top.specs.Command.{command_word, Names, IsReplay, IsCommand, IsDone, IsRefused, IsBroken, IsCutShort, HasFault, IsFaulty, WorksOn, Refuses, StopsOn};
 ghost use Rattle.mrpc_top.specs.Replaying.{RunsText, BreaksText, StopsText, RefusesScript, HasScriptFault};
 ghost use Rattle.replay_run.specs.Running.{Breaks, Replays, Stops};
-ghost use Rattle.script_text.specs.Lines.{IsScript};
+ghost use Rattle.replay_script.specs.Lines.{IsScript};
 
 use crate::discard;
 use crate::replay::one_replay;
-use mrpc_base::{Sink, Source};
+use mrpc_base::{INPUT_LIMIT, Input, Sink, Source, read_input};
 use replay_run::{Stop, run_script};
-use script_text::{Script, one_script, read_script};
-use script_words::ScriptFault;
+use replay_script::{Script, one_script, read_script};
+use script_grammar::ScriptFault;
 use std::alloc::Global;
 use text_commands::{
     DONE, FAULTY_INPUT, INPUT_FAILED, NO_COMMAND, NO_MEMORY, OUTPUT_FAILED, WIRE_FAILED, audit_to,
     check_to, decode_to, one_audit, one_check, one_decoding, refuse,
 };
-use whole_input::{INPUT_LIMIT, Input, read_input};
 
 /// Runs the command that the words name, and returns its exit status.
 ///
 /// `replay` reads a script from `input` and runs it. It writes the audit to `out`, line by line, and the
 /// frames to `wire`; last come the lines of the calls that are pending at the end. If the text is no script
-/// (see `script_text`), its first fault is written to `out` as one line `fault LINE REASON`. If a frame can't
+/// (see `replay_script`), its first fault is written to `out` as one line `fault LINE REASON`. If a frame can't
 /// be written, the calls pending on its connection are refused, it writes the lines of the calls still
 /// pending, and the later lines of the script do nothing. If `out` fails after that, the status is
 /// `OUTPUT_FAILED`.
@@ -37,14 +36,14 @@ use whole_input::{INPUT_LIMIT, Input, read_input};
 /// the offset from the first byte after the `end` line.
 ///
 /// `check` reads a proto file, and writes the canonical text of its table to `out`. If the text is no proto
-/// file, or its names and numbers violate a rule of schemas (see `proto_schema` and `schema_offences`), its
+/// file, or its names and numbers violate a rule of schemas (see `proto_schema` and `schema_validation`), its
 /// first fault is written as one line `fault LINE REASON`; reasons of the first kind count before those of
-/// the second. For a set of files (see `file_bundle`) it writes the table of the first file and of all files
+/// the second. For a set of files (see `proto_set`) it writes the table of the first file and of all files
 /// that it imports, directly or not (`schema_files`), or one line `fault FILE REASON` or
 /// `fault FILE:LINE REASON`.
 ///
 /// `audit` reads a table, tenants and policies, and after the line `audit` the text of an audit (see
-/// `audit_input` and `audit_text`). It writes one line to `out`. The line is `legal HAPPENINGS STANDS` if the
+/// `audit_check` and `audit_text`). It writes one line to `out`. The line is `legal HAPPENINGS STANDS` if the
 /// history is legal and its lines of pending calls, if there are any, list exactly the pending calls.
 /// Otherwise it is `illegal LINE RULE`, with the first line of the input that makes it fail and the first
 /// rule that is broken there (`audit_check`). If the input isn't valid, its first fault is written as one

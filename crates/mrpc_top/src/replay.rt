@@ -2,16 +2,16 @@
 
 ghost use Rattle.std.specs.Prelude.{◌≡◌, ◌⊎◌, All, List, length, ℕ};
 ghost use Rattle.mrpc_table.specs.declared.call.Call.{Call};
-ghost use Rattle.script_words.specs.declared.fault.ScriptReason.{ScriptReason};
-ghost use Rattle.script_text.specs.Texts.{Spells, IsFault};
-ghost use Rattle.script_text.specs.declared.script.Script.{Script};
+ghost use Rattle.script_grammar.specs.declared.fault.ScriptReason.{ScriptReason};
+ghost use Rattle.replay_script.specs.Texts.{Spells, IsFault};
+ghost use Rattle.replay_script.specs.declared.script.Script.{Script};
 ghost use Rattle.call_history.specs.Frames.{frames};
 ghost use Rattle.call_history.specs.Legal.{IsLegal};
 ghost use Rattle.replay_run.specs.Follows.{State, Follows, FollowsUntil, under};
 ghost use Rattle.replay_run.specs.Sound.{IsAllowed, IsSoundOn};
 
 use replay_run::{one_follows, what_follows_is_sound};
-use script_text::one_script;
+use replay_script::one_script;
 
 /// A text has at most one replay. It has one script or one first fault, never both. At most one history
 /// follows from the script, with its loads and its pending calls, both for the whole script and up to a send

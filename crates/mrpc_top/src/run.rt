@@ -10,21 +10,20 @@ ghost use Rattle.scenario.specs.Scenarios.{HasFault, IsTextOf};
 ghost use Rattle.scenario.specs.declared.fault.Entry.{Entry};
 ghost use Rattle.scenario.specs.declared.fault.ScenarioReason.{ScenarioReason};
 ghost use Rattle.telemetry.specs.Totals.{IsTotals, sums_of};
-ghost use Rattle.whole_input.specs.Reading.{IsInput};
+ghost use Rattle.mrpc_base.specs.InputReading.{IsInput};
 ghost use Rattle.text_commands.specs.FaultLines.{WritesFront};
 ghost use Rattle.mrpc_top.specs.Runs.{HasPlan, HasRunFault, IsCallCount, NamesRun, StopsRun, WritesRefusal, WritesRun, drill_line};
 ghost use Rattle.mrpc_top.specs.Told.{IsPlanOf, WritesLine, WritesLineFront};
 
 use crate::discard;
-use drill_laws::{drills_add_up, drills_are_bound};
-use drill_plan::{MAX_CALLS, drill_plan};
-use mrpc_base::{Clock, Fabric, Gate, Sink, Source, write_all};
+use drill::{MAX_CALLS, drill_plan, drills_add_up, drills_are_bound};
+use mrpc_base::{Clock, Fabric, Gate, INPUT_LIMIT, Input, Sink, Source, read_input, write_all};
 use mrpc_table::{Bytes, Decimal, Memory, number_of};
+use run_driver::{Counted, Run, count_plan, serve_plan};
 use run_plan::Plan;
 use scenario::ScenarioFault;
 use scenario_laws::{a_said_plan_is_sound, one_scenario};
 use scenario_reader::read_scenario;
-use scenario_run::{Counted, Run, count_plan, serve_plan};
 use service::ServeFault;
 use std::alloc::Global;
 use std::sync::Wait;
@@ -33,7 +32,6 @@ use telemetry::{Totals, totals_are_counts};
 use text_commands::{
     DONE, FAULTY_INPUT, INPUT_FAILED, NO_COMMAND, NO_MEMORY, OUTPUT_FAILED, WIRE_FAILED, refuse,
 };
-use whole_input::{INPUT_LIMIT, Input, read_input};
 
 /// A link failed during the run.
 pub const LINK_FAILED: u8 = WIRE_FAILED;

@@ -3,20 +3,20 @@
 use Rattle.std.proofs.Common.{◌≡◌, inl, inr, ℕ, zero, suc, ◌<◌, List, [], ◌∷◌, ◌++◌, refl, ap, subst, sym, ◌∙◌, arith}
 use Rattle.std.specs.Prelude.{Option, Some, slice_get, Contains}
 use Rattle.std.proofs.lemmas.Option.{slice_get-get_or}
-use Rattle.proto_parts.specs.Lexemes.{Lexeme}
+use Rattle.proto_grammar.specs.Lexemes.{Lexeme}
 use Rattle.proto_schema.specs.Files
 use Rattle.proto_schema.specs.Files.{Draft, Statement, Says, Forms, ClosesTo, nothing_said, edit_open, edit_last, innermost_of}
 use Rattle.proto_schema.specs.Faults.{IsTextOf}
-use Rattle.proto_file.specs.Joined.{alone}
-use Rattle.proto_file.specs.Order
-use Rattle.proto_file.specs.Together
-use Rattle.proto_file.specs.Together.{Declaration, StandsAt, package_decl, message_decl, field_decl, oneof_decl, enum_decl, value_decl, service_decl, rpc_decl}
-use Rattle.proto_file.specs.declared.file.Span.{Span}
-use Rattle.proto_file.specs.declared.file.MessageDecl.{MessageDecl}
-use Rattle.proto_file.specs.declared.file.EnumDecl.{EnumDecl}
-use Rattle.proto_file.specs.declared.file.ServiceDecl.{ServiceDecl}
-use Rattle.proto_file.specs.declared.file.File.{File}
-use Rattle.proto_file.specs.declared.joined.Head.{Head}
+use Rattle.proto_ast.specs.Joined.{alone}
+use Rattle.proto_ast.specs.Order
+use Rattle.proto_ast.specs.Together
+use Rattle.proto_ast.specs.Together.{Declaration, StandsAt, package_decl, message_decl, field_decl, oneof_decl, enum_decl, value_decl, service_decl, rpc_decl}
+use Rattle.proto_ast.specs.declared.file.Span.{Span}
+use Rattle.proto_ast.specs.declared.file.MessageDecl.{MessageDecl}
+use Rattle.proto_ast.specs.declared.file.EnumDecl.{EnumDecl}
+use Rattle.proto_ast.specs.declared.file.ServiceDecl.{ServiceDecl}
+use Rattle.proto_ast.specs.declared.file.File.{File}
+use Rattle.proto_ast.specs.declared.joined.Head.{Head}
 use Rattle.proto_schema.proofs.Places.{nothing_at, all_by_place, contained, in_pushed, changed, kept, in_edited_open, in_edited_last}
 use Rattle.proto_schema.proofs.Formed.{well_formed}
 use Rattle.proto_schema.proofs.Ordered.{in_order}

@@ -9,15 +9,15 @@ use Rattle.std.proofs.lemmas.List.Elements.{All-nil, All-cons}
 use Rattle.std.proofs.lemmas.List.Splits.{slice_split_at, slice_split_none}
 use Rattle.mrpc_table.specs.Names.{is_name_start, is_name_byte, is_name_form, is_full_form}
 use Rattle.mrpc_table.specs.Lines.{is_decimal, in_64_bits}
-use Rattle.proto_tokens.specs.Strings.{string_value}
-use Rattle.proto_tokens.specs.Literals.{IsInteger, IsNumber}
-use Rattle.proto_tokens.specs.Literals
-use Rattle.proto_tokens.specs.Tokens.{Stands, IsHere, AreTokens, literal_of, is_last}
-use Rattle.proto_tokens.specs.Tokens
-use Rattle.proto_tokens.specs.declared.token.Kind.{Kind}
-use Rattle.proto_tokens.specs.declared.token.Token.{Token}
-use Rattle.proto_file.specs.Dot.{dot}
-use Rattle.proto_parts.specs.Lexemes.{identifier, integer, number, string, mark, the_end, none, Lexeme, lexeme, lexemes, meaning, IsWord}
+use Rattle.proto_lexer.specs.Strings.{string_value}
+use Rattle.proto_lexer.specs.Literals.{IsInteger, IsNumber}
+use Rattle.proto_lexer.specs.Literals
+use Rattle.proto_lexer.specs.Tokens.{Stands, IsHere, AreTokens, literal_of, is_last}
+use Rattle.proto_lexer.specs.Tokens
+use Rattle.proto_lexer.specs.declared.token.Kind.{Kind}
+use Rattle.proto_lexer.specs.declared.token.Token.{Token}
+use Rattle.proto_ast.specs.Dot.{dot}
+use Rattle.proto_grammar.specs.Lexemes.{identifier, integer, number, string, mark, the_end, none, Lexeme, lexeme, lexemes, meaning, IsWord}
 
 -- ---- names in a list of tokens
 

@@ -3,14 +3,14 @@ use Rattle.std.proofs.Common.{subst, ◌≡◌, ℕ, ◌==◌, Bool, true, false
 use Rattle.std.specs.Prelude.{Ok, Err, Result, Option, Some, None, is_some, if◌then◌else◌, not, ◌&&◌}
 use Rattle.std.specs.Str.{bytes_eq}
 use Rattle.std.proofs.lemmas.Bool.{eqb-true, or_parts}
-use Rattle.proto_file.specs.Dot.{dot}
-use Rattle.proto_parts.specs.Lexemes.{Meaning, identifier, integer, number, string, mark, the_end, none, Lexeme, semicolon, opening_brace, closing_brace, word_at, IsWord, IsMark, says}
-use Rattle.proto_parts.specs.Grammar.{FieldTypeOf, named, a_map, map_of_maps, begins_with, group_word, member_words, statement_words}
+use Rattle.proto_ast.specs.Dot.{dot}
+use Rattle.proto_grammar.specs.Lexemes.{Meaning, identifier, integer, number, string, mark, the_end, none, Lexeme, semicolon, opening_brace, closing_brace, word_at, IsWord, IsMark, says}
+use Rattle.proto_grammar.specs.Grammar.{FieldTypeOf, named, a_map, map_of_maps, begins_with, group_word, member_words, statement_words}
 use Rattle.proto_schema.specs.Files
 use Rattle.proto_schema.specs.Files.{Draft, Block, no_block, a_oneof, an_enum, a_service, an_rpc, InFile, InMessage}
 use Rattle.proto_schema.specs.Files.{InBody, with_block, in_message, in_enum, open_message, open_enum, open_service}
 use Rattle.proto_schema.specs.Files.{open_oneof, add_field, field, LabelOf, ClosesTo, Statement}
-use Rattle.proto_parts.specs.Reading.{fault_at, wrong, next_option, field_step}
+use Rattle.proto_grammar.specs.Reading.{fault_at, wrong, next_option, field_step}
 use Rattle.proto_schema.specs.Running.{place_of, place_with, more, done, closes_in, is_body, has_fields, of_field}
 use Rattle.proto_schema.specs.Running.{field_begins, mark_begins, opening_of, is_extend, file_begins, reserved_begins}
 use Rattle.proto_schema.specs.Running.{labelled, message_begins, word_begins, begins, statement_step, in_oneof}
@@ -21,22 +21,22 @@ use Rattle.proto_schema.proofs.FieldRest.{FieldRest, FieldBack, field_back, fiel
 use Rattle.proto_schema.proofs.ReservedRest.{Kept, KeptFrom, some_ranges, some_names, range_list, name_list}
 use Rattle.proto_schema.proofs.ValueRest.{NamedValue, named_value, numbered_value}
 use Rattle.proto_schema.proofs.RpcRest.{StartRest, RpcWhole, rpc_whole, rpc_from}
-use Rattle.proto_file.specs.declared.file.Word.{Word}
-use Rattle.proto_file.specs.declared.file.Range.{Range}
-use Rattle.proto_file.specs.declared.file.FieldLabel.{FieldLabel}
-use Rattle.proto_file.specs.declared.file.FieldLabel.TheVariants as labels
-use Rattle.proto_file.specs.declared.file.FieldType.{FieldType}
-use Rattle.proto_file.specs.declared.file.FieldDecl.{FieldDecl}
-use Rattle.proto_file.specs.declared.file.ValueDecl.{ValueDecl}
-use Rattle.proto_file.specs.declared.file.RpcDecl.{RpcDecl}
-use Rattle.proto_parts.specs.declared.fault.ProtoReason.TheVariants as reasons
-use Rattle.proto_parts.specs.declared.fault.ProtoFault.{ProtoFault}
-use Rattle.proto_parts.specs.declared.name.NameState.TheVariants as names
-use Rattle.proto_parts.specs.declared.field.FieldState.TheVariants as fields
-use Rattle.proto_parts.specs.declared.field.FieldStep.{FieldStep}
-use Rattle.proto_parts.specs.declared.field.FieldStep.TheVariants as field_steps
-use Rattle.proto_parts.specs.declared.value.ValueState.TheVariants as values
-use Rattle.proto_parts.specs.declared.rpc.RpcState.TheVariants as rpcs
+use Rattle.proto_ast.specs.declared.file.Word.{Word}
+use Rattle.proto_ast.specs.declared.file.Range.{Range}
+use Rattle.proto_ast.specs.declared.file.FieldLabel.{FieldLabel}
+use Rattle.proto_ast.specs.declared.file.FieldLabel.TheVariants as labels
+use Rattle.proto_ast.specs.declared.file.FieldType.{FieldType}
+use Rattle.proto_ast.specs.declared.file.FieldDecl.{FieldDecl}
+use Rattle.proto_ast.specs.declared.file.ValueDecl.{ValueDecl}
+use Rattle.proto_ast.specs.declared.file.RpcDecl.{RpcDecl}
+use Rattle.proto_grammar.specs.declared.fault.ProtoReason.TheVariants as reasons
+use Rattle.proto_grammar.specs.declared.fault.ProtoFault.{ProtoFault}
+use Rattle.proto_grammar.specs.declared.name.NameState.TheVariants as names
+use Rattle.proto_grammar.specs.declared.field.FieldState.TheVariants as fields
+use Rattle.proto_grammar.specs.declared.field.FieldStep.{FieldStep}
+use Rattle.proto_grammar.specs.declared.field.FieldStep.TheVariants as field_steps
+use Rattle.proto_grammar.specs.declared.value.ValueState.TheVariants as values
+use Rattle.proto_grammar.specs.declared.rpc.RpcState.TheVariants as rpcs
 use Rattle.proto_schema.specs.declared.statement.Place.TheVariants as places
 use Rattle.proto_schema.specs.declared.statement.Opening.{Opening}
 use Rattle.proto_schema.specs.declared.statement.Opening.TheVariants as openings

@@ -2,17 +2,17 @@
 use Rattle.std.proofs.Common.{subst, ◌≡◌, ◌⊎◌, inl, inr, Bool, true, false, List, [], ◌∷◌, ◌++◌, codes, refl, ap, sym, ◌∙◌}
 use Rattle.std.specs.Prelude.{Ok, Err, Result, if◌then◌else◌}
 use Rattle.std.specs.Str.{bytes_eq}
-use Rattle.proto_parts.specs.Lexemes.{Meaning, identifier, integer, number, string, mark, the_end, none, Lexeme, semicolon, equals, says}
+use Rattle.proto_grammar.specs.Lexemes.{Meaning, identifier, integer, number, string, mark, the_end, none, Lexeme, semicolon, equals, says}
 use Rattle.proto_schema.specs.Files.{Draft, Forms, nothing_said}
-use Rattle.proto_parts.specs.Lexemes.{is_no_token}
-use Rattle.proto_parts.specs.Reading.{fault_at, unexpected, is_mark}
+use Rattle.proto_grammar.specs.Lexemes.{is_no_token}
+use Rattle.proto_grammar.specs.Reading.{fault_at, unexpected, is_mark}
 use Rattle.proto_schema.specs.Running.{place_of, added, statement_step, Outcome, cut_off, read, failed, is_over}
 use Rattle.proto_schema.specs.Running.{behind, run, reading, behind_word, behind_equals, behind_value, behind_syntax}
 use Rattle.proto_schema.specs.Running.{is_too_deep}
 use Rattle.proto_schema.proofs.Next.{run_step, run_over}
-use Rattle.proto_file.specs.declared.file.File.{File}
-use Rattle.proto_parts.specs.declared.fault.ProtoReason.TheVariants as reasons
-use Rattle.proto_parts.specs.declared.fault.ProtoFault.{ProtoFault}
+use Rattle.proto_ast.specs.declared.file.File.{File}
+use Rattle.proto_grammar.specs.declared.fault.ProtoReason.TheVariants as reasons
+use Rattle.proto_grammar.specs.declared.fault.ProtoFault.{ProtoFault}
 use Rattle.proto_schema.specs.declared.statement.State.{State}
 use Rattle.proto_schema.specs.declared.statement.State.TheVariants as states
 use Rattle.proto_schema.specs.declared.statement.Step.{Step}

@@ -5,10 +5,10 @@ use Rattle.std.specs.Str.{bytes_eq}
 use Rattle.std.proofs.lemmas.Bool.{or_right}
 use Rattle.std.proofs.lemmas.Slice.Eq.{bytes_eq-Decides}
 use Rattle.mrpc_table.specs.declared.words.Decimal.{Decimal}
-use Rattle.proto_parts.specs.Lexemes.{Meaning, identifier, integer, number, string, mark, the_end, none, Lexeme, IsWord, says}
-use Rattle.proto_parts.specs.Reading.{wrong, by_name, if_name, by_number, if_number, by_string, if_string, is_string, is_number}
-use Rattle.proto_parts.specs.Grammar.{AnyNumber, an_integer, a_number}
-use Rattle.proto_parts.specs.declared.fault.ProtoFault.{ProtoFault}
+use Rattle.proto_grammar.specs.Lexemes.{Meaning, identifier, integer, number, string, mark, the_end, none, Lexeme, IsWord, says}
+use Rattle.proto_grammar.specs.Reading.{wrong, by_name, if_name, by_number, if_number, by_string, if_string, is_string, is_number}
+use Rattle.proto_grammar.specs.Grammar.{AnyNumber, an_integer, a_number}
+use Rattle.proto_grammar.specs.declared.fault.ProtoFault.{ProtoFault}
 
 pub either_is : {A : Type 0} (P : A → Type 0) (b : Bool) (x y : A) → (b ≡ true → P x) → (b ≡ false → P y)
     → P (if b then x else y)

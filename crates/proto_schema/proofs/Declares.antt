@@ -4,19 +4,19 @@ use Rattle.std.proofs.Common.{◌≡◌, ◌⊎◌, inl, inr, ℕ, zero, suc, �
 use Rattle.std.specs.Prelude.{Option, Some, None, slice_get}
 use Rattle.std.proofs.lemmas.Bool.{cases_lt}
 use Rattle.std.proofs.lemmas.Option.{slice_get_within}
-use Rattle.proto_file.specs.Order.{Declaration, package_decl, import_decl, message_decl, enum_decl, service_decl, Part, its_name, StandsAt, Precedes}
-use Rattle.proto_file.specs.Order
-use Rattle.proto_file.specs.declared.file.Span.{Span}
-use Rattle.proto_file.specs.declared.file.MessageDecl.{MessageDecl}
-use Rattle.proto_file.specs.declared.file.EnumDecl.{EnumDecl}
-use Rattle.proto_file.specs.declared.file.File.{File}
-use Rattle.proto_file.specs.declared.file.Word.{Word}
-use Rattle.proto_file.specs.declared.file.Import.{Import}
-use Rattle.proto_file.specs.declared.file.FieldDecl.{FieldDecl}
-use Rattle.proto_file.specs.declared.file.ValueDecl.{ValueDecl}
-use Rattle.proto_file.specs.declared.file.ServiceDecl.{ServiceDecl}
+use Rattle.proto_ast.specs.Order.{Declaration, package_decl, import_decl, message_decl, enum_decl, service_decl, Part, its_name, StandsAt, Precedes}
+use Rattle.proto_ast.specs.Order
+use Rattle.proto_ast.specs.declared.file.Span.{Span}
+use Rattle.proto_ast.specs.declared.file.MessageDecl.{MessageDecl}
+use Rattle.proto_ast.specs.declared.file.EnumDecl.{EnumDecl}
+use Rattle.proto_ast.specs.declared.file.File.{File}
+use Rattle.proto_ast.specs.declared.file.Word.{Word}
+use Rattle.proto_ast.specs.declared.file.Import.{Import}
+use Rattle.proto_ast.specs.declared.file.FieldDecl.{FieldDecl}
+use Rattle.proto_ast.specs.declared.file.ValueDecl.{ValueDecl}
+use Rattle.proto_ast.specs.declared.file.ServiceDecl.{ServiceDecl}
 use Rattle.proto_schema.specs.Files.{edit_at, edit_open, edit_last}
-use Rattle.proto_file.specs.Order.{IsPlaceBelow}
+use Rattle.proto_ast.specs.Order.{IsPlaceBelow}
 use Rattle.proto_schema.proofs.Drafts.{edit_beyond}
 use Rattle.proto_schema.proofs.Places.{nothing_at, in_pushed, changed, kept, in_edited_open, in_edited_last}
 use Rattle.proto_schema.proofs.Spans.{IsWithin}

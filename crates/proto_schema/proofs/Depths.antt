@@ -3,59 +3,59 @@ use Rattle.std.proofs.Common.{ℕ, ◌+◌, ◌-◌, ◌≤◌, ◌==◌, nat_le
 use Rattle.std.specs.Prelude.{Ok, Err, Result, Option, Some, None, if◌then◌else◌, not, ◌&&◌, ◌||◌}
 use Rattle.std.specs.Str.{bytes_eq}
 use Rattle.mrpc_table.specs.declared.words.Decimal.{Decimal}
-use Rattle.proto_file.specs.Dot.{dot}
-use Rattle.proto_parts.specs.Lexemes.{Meaning, identifier, integer, number, string, mark, the_end, none, Lexeme}
-use Rattle.proto_parts.specs.Lexemes.{comma, semicolon, equals, minus, plus, opening_brace, closing_brace}
-use Rattle.proto_parts.specs.Lexemes.{opening_paren, closing_paren, opening_bracket, closing_bracket, greater}
-use Rattle.proto_parts.specs.Lexemes.{span_to, word_at, number_at, says}
-use Rattle.proto_parts.specs.Grammar.{latest}
-use Rattle.proto_parts.specs.Lexemes.{is_no_token}
-use Rattle.proto_parts.specs.Reading.{fault_at, wrong, is_mark, is_string, is_number, by_name, if_name, by_number}
-use Rattle.proto_parts.specs.Reading.{if_number, full_step, typed_step, key_step, option_step, option_depth}
-use Rattle.proto_parts.specs.Reading.{more_option, value_start, brace_step, tail_step, tail_depth, of_option}
-use Rattle.proto_parts.specs.Reading.{next_option, field_step, field_depth, more_field, more_map, map_step}
-use Rattle.proto_parts.specs.Reading.{map_depth, closed, begins_map, of_key, of_inner_key, of_value, of_inner_value}
-use Rattle.proto_parts.specs.Reading.{of_type, of_map, of_tail, named_step, head, value_step, value_depth}
-use Rattle.proto_parts.specs.Reading.{of_value_tail, rpc_step, reserved_step}
+use Rattle.proto_ast.specs.Dot.{dot}
+use Rattle.proto_grammar.specs.Lexemes.{Meaning, identifier, integer, number, string, mark, the_end, none, Lexeme}
+use Rattle.proto_grammar.specs.Lexemes.{comma, semicolon, equals, minus, plus, opening_brace, closing_brace}
+use Rattle.proto_grammar.specs.Lexemes.{opening_paren, closing_paren, opening_bracket, closing_bracket, greater}
+use Rattle.proto_grammar.specs.Lexemes.{span_to, word_at, number_at, says}
+use Rattle.proto_grammar.specs.Grammar.{latest}
+use Rattle.proto_grammar.specs.Lexemes.{is_no_token}
+use Rattle.proto_grammar.specs.Reading.{fault_at, wrong, is_mark, is_string, is_number, by_name, if_name, by_number}
+use Rattle.proto_grammar.specs.Reading.{if_number, full_step, typed_step, key_step, option_step, option_depth}
+use Rattle.proto_grammar.specs.Reading.{more_option, value_start, brace_step, tail_step, tail_depth, of_option}
+use Rattle.proto_grammar.specs.Reading.{next_option, field_step, field_depth, more_field, more_map, map_step}
+use Rattle.proto_grammar.specs.Reading.{map_depth, closed, begins_map, of_key, of_inner_key, of_value, of_inner_value}
+use Rattle.proto_grammar.specs.Reading.{of_type, of_map, of_tail, named_step, head, value_step, value_depth}
+use Rattle.proto_grammar.specs.Reading.{of_value_tail, rpc_step, reserved_step}
 use Rattle.proto_schema.specs.Running.{statement_step, depth, ended, import_step, begins, field_begins, of_package, of_options, of_reserved, of_rpc}
 use Rattle.proto_schema.specs.Running
-use Rattle.proto_file.specs.declared.file.Word.{Word}
-use Rattle.proto_file.specs.declared.file.Number.{Number}
-use Rattle.proto_file.specs.declared.file.FieldLabel.{FieldLabel}
-use Rattle.proto_file.specs.declared.file.FieldLabel.TheVariants as labels
-use Rattle.proto_parts.specs.declared.fault.ProtoReason.TheVariants as reasons
-use Rattle.proto_parts.specs.declared.fault.ProtoFault.{ProtoFault}
-use Rattle.proto_parts.specs.declared.name.NameState.TheVariants as names
-use Rattle.proto_parts.specs.declared.name.NameStep.{NameStep}
-use Rattle.proto_parts.specs.declared.name.NameStep.TheVariants as name_steps
-use Rattle.proto_parts.specs.declared.option.OptionState.{OptionState}
-use Rattle.proto_parts.specs.declared.option.OptionState.TheVariants as options
-use Rattle.proto_parts.specs.declared.option.OptionStep.{OptionStep}
-use Rattle.proto_parts.specs.declared.option.OptionStep.TheVariants as option_steps
-use Rattle.proto_parts.specs.declared.tail.TailState.{TailState}
-use Rattle.proto_parts.specs.declared.tail.TailState.TheVariants as tails
-use Rattle.proto_parts.specs.declared.tail.TailStep.{TailStep}
-use Rattle.proto_parts.specs.declared.tail.TailStep.TheVariants as tail_steps
-use Rattle.proto_parts.specs.declared.field.FieldHead.{FieldHead}
-use Rattle.proto_file.specs.declared.file.FieldType.{FieldType}
-use Rattle.proto_file.specs.declared.file.FieldType.TheVariants as types
-use Rattle.proto_parts.specs.declared.field.FieldState.{FieldState}
-use Rattle.proto_parts.specs.declared.field.FieldState.TheVariants as fields
-use Rattle.proto_parts.specs.declared.field.FieldStep.{FieldStep}
-use Rattle.proto_parts.specs.declared.field.FieldStep.TheVariants as field_steps
-use Rattle.proto_parts.specs.declared.field.MapState.{MapState}
-use Rattle.proto_parts.specs.declared.field.MapState.TheVariants as maps
-use Rattle.proto_parts.specs.declared.field.MapStep.{MapStep}
-use Rattle.proto_parts.specs.declared.field.MapStep.TheVariants as map_steps
-use Rattle.proto_parts.specs.declared.value.ValueState.{ValueState}
-use Rattle.proto_parts.specs.declared.value.ValueState.TheVariants as values
-use Rattle.proto_parts.specs.declared.value.ValueStep.{ValueStep}
-use Rattle.proto_parts.specs.declared.value.ValueStep.TheVariants as value_steps
-use Rattle.proto_parts.specs.declared.rpc.RpcState.TheVariants as rpcs
-use Rattle.proto_parts.specs.declared.rpc.RpcStep.{RpcStep}
-use Rattle.proto_parts.specs.declared.rpc.RpcStep.TheVariants as rpc_steps
-use Rattle.proto_parts.specs.declared.reserved.ReservedStep.{ReservedStep}
-use Rattle.proto_parts.specs.declared.reserved.ReservedStep.TheVariants as reserved_steps
+use Rattle.proto_ast.specs.declared.file.Word.{Word}
+use Rattle.proto_ast.specs.declared.file.Number.{Number}
+use Rattle.proto_ast.specs.declared.file.FieldLabel.{FieldLabel}
+use Rattle.proto_ast.specs.declared.file.FieldLabel.TheVariants as labels
+use Rattle.proto_grammar.specs.declared.fault.ProtoReason.TheVariants as reasons
+use Rattle.proto_grammar.specs.declared.fault.ProtoFault.{ProtoFault}
+use Rattle.proto_grammar.specs.declared.name.NameState.TheVariants as names
+use Rattle.proto_grammar.specs.declared.name.NameStep.{NameStep}
+use Rattle.proto_grammar.specs.declared.name.NameStep.TheVariants as name_steps
+use Rattle.proto_grammar.specs.declared.option.OptionState.{OptionState}
+use Rattle.proto_grammar.specs.declared.option.OptionState.TheVariants as options
+use Rattle.proto_grammar.specs.declared.option.OptionStep.{OptionStep}
+use Rattle.proto_grammar.specs.declared.option.OptionStep.TheVariants as option_steps
+use Rattle.proto_grammar.specs.declared.tail.TailState.{TailState}
+use Rattle.proto_grammar.specs.declared.tail.TailState.TheVariants as tails
+use Rattle.proto_grammar.specs.declared.tail.TailStep.{TailStep}
+use Rattle.proto_grammar.specs.declared.tail.TailStep.TheVariants as tail_steps
+use Rattle.proto_grammar.specs.declared.field.FieldHead.{FieldHead}
+use Rattle.proto_ast.specs.declared.file.FieldType.{FieldType}
+use Rattle.proto_ast.specs.declared.file.FieldType.TheVariants as types
+use Rattle.proto_grammar.specs.declared.field.FieldState.{FieldState}
+use Rattle.proto_grammar.specs.declared.field.FieldState.TheVariants as fields
+use Rattle.proto_grammar.specs.declared.field.FieldStep.{FieldStep}
+use Rattle.proto_grammar.specs.declared.field.FieldStep.TheVariants as field_steps
+use Rattle.proto_grammar.specs.declared.field.MapState.{MapState}
+use Rattle.proto_grammar.specs.declared.field.MapState.TheVariants as maps
+use Rattle.proto_grammar.specs.declared.field.MapStep.{MapStep}
+use Rattle.proto_grammar.specs.declared.field.MapStep.TheVariants as map_steps
+use Rattle.proto_grammar.specs.declared.value.ValueState.{ValueState}
+use Rattle.proto_grammar.specs.declared.value.ValueState.TheVariants as values
+use Rattle.proto_grammar.specs.declared.value.ValueStep.{ValueStep}
+use Rattle.proto_grammar.specs.declared.value.ValueStep.TheVariants as value_steps
+use Rattle.proto_grammar.specs.declared.rpc.RpcState.TheVariants as rpcs
+use Rattle.proto_grammar.specs.declared.rpc.RpcStep.{RpcStep}
+use Rattle.proto_grammar.specs.declared.rpc.RpcStep.TheVariants as rpc_steps
+use Rattle.proto_grammar.specs.declared.reserved.ReservedStep.{ReservedStep}
+use Rattle.proto_grammar.specs.declared.reserved.ReservedStep.TheVariants as reserved_steps
 use Rattle.proto_schema.specs.declared.statement.Place.{Place}
 use Rattle.proto_schema.specs.declared.statement.Place.TheVariants as places
 use Rattle.proto_schema.specs.declared.statement.State.{State}

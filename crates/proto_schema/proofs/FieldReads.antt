@@ -4,41 +4,41 @@ use Rattle.std.specs.Prelude.{Ok, Result, Option, None}
 use Rattle.std.proofs.lemmas.Bool.{lt-leb}
 use Rattle.std.proofs.lemmas.List.{append_assoc}
 use Rattle.mrpc_table.specs.declared.words.Decimal.{Decimal}
-use Rattle.proto_file.specs.Dot.{dot}
-use Rattle.proto_parts.specs.Lexemes.{integer, Lexeme, comma, equals, less, greater, span_to, word_at, number_at, rooted, IsWord, IsMark, says}
-use Rattle.proto_parts.specs.Grammar.{FullName, one, more, TypeName, relative, absolute, begins_with, group_word}
-use Rattle.proto_parts.specs.Grammar.{MapKey, map_key, NestedMaps, innermost, around, FieldTypeOf, named, a_map}
-use Rattle.proto_parts.specs.Grammar.{map_of_maps, whole, negative}
+use Rattle.proto_ast.specs.Dot.{dot}
+use Rattle.proto_grammar.specs.Lexemes.{integer, Lexeme, comma, equals, less, greater, span_to, word_at, number_at, rooted, IsWord, IsMark, says}
+use Rattle.proto_grammar.specs.Grammar.{FullName, one, more, TypeName, relative, absolute, begins_with, group_word}
+use Rattle.proto_grammar.specs.Grammar.{MapKey, map_key, NestedMaps, innermost, around, FieldTypeOf, named, a_map}
+use Rattle.proto_grammar.specs.Grammar.{map_of_maps, whole, negative}
 use Rattle.proto_schema.specs.Files.{field, FieldEnd, field_end}
-use Rattle.proto_parts.specs.Reading.{is_mark, by_number, part, full_step, typed_step, behind_key, map_step, of_key}
-use Rattle.proto_parts.specs.Reading.{of_inner_key, of_value, of_inner_value, field_step, head, of_type, of_map}
-use Rattle.proto_parts.specs.Reading.{of_tail, field_of, tail_step}
+use Rattle.proto_grammar.specs.Reading.{is_mark, by_number, part, full_step, typed_step, behind_key, map_step, of_key}
+use Rattle.proto_grammar.specs.Reading.{of_inner_key, of_value, of_inner_value, field_step, head, of_type, of_map}
+use Rattle.proto_grammar.specs.Reading.{of_tail, field_of, tail_step}
 use Rattle.proto_schema.proofs.NameLemmas.{Walks, stay, go, walks_on, walks_in, word_no_mark, is_name}
 use Rattle.proto_schema.proofs.NameRest.{behind_dot}
 use Rattle.proto_schema.proofs.OptionReads.{TailGoes, tail_reads}
 use Rattle.proto_schema.proofs.Takes.{Takes, last, next, walk_takes}
-use Rattle.proto_file.specs.declared.file.Span.{Span}
-use Rattle.proto_file.specs.declared.file.Word.{Word}
-use Rattle.proto_file.specs.declared.file.Number.{Number}
-use Rattle.proto_file.specs.declared.file.FieldLabel.{FieldLabel}
-use Rattle.proto_file.specs.declared.file.FieldType.{FieldType}
-use Rattle.proto_file.specs.declared.file.FieldType.TheVariants as types
-use Rattle.proto_file.specs.declared.file.FieldDecl.{FieldDecl}
-use Rattle.proto_parts.specs.declared.fault.ProtoFault.{ProtoFault}
-use Rattle.proto_parts.specs.declared.name.NameState.{NameState}
-use Rattle.proto_parts.specs.declared.name.NameState.TheVariants as names
-use Rattle.proto_parts.specs.declared.name.NameStep.{NameStep}
-use Rattle.proto_parts.specs.declared.name.NameStep.TheVariants as name_steps
-use Rattle.proto_parts.specs.declared.field.FieldHead.{FieldHead}
-use Rattle.proto_parts.specs.declared.field.MapState.{MapState}
-use Rattle.proto_parts.specs.declared.field.MapState.TheVariants as maps
-use Rattle.proto_parts.specs.declared.field.MapStep.TheVariants as map_steps
-use Rattle.proto_parts.specs.declared.field.FieldState.{FieldState}
-use Rattle.proto_parts.specs.declared.field.FieldState.TheVariants as fields
-use Rattle.proto_parts.specs.declared.field.FieldStep.TheVariants as steps
-use Rattle.proto_parts.specs.declared.tail.TailState.{TailState}
-use Rattle.proto_parts.specs.declared.tail.TailState.TheVariants as tails
-use Rattle.proto_parts.specs.declared.tail.TailStep.TheVariants as tail_steps
+use Rattle.proto_ast.specs.declared.file.Span.{Span}
+use Rattle.proto_ast.specs.declared.file.Word.{Word}
+use Rattle.proto_ast.specs.declared.file.Number.{Number}
+use Rattle.proto_ast.specs.declared.file.FieldLabel.{FieldLabel}
+use Rattle.proto_ast.specs.declared.file.FieldType.{FieldType}
+use Rattle.proto_ast.specs.declared.file.FieldType.TheVariants as types
+use Rattle.proto_ast.specs.declared.file.FieldDecl.{FieldDecl}
+use Rattle.proto_grammar.specs.declared.fault.ProtoFault.{ProtoFault}
+use Rattle.proto_grammar.specs.declared.name.NameState.{NameState}
+use Rattle.proto_grammar.specs.declared.name.NameState.TheVariants as names
+use Rattle.proto_grammar.specs.declared.name.NameStep.{NameStep}
+use Rattle.proto_grammar.specs.declared.name.NameStep.TheVariants as name_steps
+use Rattle.proto_grammar.specs.declared.field.FieldHead.{FieldHead}
+use Rattle.proto_grammar.specs.declared.field.MapState.{MapState}
+use Rattle.proto_grammar.specs.declared.field.MapState.TheVariants as maps
+use Rattle.proto_grammar.specs.declared.field.MapStep.TheVariants as map_steps
+use Rattle.proto_grammar.specs.declared.field.FieldState.{FieldState}
+use Rattle.proto_grammar.specs.declared.field.FieldState.TheVariants as fields
+use Rattle.proto_grammar.specs.declared.field.FieldStep.TheVariants as steps
+use Rattle.proto_grammar.specs.declared.tail.TailState.{TailState}
+use Rattle.proto_grammar.specs.declared.tail.TailState.TheVariants as tails
+use Rattle.proto_grammar.specs.declared.tail.TailStep.TheVariants as tail_steps
 
 -- ---- a type's name
 

@@ -3,43 +3,43 @@ use Rattle.std.proofs.Common.{subst, ◌≡◌, ℕ, Bool, true, false, List, []
 use Rattle.std.specs.Prelude.{Ok, Err, Result, Option, None}
 use Rattle.std.specs.Str.{bytes_eq}
 use Rattle.mrpc_table.specs.declared.words.Decimal.{Decimal}
-use Rattle.proto_file.specs.Dot.{dot}
-use Rattle.proto_parts.specs.Lexemes.{identifier, integer, Lexeme, semicolon, equals, less, span_to, word_at, number_at, IsWord, IsMark, says}
-use Rattle.proto_parts.specs.Grammar.{relative, group_word, FieldTypeOf, named, NumberOf, whole, FieldOptions}
+use Rattle.proto_ast.specs.Dot.{dot}
+use Rattle.proto_grammar.specs.Lexemes.{identifier, integer, Lexeme, semicolon, equals, less, span_to, word_at, number_at, IsWord, IsMark, says}
+use Rattle.proto_grammar.specs.Grammar.{relative, group_word, FieldTypeOf, named, NumberOf, whole, FieldOptions}
 use Rattle.proto_schema.specs.Files.{field, FieldEnd, field_end}
-use Rattle.proto_parts.specs.Reading.{wrong, is_mark, part, fault_at, full_step, type_step, typed_step, begins_map}
-use Rattle.proto_parts.specs.Reading.{map_step, tail_step, field_step, more_field, named_step, head, of_type, of_map}
-use Rattle.proto_parts.specs.Reading.{of_tail, field_of}
+use Rattle.proto_grammar.specs.Reading.{wrong, is_mark, part, fault_at, full_step, type_step, typed_step, begins_map}
+use Rattle.proto_grammar.specs.Reading.{map_step, tail_step, field_step, more_field, named_step, head, of_type, of_map}
+use Rattle.proto_grammar.specs.Reading.{of_tail, field_of}
 use Rattle.proto_schema.proofs.Choices.{either_is, named_is, numbered_is, same_bytes, and_both}
 use Rattle.proto_schema.proofs.NameLemmas.{mark_is}
 use Rattle.proto_schema.proofs.NameRest.{ends, TypedRest, from_start, from_root, from_dot, from_part, from_top, no_group}
 use Rattle.proto_schema.proofs.MapRest.{IsPart, not_map, MapRest, MapBack, map_back, kind_from}
 use Rattle.proto_schema.proofs.TailRest.{TailRest, TailBack, tail_back, OptionsEnd, options_end}
-use Rattle.proto_file.specs.declared.file.Word.{Word}
-use Rattle.proto_file.specs.declared.file.Number.{Number}
-use Rattle.proto_file.specs.declared.file.FieldLabel.{FieldLabel}
-use Rattle.proto_file.specs.declared.file.FieldType.{FieldType}
-use Rattle.proto_file.specs.declared.file.FieldType.TheVariants as types
-use Rattle.proto_file.specs.declared.file.FieldDecl.{FieldDecl}
-use Rattle.proto_parts.specs.declared.fault.ProtoReason.TheVariants as reasons
-use Rattle.proto_parts.specs.declared.fault.ProtoFault.{ProtoFault}
-use Rattle.proto_parts.specs.declared.name.NameState.{NameState}
-use Rattle.proto_parts.specs.declared.name.NameState.TheVariants as names
-use Rattle.proto_parts.specs.declared.name.NameStep.{NameStep}
-use Rattle.proto_parts.specs.declared.name.NameStep.TheVariants as name_steps
-use Rattle.proto_parts.specs.declared.field.FieldHead.{FieldHead}
-use Rattle.proto_parts.specs.declared.field.MapState.{MapState}
-use Rattle.proto_parts.specs.declared.field.MapState.TheVariants as maps
-use Rattle.proto_parts.specs.declared.field.MapStep.{MapStep}
-use Rattle.proto_parts.specs.declared.field.MapStep.TheVariants as map_steps
-use Rattle.proto_parts.specs.declared.field.FieldState.{FieldState}
-use Rattle.proto_parts.specs.declared.field.FieldState.TheVariants as fields
-use Rattle.proto_parts.specs.declared.field.FieldStep.{FieldStep}
-use Rattle.proto_parts.specs.declared.field.FieldStep.TheVariants as steps
-use Rattle.proto_parts.specs.declared.tail.TailStep.{TailStep}
-use Rattle.proto_parts.specs.declared.tail.TailStep.TheVariants as tail_steps
-use Rattle.proto_parts.specs.declared.tail.TailState.{TailState}
-use Rattle.proto_parts.specs.declared.tail.TailState.TheVariants as tails
+use Rattle.proto_ast.specs.declared.file.Word.{Word}
+use Rattle.proto_ast.specs.declared.file.Number.{Number}
+use Rattle.proto_ast.specs.declared.file.FieldLabel.{FieldLabel}
+use Rattle.proto_ast.specs.declared.file.FieldType.{FieldType}
+use Rattle.proto_ast.specs.declared.file.FieldType.TheVariants as types
+use Rattle.proto_ast.specs.declared.file.FieldDecl.{FieldDecl}
+use Rattle.proto_grammar.specs.declared.fault.ProtoReason.TheVariants as reasons
+use Rattle.proto_grammar.specs.declared.fault.ProtoFault.{ProtoFault}
+use Rattle.proto_grammar.specs.declared.name.NameState.{NameState}
+use Rattle.proto_grammar.specs.declared.name.NameState.TheVariants as names
+use Rattle.proto_grammar.specs.declared.name.NameStep.{NameStep}
+use Rattle.proto_grammar.specs.declared.name.NameStep.TheVariants as name_steps
+use Rattle.proto_grammar.specs.declared.field.FieldHead.{FieldHead}
+use Rattle.proto_grammar.specs.declared.field.MapState.{MapState}
+use Rattle.proto_grammar.specs.declared.field.MapState.TheVariants as maps
+use Rattle.proto_grammar.specs.declared.field.MapStep.{MapStep}
+use Rattle.proto_grammar.specs.declared.field.MapStep.TheVariants as map_steps
+use Rattle.proto_grammar.specs.declared.field.FieldState.{FieldState}
+use Rattle.proto_grammar.specs.declared.field.FieldState.TheVariants as fields
+use Rattle.proto_grammar.specs.declared.field.FieldStep.{FieldStep}
+use Rattle.proto_grammar.specs.declared.field.FieldStep.TheVariants as steps
+use Rattle.proto_grammar.specs.declared.tail.TailStep.{TailStep}
+use Rattle.proto_grammar.specs.declared.tail.TailStep.TheVariants as tail_steps
+use Rattle.proto_grammar.specs.declared.tail.TailState.{TailState}
+use Rattle.proto_grammar.specs.declared.tail.TailState.TheVariants as tails
 
 -- ---- the type
 

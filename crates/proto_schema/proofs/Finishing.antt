@@ -1,21 +1,21 @@
 -- From every state there are tokens that end the part, and from every draft there are tokens that end the text.
 use Rattle.std.proofs.Common.{subst, ◌≡◌, ◌⊎◌, inl, inr, ℕ, zero, suc, Bool, true, false, List, [], ◌∷◌, ◌++◌, codes, refl, ap, sym, ◌∙◌, arith}
 use Rattle.std.specs.Prelude.{Ok, Option, Some, None, ◌&&◌}
-use Rattle.proto_parts.specs.Lexemes.{Meaning, identifier, integer, string, mark, the_end, Lexeme, semicolon, equals}
+use Rattle.proto_grammar.specs.Lexemes.{Meaning, identifier, integer, string, mark, the_end, Lexeme, semicolon, equals}
 use Rattle.proto_schema.specs.Files
 use Rattle.proto_schema.specs.Files.{Draft, Block, no_block, a_oneof, an_enum, a_service, an_rpc}
 use Rattle.proto_schema.specs.Running.{place_of, place_with, added, read, run}
 use Rattle.proto_schema.proofs.Next.{run_over}
-use Rattle.proto_file.specs.declared.file.Word.{Word}
-use Rattle.proto_file.specs.declared.file.File.{File}
+use Rattle.proto_ast.specs.declared.file.Word.{Word}
+use Rattle.proto_ast.specs.declared.file.File.{File}
 use Rattle.proto_schema.specs.declared.statement.Opening.{Opening}
 use Rattle.proto_schema.specs.declared.statement.State.{State}
 use Rattle.proto_schema.specs.declared.statement.State.TheVariants as states
 use Rattle.proto_schema.specs.declared.statement.Said.{Said}
 use Rattle.proto_schema.specs.declared.statement.Said.TheVariants as said
-use Rattle.proto_file.specs.Dot.{dot}
-use Rattle.proto_parts.specs.Lexemes.{opening_brace, closing_brace, span_to, word_at}
-use Rattle.proto_parts.specs.Reading.{full_step, option_step, field_step, reserved_step, value_step, rpc_step}
+use Rattle.proto_ast.specs.Dot.{dot}
+use Rattle.proto_grammar.specs.Lexemes.{opening_brace, closing_brace, span_to, word_at}
+use Rattle.proto_grammar.specs.Reading.{full_step, option_step, field_step, reserved_step, value_step, rpc_step}
 use Rattle.proto_schema.specs.Running.{imported, filled_with, without_first, closed_with, closes_in}
 use Rattle.proto_schema.proofs.NameLemmas.{Walks, stay, go, walks_in, FullGoes}
 use Rattle.proto_schema.proofs.OptionReads.{OptionGoes}
@@ -28,36 +28,36 @@ use Rattle.proto_schema.proofs.ReservedRest.{Kept}
 use Rattle.proto_schema.proofs.StatementRest.{said_of}
 use Rattle.proto_schema.proofs.RunRest.{not_deep, begin_or}
 use Rattle.proto_schema.proofs.StatementRest.{NotBegin}
-use Rattle.proto_file.specs.declared.file.Span.{Span}
-use Rattle.proto_file.specs.declared.file.Number.{Number}
-use Rattle.proto_file.specs.declared.file.Range.{Range}
-use Rattle.proto_file.specs.declared.file.Import.{Import}
-use Rattle.proto_file.specs.declared.file.FieldLabel.{FieldLabel}
-use Rattle.proto_file.specs.declared.file.FieldLabel.TheVariants as labels
-use Rattle.proto_file.specs.declared.file.FieldType.{FieldType}
-use Rattle.proto_file.specs.declared.file.FieldDecl.{FieldDecl}
-use Rattle.proto_file.specs.declared.file.ValueDecl.{ValueDecl}
-use Rattle.proto_file.specs.declared.file.RpcDecl.{RpcDecl}
-use Rattle.proto_parts.specs.declared.name.NameState.{NameState}
-use Rattle.proto_parts.specs.declared.name.NameState.TheVariants as names
-use Rattle.proto_parts.specs.declared.option.OptionState.{OptionState}
-use Rattle.proto_parts.specs.declared.field.FieldState.{FieldState}
-use Rattle.proto_parts.specs.declared.field.FieldState.TheVariants as fields
-use Rattle.proto_parts.specs.declared.value.ValueState.{ValueState}
-use Rattle.proto_parts.specs.declared.value.ValueState.TheVariants as values
-use Rattle.proto_parts.specs.declared.rpc.RpcState.{RpcState}
-use Rattle.proto_parts.specs.declared.rpc.RpcState.TheVariants as rpcs
-use Rattle.proto_parts.specs.declared.reserved.ReservedState.{ReservedState}
-use Rattle.proto_parts.specs.declared.reserved.ReservedPart.{ReservedPart}
-use Rattle.proto_parts.specs.declared.reserved.ReservedPart.TheVariants as parts
+use Rattle.proto_ast.specs.declared.file.Span.{Span}
+use Rattle.proto_ast.specs.declared.file.Number.{Number}
+use Rattle.proto_ast.specs.declared.file.Range.{Range}
+use Rattle.proto_ast.specs.declared.file.Import.{Import}
+use Rattle.proto_ast.specs.declared.file.FieldLabel.{FieldLabel}
+use Rattle.proto_ast.specs.declared.file.FieldLabel.TheVariants as labels
+use Rattle.proto_ast.specs.declared.file.FieldType.{FieldType}
+use Rattle.proto_ast.specs.declared.file.FieldDecl.{FieldDecl}
+use Rattle.proto_ast.specs.declared.file.ValueDecl.{ValueDecl}
+use Rattle.proto_ast.specs.declared.file.RpcDecl.{RpcDecl}
+use Rattle.proto_grammar.specs.declared.name.NameState.{NameState}
+use Rattle.proto_grammar.specs.declared.name.NameState.TheVariants as names
+use Rattle.proto_grammar.specs.declared.option.OptionState.{OptionState}
+use Rattle.proto_grammar.specs.declared.field.FieldState.{FieldState}
+use Rattle.proto_grammar.specs.declared.field.FieldState.TheVariants as fields
+use Rattle.proto_grammar.specs.declared.value.ValueState.{ValueState}
+use Rattle.proto_grammar.specs.declared.value.ValueState.TheVariants as values
+use Rattle.proto_grammar.specs.declared.rpc.RpcState.{RpcState}
+use Rattle.proto_grammar.specs.declared.rpc.RpcState.TheVariants as rpcs
+use Rattle.proto_grammar.specs.declared.reserved.ReservedState.{ReservedState}
+use Rattle.proto_grammar.specs.declared.reserved.ReservedPart.{ReservedPart}
+use Rattle.proto_grammar.specs.declared.reserved.ReservedPart.TheVariants as parts
 use Rattle.proto_schema.specs.declared.statement.Place.{Place}
 use Rattle.proto_schema.specs.declared.statement.Place.TheVariants as places
-use Rattle.proto_parts.specs.Reading
-use Rattle.proto_parts.specs.Lexemes
+use Rattle.proto_grammar.specs.Reading
+use Rattle.proto_grammar.specs.Lexemes
 use Rattle.mrpc_table.specs.declared.words.Decimal.TheVariants.{Small}
-use Rattle.proto_parts.specs.Lexemes.{comma, opening_paren, closing_paren, closing_bracket, greater}
-use Rattle.proto_parts.specs.Grammar.{latest}
-use Rattle.proto_parts.specs.Reading.{part, tail_step, map_step, range_step, a_range, whole_range}
+use Rattle.proto_grammar.specs.Lexemes.{comma, opening_paren, closing_paren, closing_bracket, greater}
+use Rattle.proto_grammar.specs.Grammar.{latest}
+use Rattle.proto_grammar.specs.Reading.{part, tail_step, map_step, range_step, a_range, whole_range}
 use Rattle.proto_schema.proofs.OptionReads.{closing_goes, Ready, ready_value, ready_text, ready_end, TailGoes, options_bracket, in_options}
 use Rattle.proto_schema.proofs.FieldReads.{first_goes, TypedGoes, MapGoes, MapEnds, in_key, key_comma, in_inner_key}
 use Rattle.proto_schema.proofs.FieldReads.{inner_comma, in_value as in_map_value, value_ends as map_value_ends}
@@ -65,16 +65,16 @@ use Rattle.proto_schema.proofs.FieldReads.{in_inner_value, inner_value_ends, clo
 use Rattle.proto_schema.proofs.FieldReads.{map_ends, typed_ready, in_tail, tail_ends}
 use Rattle.proto_schema.proofs.RpcReads.{RpcTypeGoes, in_input, input_ends, in_output, output_ends}
 use Rattle.proto_schema.proofs.ValueReads.{RangeGoes, in_tail as in_value_tail, tail_ends as value_tail_ends, in_ranges, range_ends, kept}
-use Rattle.proto_file.specs.declared.file.FieldType.TheVariants as types
-use Rattle.proto_parts.specs.declared.option.OptionState.TheVariants as option_states
-use Rattle.proto_parts.specs.declared.field.FieldHead.{FieldHead}
-use Rattle.proto_parts.specs.declared.field.MapState.{MapState}
-use Rattle.proto_parts.specs.declared.field.MapState.TheVariants as maps
-use Rattle.proto_parts.specs.declared.tail.TailState.{TailState}
-use Rattle.proto_parts.specs.declared.tail.TailState.TheVariants as tails
-use Rattle.proto_parts.specs.declared.tail.TailStep.TheVariants as tail_steps
-use Rattle.proto_parts.specs.declared.reserved.RangeState.{RangeState}
-use Rattle.proto_parts.specs.declared.reserved.RangeState.TheVariants as ranges
+use Rattle.proto_ast.specs.declared.file.FieldType.TheVariants as types
+use Rattle.proto_grammar.specs.declared.option.OptionState.TheVariants as option_states
+use Rattle.proto_grammar.specs.declared.field.FieldHead.{FieldHead}
+use Rattle.proto_grammar.specs.declared.field.MapState.{MapState}
+use Rattle.proto_grammar.specs.declared.field.MapState.TheVariants as maps
+use Rattle.proto_grammar.specs.declared.tail.TailState.{TailState}
+use Rattle.proto_grammar.specs.declared.tail.TailState.TheVariants as tails
+use Rattle.proto_grammar.specs.declared.tail.TailStep.TheVariants as tail_steps
+use Rattle.proto_grammar.specs.declared.reserved.RangeState.{RangeState}
+use Rattle.proto_grammar.specs.declared.reserved.RangeState.TheVariants as ranges
 use Rattle.proto_schema.proofs.RunReads.{StepGoes, StepEnds, StepTakes, in_block, run_takes, in_package, package_ends}
 use Rattle.proto_schema.proofs.RunReads.{import_path, import_ends, in_option, option_ends, opening_name, opened_ends}
 use Rattle.proto_schema.proofs.RunReads.{in_field, field_ends, in_reserved, reserved_ends, in_value, value_ends}

@@ -6,21 +6,21 @@ use Rattle.std.proofs.lemmas.List.{append_assoc, append-nil}
 use Rattle.std.proofs.lemmas.Bool.{false_from_ne_true}
 use Rattle.std.proofs.Math.Nat.{eq-or-lt_of_le}
 use Rattle.std.proofs.lemmas.Option.{slice_get_within}
-use Rattle.proto_tokens.specs.Literals.{IsInteger, decimal, octal, hexadecimal, IsNumber, point, fraction, exponent}
-use Rattle.proto_tokens.specs.Tokens
-use Rattle.proto_tokens.specs.Tokens.{AreTokens, IsHere, Stands, is_last, literal_of}
-use Rattle.proto_tokens.specs.declared.token.Kind.{Kind}
-use Rattle.proto_tokens.specs.declared.token.Kind.TheVariants as kinds
-use Rattle.proto_tokens.specs.declared.token.Token.{Token}
-use Rattle.proto_parts.specs.Lexemes.{Meaning, identifier, integer, number, string, mark, the_end, none, Lexeme}
-use Rattle.proto_parts.specs.Lexemes.{span_of, meaning, lexeme, lexemes, semicolon, equals, IsWord, says}
-use Rattle.proto_parts.specs.Lexemes.{says_one_of}
+use Rattle.proto_lexer.specs.Literals.{IsInteger, decimal, octal, hexadecimal, IsNumber, point, fraction, exponent}
+use Rattle.proto_lexer.specs.Tokens
+use Rattle.proto_lexer.specs.Tokens.{AreTokens, IsHere, Stands, is_last, literal_of}
+use Rattle.proto_lexer.specs.declared.token.Kind.{Kind}
+use Rattle.proto_lexer.specs.declared.token.Kind.TheVariants as kinds
+use Rattle.proto_lexer.specs.declared.token.Token.{Token}
+use Rattle.proto_grammar.specs.Lexemes.{Meaning, identifier, integer, number, string, mark, the_end, none, Lexeme}
+use Rattle.proto_grammar.specs.Lexemes.{span_of, meaning, lexeme, lexemes, semicolon, equals, IsWord, says}
+use Rattle.proto_grammar.specs.Lexemes.{says_one_of}
 use Rattle.proto_schema.specs.Files
 use Rattle.proto_schema.specs.Files.{Draft, Forms, nothing_said}
 use Rattle.proto_schema.specs.Faults
-use Rattle.proto_parts.specs.Lexemes.{is_no_token}
+use Rattle.proto_grammar.specs.Lexemes.{is_no_token}
 use Rattle.proto_schema.specs.Faults.{CanGoOn, BreaksAt, IsNamed, IsFault, IsTextOf, HasFault}
-use Rattle.proto_parts.specs.Reading.{fault_at, unexpected, is_mark}
+use Rattle.proto_grammar.specs.Reading.{fault_at, unexpected, is_mark}
 use Rattle.std.specs.Str.{bytes_eq}
 use Rattle.proto_schema.specs.Running.{place_of, added, statement_step, Outcome, cut_off, read, failed, is_over}
 use Rattle.proto_schema.specs.Running.{is_too_deep, behind, run, behind_word, behind_equals, behind_value}
@@ -32,11 +32,11 @@ use Rattle.proto_schema.proofs.Shallow.{get_behind, drop_behind, reading_keeps, 
 use Rattle.proto_schema.proofs.Breaks.{cut_goes_on, reading_fails}
 use Rattle.proto_schema.proofs.Reports.{Told, told, Means, has_name, breaks_off, reading_told}
 use Rattle.proto_schema.proofs.Named.{Reports, here, earlier, named_reports, take_at_most, extend_word}
-use Rattle.proto_file.specs.declared.file.Span.{Span}
-use Rattle.proto_file.specs.declared.file.File.{File}
-use Rattle.proto_parts.specs.declared.fault.ProtoReason.{ProtoReason}
-use Rattle.proto_parts.specs.declared.fault.ProtoReason.TheVariants as reasons
-use Rattle.proto_parts.specs.declared.fault.ProtoFault.{ProtoFault}
+use Rattle.proto_ast.specs.declared.file.Span.{Span}
+use Rattle.proto_ast.specs.declared.file.File.{File}
+use Rattle.proto_grammar.specs.declared.fault.ProtoReason.{ProtoReason}
+use Rattle.proto_grammar.specs.declared.fault.ProtoReason.TheVariants as reasons
+use Rattle.proto_grammar.specs.declared.fault.ProtoFault.{ProtoFault}
 use Rattle.proto_schema.specs.declared.statement.State.{State}
 use Rattle.proto_schema.specs.declared.statement.State.TheVariants as states
 use Rattle.proto_schema.specs.declared.statement.Said.{Said}

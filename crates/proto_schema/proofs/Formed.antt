@@ -4,30 +4,30 @@ use Rattle.std.proofs.Common.{◌≡◌, ◌⊎◌, inl, inr, ℕ, zero, suc, �
 use Rattle.std.proofs.Common.{length, length-append, refl, ap, subst, sym, ◌∙◌, arith}
 use Rattle.std.specs.Prelude.{Option, Some, None, slice_get, IfSome, Contains}
 use Rattle.std.proofs.lemmas.Bool.{cases_lt}
-use Rattle.proto_parts.specs.Lexemes.{Lexeme, word_at}
+use Rattle.proto_grammar.specs.Lexemes.{Lexeme, word_at}
 use Rattle.proto_schema.specs.Files
 use Rattle.proto_schema.specs.Files.{Draft, Block, no_block, a_oneof, an_enum, a_service, an_rpc, Statement, Says}
 use Rattle.proto_schema.specs.Files.{Forms, ClosesTo, nothing_said, edit_open, edit_last, innermost_of, with_file}
 use Rattle.proto_schema.specs.Files.{with_block, in_message, in_enum, open_message, open_enum}
 use Rattle.proto_schema.specs.Files.{open_service, open_oneof, add_field, add_rpc, oneofs_of, count_oneofs, field}
 use Rattle.proto_schema.specs.Faults.{IsTextOf}
-use Rattle.proto_file.specs.Order.{IsPlaceBelow, HasName, HasFullName, HasTypeNames, IsFormedField, IsFormedMessage, IsFormedEnum, IsFormedRpc, IsFormedService, IsFormed}
+use Rattle.proto_ast.specs.Order.{IsPlaceBelow, HasName, HasFullName, HasTypeNames, IsFormedField, IsFormedMessage, IsFormedEnum, IsFormedRpc, IsFormedService, IsFormed}
 use Rattle.proto_schema.proofs.Places.{nothing_at, all_by_place, contained, in_pushed, before_pushed, pushed, Changed}
 use Rattle.proto_schema.proofs.Places.{changed, kept, in_edited_open, length_edited_open, in_edited_last}
 use Rattle.proto_schema.proofs.Places.{length_edited_last}
 use Rattle.proto_schema.proofs.Along.{Along, along_split, tokens_along}
 use Rattle.proto_schema.proofs.Spans.{NameWithin, EndWithin, RpcWithin, along_same, word_along, full_along, types_along, end_along, numbered_along, rpc_along}
-use Rattle.proto_file.specs.declared.file.Word.{Word}
-use Rattle.proto_file.specs.declared.file.Range.{Range}
-use Rattle.proto_file.specs.declared.file.Import.{Import}
-use Rattle.proto_file.specs.declared.file.FieldLabel.TheVariants.{Plain}
-use Rattle.proto_file.specs.declared.file.FieldDecl.{FieldDecl}
-use Rattle.proto_file.specs.declared.file.MessageDecl.{MessageDecl}
-use Rattle.proto_file.specs.declared.file.ValueDecl.{ValueDecl}
-use Rattle.proto_file.specs.declared.file.EnumDecl.{EnumDecl}
-use Rattle.proto_file.specs.declared.file.RpcDecl.{RpcDecl}
-use Rattle.proto_file.specs.declared.file.ServiceDecl.{ServiceDecl}
-use Rattle.proto_file.specs.declared.file.File.{File}
+use Rattle.proto_ast.specs.declared.file.Word.{Word}
+use Rattle.proto_ast.specs.declared.file.Range.{Range}
+use Rattle.proto_ast.specs.declared.file.Import.{Import}
+use Rattle.proto_ast.specs.declared.file.FieldLabel.TheVariants.{Plain}
+use Rattle.proto_ast.specs.declared.file.FieldDecl.{FieldDecl}
+use Rattle.proto_ast.specs.declared.file.MessageDecl.{MessageDecl}
+use Rattle.proto_ast.specs.declared.file.ValueDecl.{ValueDecl}
+use Rattle.proto_ast.specs.declared.file.EnumDecl.{EnumDecl}
+use Rattle.proto_ast.specs.declared.file.RpcDecl.{RpcDecl}
+use Rattle.proto_ast.specs.declared.file.ServiceDecl.{ServiceDecl}
+use Rattle.proto_ast.specs.declared.file.File.{File}
 
 -- ---- messages, enums and services so far
 

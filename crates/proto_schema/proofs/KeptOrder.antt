@@ -3,20 +3,20 @@ use Rattle.std.proofs.Common.{◌≡◌, ◌⊎◌, inl, inr, ℕ, zero, suc, �
 use Rattle.std.specs.Prelude.{Some, slice_get}
 use Rattle.std.proofs.lemmas.Bool.{cases_order}
 use Rattle.std.proofs.lemmas.Option.{slice_get_within}
-use Rattle.proto_file.specs.Order.{Declaration, import_decl, message_decl, field_decl, oneof_decl, enum_decl}
-use Rattle.proto_file.specs.Order.{value_decl, service_decl, rpc_decl, Part, its_type, its_key, its_value, its_name}
-use Rattle.proto_file.specs.Order.{its_number, its_input, its_output, rank_of, IsOfField, IsOfValue, IsOfRpc}
-use Rattle.proto_file.specs.Order.{StandsAt, Precedes, IsOrdered}
-use Rattle.proto_file.specs.Order
-use Rattle.proto_file.specs.declared.file.Span.{Span}
-use Rattle.proto_file.specs.declared.file.MessageDecl.{MessageDecl}
-use Rattle.proto_file.specs.declared.file.EnumDecl.{EnumDecl}
-use Rattle.proto_file.specs.declared.file.File.{File}
-use Rattle.proto_file.specs.declared.file.Word.{Word}
-use Rattle.proto_file.specs.declared.file.FieldDecl.{FieldDecl}
-use Rattle.proto_file.specs.declared.file.ValueDecl.{ValueDecl}
-use Rattle.proto_file.specs.declared.file.RpcDecl.{RpcDecl}
-use Rattle.proto_file.specs.declared.file.ServiceDecl.{ServiceDecl}
+use Rattle.proto_ast.specs.Order.{Declaration, import_decl, message_decl, field_decl, oneof_decl, enum_decl}
+use Rattle.proto_ast.specs.Order.{value_decl, service_decl, rpc_decl, Part, its_type, its_key, its_value, its_name}
+use Rattle.proto_ast.specs.Order.{its_number, its_input, its_output, rank_of, IsOfField, IsOfValue, IsOfRpc}
+use Rattle.proto_ast.specs.Order.{StandsAt, Precedes, IsOrdered}
+use Rattle.proto_ast.specs.Order
+use Rattle.proto_ast.specs.declared.file.Span.{Span}
+use Rattle.proto_ast.specs.declared.file.MessageDecl.{MessageDecl}
+use Rattle.proto_ast.specs.declared.file.EnumDecl.{EnumDecl}
+use Rattle.proto_ast.specs.declared.file.File.{File}
+use Rattle.proto_ast.specs.declared.file.Word.{Word}
+use Rattle.proto_ast.specs.declared.file.FieldDecl.{FieldDecl}
+use Rattle.proto_ast.specs.declared.file.ValueDecl.{ValueDecl}
+use Rattle.proto_ast.specs.declared.file.RpcDecl.{RpcDecl}
+use Rattle.proto_ast.specs.declared.file.ServiceDecl.{ServiceDecl}
 use Rattle.proto_schema.proofs.Places.{one_at}
 use Rattle.proto_schema.proofs.Spans.{IsWithin}
 

@@ -5,29 +5,29 @@ use Rattle.std.specs.Prelude.{Ok, Err, Result, Option, Some, None, if◌then◌e
 use Rattle.std.specs.Str.{bytes_eq}
 use Rattle.std.proofs.lemmas.Bool.{leb-true, leb-false}
 use Rattle.std.proofs.lemmas.List.{append_assoc}
-use Rattle.proto_file.specs.Dot.{dot}
-use Rattle.proto_parts.specs.Lexemes.{identifier, Lexeme, comma, less, greater, span_to, word_at, IsWord, IsMark, says}
-use Rattle.proto_parts.specs.Grammar.{relative, group_word, map_key, NestedMaps, innermost, around, FieldTypeOf, a_map, map_of_maps}
-use Rattle.proto_parts.specs.Reading.{wrong, is_mark, part, fault_at, full_step, type_step, typed_step, key_step}
-use Rattle.proto_parts.specs.Reading.{behind_key, map_step, more_map, of_key, of_inner_key, of_value, of_inner_value}
-use Rattle.proto_parts.specs.Reading.{begins_map, closed}
+use Rattle.proto_ast.specs.Dot.{dot}
+use Rattle.proto_grammar.specs.Lexemes.{identifier, Lexeme, comma, less, greater, span_to, word_at, IsWord, IsMark, says}
+use Rattle.proto_grammar.specs.Grammar.{relative, group_word, map_key, NestedMaps, innermost, around, FieldTypeOf, a_map, map_of_maps}
+use Rattle.proto_grammar.specs.Reading.{wrong, is_mark, part, fault_at, full_step, type_step, typed_step, key_step}
+use Rattle.proto_grammar.specs.Reading.{behind_key, map_step, more_map, of_key, of_inner_key, of_value, of_inner_value}
+use Rattle.proto_grammar.specs.Reading.{begins_map, closed}
 use Rattle.proto_schema.proofs.Choices.{either_is, named_is, same_bytes, and_both, dotted_differs}
 use Rattle.proto_schema.proofs.NameLemmas.{mark_is}
 use Rattle.proto_schema.proofs.NameRest.{ends, TypedRest, NameBack, from_start, from_root, from_dot, from_part, from_top, typed_back, no_group}
-use Rattle.proto_file.specs.declared.file.Span.{Span}
-use Rattle.proto_file.specs.declared.file.Word.{Word}
-use Rattle.proto_file.specs.declared.file.FieldType.{FieldType}
-use Rattle.proto_file.specs.declared.file.FieldType.TheVariants as types
-use Rattle.proto_parts.specs.declared.fault.ProtoReason.TheVariants as reasons
-use Rattle.proto_parts.specs.declared.fault.ProtoFault.{ProtoFault}
-use Rattle.proto_parts.specs.declared.name.NameState.{NameState}
-use Rattle.proto_parts.specs.declared.name.NameState.TheVariants as names
-use Rattle.proto_parts.specs.declared.name.NameStep.{NameStep}
-use Rattle.proto_parts.specs.declared.name.NameStep.TheVariants as name_steps
-use Rattle.proto_parts.specs.declared.field.MapState.{MapState}
-use Rattle.proto_parts.specs.declared.field.MapState.TheVariants as maps
-use Rattle.proto_parts.specs.declared.field.MapStep.{MapStep}
-use Rattle.proto_parts.specs.declared.field.MapStep.TheVariants as steps
+use Rattle.proto_ast.specs.declared.file.Span.{Span}
+use Rattle.proto_ast.specs.declared.file.Word.{Word}
+use Rattle.proto_ast.specs.declared.file.FieldType.{FieldType}
+use Rattle.proto_ast.specs.declared.file.FieldType.TheVariants as types
+use Rattle.proto_grammar.specs.declared.fault.ProtoReason.TheVariants as reasons
+use Rattle.proto_grammar.specs.declared.fault.ProtoFault.{ProtoFault}
+use Rattle.proto_grammar.specs.declared.name.NameState.{NameState}
+use Rattle.proto_grammar.specs.declared.name.NameState.TheVariants as names
+use Rattle.proto_grammar.specs.declared.name.NameStep.{NameStep}
+use Rattle.proto_grammar.specs.declared.name.NameStep.TheVariants as name_steps
+use Rattle.proto_grammar.specs.declared.field.MapState.{MapState}
+use Rattle.proto_grammar.specs.declared.field.MapState.TheVariants as maps
+use Rattle.proto_grammar.specs.declared.field.MapStep.{MapStep}
+use Rattle.proto_grammar.specs.declared.field.MapStep.TheVariants as steps
 
 -- ---- a name of three letters is one token
 

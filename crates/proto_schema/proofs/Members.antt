@@ -1,20 +1,20 @@
 -- A field, a oneof, a value or an rpc that is declared after all others keeps the order.
 use Rattle.std.proofs.Common.{◌≡◌, ◌⊎◌, inl, inr, ℕ, suc, ◌<◌, ◌≤◌, List, [], ◌∷◌, ◌++◌, length, refl, ap, subst, sym, ◌∙◌, arith}
 use Rattle.std.specs.Prelude.{Option, Some, slice_get}
-use Rattle.proto_file.specs.Order.{Declaration, field_decl, oneof_decl, value_decl, rpc_decl, Part, its_name, rank_of}
-use Rattle.proto_file.specs.Order.{IsOfField, field_type, map_key, map_value, outer_key, field_name, field_number}
-use Rattle.proto_file.specs.Order.{IsOfValue, value_name, value_number, IsOfRpc, rpc_name, rpc_input, rpc_output}
-use Rattle.proto_file.specs.declared.file.Span.{Span}
-use Rattle.proto_file.specs.declared.file.MessageDecl.{MessageDecl}
-use Rattle.proto_file.specs.declared.file.EnumDecl.{EnumDecl}
-use Rattle.proto_file.specs.declared.file.File.{File}
-use Rattle.proto_file.specs.declared.file.Word.{Word}
-use Rattle.proto_file.specs.declared.file.FieldType.{FieldType}
-use Rattle.proto_file.specs.declared.file.FieldType.TheVariants.{Named, Map, NestedMap}
-use Rattle.proto_file.specs.declared.file.FieldDecl.{FieldDecl}
-use Rattle.proto_file.specs.declared.file.ValueDecl.{ValueDecl}
-use Rattle.proto_file.specs.declared.file.RpcDecl.{RpcDecl}
-use Rattle.proto_file.specs.declared.file.ServiceDecl.{ServiceDecl}
+use Rattle.proto_ast.specs.Order.{Declaration, field_decl, oneof_decl, value_decl, rpc_decl, Part, its_name, rank_of}
+use Rattle.proto_ast.specs.Order.{IsOfField, field_type, map_key, map_value, outer_key, field_name, field_number}
+use Rattle.proto_ast.specs.Order.{IsOfValue, value_name, value_number, IsOfRpc, rpc_name, rpc_input, rpc_output}
+use Rattle.proto_ast.specs.declared.file.Span.{Span}
+use Rattle.proto_ast.specs.declared.file.MessageDecl.{MessageDecl}
+use Rattle.proto_ast.specs.declared.file.EnumDecl.{EnumDecl}
+use Rattle.proto_ast.specs.declared.file.File.{File}
+use Rattle.proto_ast.specs.declared.file.Word.{Word}
+use Rattle.proto_ast.specs.declared.file.FieldType.{FieldType}
+use Rattle.proto_ast.specs.declared.file.FieldType.TheVariants.{Named, Map, NestedMap}
+use Rattle.proto_ast.specs.declared.file.FieldDecl.{FieldDecl}
+use Rattle.proto_ast.specs.declared.file.ValueDecl.{ValueDecl}
+use Rattle.proto_ast.specs.declared.file.RpcDecl.{RpcDecl}
+use Rattle.proto_ast.specs.declared.file.ServiceDecl.{ServiceDecl}
 use Rattle.proto_schema.specs.Files.{edit_open, edit_last}
 use Rattle.proto_schema.proofs.Places.{one_at, in_pushed, changed, kept, in_edited_open, in_edited_last}
 use Rattle.proto_schema.proofs.Spans.{IsWithin, TypesWithin, RpcWithin}

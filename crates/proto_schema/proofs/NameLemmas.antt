@@ -3,14 +3,14 @@ use Rattle.std.proofs.Common.{subst, ◌≡◌, ℕ, true, false, List, [], ◌�
 use Rattle.std.specs.Prelude.{Ok}
 use Rattle.std.proofs.lemmas.Bool.{eqb-true, eq-eqb}
 use Rattle.std.proofs.lemmas.List.{append_assoc}
-use Rattle.proto_file.specs.Dot.{dot}
-use Rattle.proto_parts.specs.Lexemes.{Meaning, identifier, integer, number, string, mark, the_end, none, Lexeme, span_to, word_at, IsWord, IsMark}
-use Rattle.proto_parts.specs.Grammar.{FullName, one, more}
-use Rattle.proto_parts.specs.Reading.{is_mark, by_name, if_name, part, full_step}
-use Rattle.proto_file.specs.declared.file.Word.{Word}
-use Rattle.proto_parts.specs.declared.name.NameState.{NameState}
-use Rattle.proto_parts.specs.declared.name.NameState.TheVariants as names
-use Rattle.proto_parts.specs.declared.name.NameStep.TheVariants as name_steps
+use Rattle.proto_ast.specs.Dot.{dot}
+use Rattle.proto_grammar.specs.Lexemes.{Meaning, identifier, integer, number, string, mark, the_end, none, Lexeme, span_to, word_at, IsWord, IsMark}
+use Rattle.proto_grammar.specs.Grammar.{FullName, one, more}
+use Rattle.proto_grammar.specs.Reading.{is_mark, by_name, if_name, part, full_step}
+use Rattle.proto_ast.specs.declared.file.Word.{Word}
+use Rattle.proto_grammar.specs.declared.name.NameState.{NameState}
+use Rattle.proto_grammar.specs.declared.name.NameState.TheVariants as names
+use Rattle.proto_grammar.specs.declared.name.NameStep.TheVariants as name_steps
 
 -- ---- meanings
 

@@ -2,20 +2,20 @@
 use Rattle.std.proofs.Common.{subst, ◌≡◌, ℕ, false, List, [], ◌∷◌, ◌++◌, codes, refl, ap, sym}
 use Rattle.std.specs.Prelude.{Ok, Err, Result}
 use Rattle.std.proofs.lemmas.List.{append_assoc}
-use Rattle.proto_file.specs.Dot.{dot}
-use Rattle.proto_parts.specs.Lexemes.{Lexeme, span_to, word_at, joined, rooted, IsWord, IsMark, says}
-use Rattle.proto_parts.specs.Grammar.{FullName, one, more, TypeName, relative, absolute, begins_with, group_word}
-use Rattle.proto_parts.specs.Reading.{is_mark, part, full_step, type_step, typed_step, fault_at}
+use Rattle.proto_ast.specs.Dot.{dot}
+use Rattle.proto_grammar.specs.Lexemes.{Lexeme, span_to, word_at, joined, rooted, IsWord, IsMark, says}
+use Rattle.proto_grammar.specs.Grammar.{FullName, one, more, TypeName, relative, absolute, begins_with, group_word}
+use Rattle.proto_grammar.specs.Reading.{is_mark, part, full_step, type_step, typed_step, fault_at}
 use Rattle.proto_schema.proofs.Choices.{either_is, named_is}
 use Rattle.proto_schema.proofs.NameLemmas.{mark_is}
-use Rattle.proto_file.specs.declared.file.Span.{Span}
-use Rattle.proto_file.specs.declared.file.Word.{Word}
-use Rattle.proto_parts.specs.declared.fault.ProtoFault.{ProtoFault}
-use Rattle.proto_parts.specs.declared.fault.ProtoReason.TheVariants as reasons
-use Rattle.proto_parts.specs.declared.name.NameState.{NameState}
-use Rattle.proto_parts.specs.declared.name.NameState.TheVariants as names
-use Rattle.proto_parts.specs.declared.name.NameStep.{NameStep}
-use Rattle.proto_parts.specs.declared.name.NameStep.TheVariants as steps
+use Rattle.proto_ast.specs.declared.file.Span.{Span}
+use Rattle.proto_ast.specs.declared.file.Word.{Word}
+use Rattle.proto_grammar.specs.declared.fault.ProtoFault.{ProtoFault}
+use Rattle.proto_grammar.specs.declared.fault.ProtoReason.TheVariants as reasons
+use Rattle.proto_grammar.specs.declared.name.NameState.{NameState}
+use Rattle.proto_grammar.specs.declared.name.NameState.TheVariants as names
+use Rattle.proto_grammar.specs.declared.name.NameStep.{NameStep}
+use Rattle.proto_grammar.specs.declared.name.NameStep.TheVariants as steps
 
 -- a name after another and a dot
 abbrev pub behind_dot : Word → Word → Word

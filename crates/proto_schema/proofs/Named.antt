@@ -6,13 +6,13 @@ use Rattle.std.specs.Str.{bytes_eq}
 use Rattle.std.proofs.lemmas.Bool.{and_right, false_from_ne_true}
 use Rattle.std.proofs.Math.Nat.{eq-or-lt_of_le}
 use Rattle.std.proofs.lemmas.List.{append_assoc}
-use Rattle.proto_parts.specs.Lexemes.{Meaning, identifier, integer, number, string, mark, the_end, none, Lexeme, word_at, IsWord, IsMark, says, says_one_of, less, comma}
-use Rattle.proto_parts.specs.Grammar.{map_key}
+use Rattle.proto_grammar.specs.Lexemes.{Meaning, identifier, integer, number, string, mark, the_end, none, Lexeme, word_at, IsWord, IsMark, says, says_one_of, less, comma}
+use Rattle.proto_grammar.specs.Grammar.{map_key}
 use Rattle.proto_schema.specs.Files.{Draft, no_block, a_oneof, a_service, InMessage, InBody, Says, LabelOf, plain, optional, repeated}
 use Rattle.proto_schema.specs.Faults
-use Rattle.proto_parts.specs.Lexemes.{is_no_token, is_type_part}
+use Rattle.proto_grammar.specs.Lexemes.{is_no_token, is_type_part}
 use Rattle.proto_schema.specs.Faults.{is_path, IsNamed, BeforeRpcType, BeforeMapPart, BeforeType}
-use Rattle.proto_parts.specs.Reading.{fault_at, map_step, of_map, field_step, rpc_step}
+use Rattle.proto_grammar.specs.Reading.{fault_at, map_step, of_map, field_step, rpc_step}
 use Rattle.proto_schema.specs.Running.{place_of, place_with, statement_step, import_step, field_begins, of_field, failed, is_end, is_over, behind, run, reading}
 use Rattle.proto_schema.proofs.Choices.{word_is, same_bytes}
 use Rattle.proto_schema.proofs.NameLemmas.{Walks, stay, go, walks_on, walks_in}
@@ -25,19 +25,19 @@ use Rattle.proto_schema.proofs.RunReads.{StepGoes, in_file, in_message, in_block
 use Rattle.proto_schema.proofs.RunReads.{repeated_word, rpc_word, in_field, in_rpc, by_word, message_leads}
 use Rattle.proto_schema.proofs.RunReads.{oneof_leads, map_no_statement, map_no_member, run_goes}
 use Rattle.proto_schema.proofs.Shallow.{SaysWell, says_well, says_deep, deep, says_well_or, drop_behind, get_behind}
-use Rattle.proto_file.specs.declared.file.Span.{Span}
-use Rattle.proto_file.specs.declared.file.Word.{Word}
-use Rattle.proto_file.specs.declared.file.FieldLabel.{FieldLabel}
-use Rattle.proto_file.specs.declared.file.FieldLabel.TheVariants as labels
-use Rattle.proto_parts.specs.declared.fault.ProtoReason.{ProtoReason}
-use Rattle.proto_parts.specs.declared.fault.ProtoReason.TheVariants as reasons
-use Rattle.proto_parts.specs.declared.fault.ProtoFault.{ProtoFault}
-use Rattle.proto_parts.specs.declared.name.NameState.TheVariants as names
-use Rattle.proto_parts.specs.declared.field.MapState.{MapState}
-use Rattle.proto_parts.specs.declared.field.MapState.TheVariants as maps
-use Rattle.proto_parts.specs.declared.field.MapStep.{MapStep}
-use Rattle.proto_parts.specs.declared.field.FieldState.TheVariants as fields
-use Rattle.proto_parts.specs.declared.rpc.RpcState.TheVariants as rpcs
+use Rattle.proto_ast.specs.declared.file.Span.{Span}
+use Rattle.proto_ast.specs.declared.file.Word.{Word}
+use Rattle.proto_ast.specs.declared.file.FieldLabel.{FieldLabel}
+use Rattle.proto_ast.specs.declared.file.FieldLabel.TheVariants as labels
+use Rattle.proto_grammar.specs.declared.fault.ProtoReason.{ProtoReason}
+use Rattle.proto_grammar.specs.declared.fault.ProtoReason.TheVariants as reasons
+use Rattle.proto_grammar.specs.declared.fault.ProtoFault.{ProtoFault}
+use Rattle.proto_grammar.specs.declared.name.NameState.TheVariants as names
+use Rattle.proto_grammar.specs.declared.field.MapState.{MapState}
+use Rattle.proto_grammar.specs.declared.field.MapState.TheVariants as maps
+use Rattle.proto_grammar.specs.declared.field.MapStep.{MapStep}
+use Rattle.proto_grammar.specs.declared.field.FieldState.TheVariants as fields
+use Rattle.proto_grammar.specs.declared.rpc.RpcState.TheVariants as rpcs
 use Rattle.proto_schema.specs.declared.statement.Place.{Place}
 use Rattle.proto_schema.specs.declared.statement.Place.TheVariants as places
 use Rattle.proto_schema.specs.declared.statement.State.{State}

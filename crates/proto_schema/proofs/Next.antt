@@ -2,18 +2,18 @@
 use Rattle.std.proofs.Common.{subst, ◌≡◌, ℕ, suc, ◌+◌, ◌^◌, ◌≤◌, ◌<◌, Bool, true, false, List, [], ◌∷◌, ◌++◌, length}
 use Rattle.std.proofs.Common.{drop, length-append, refl, ap, sym, ◌∙◌, arith}
 use Rattle.std.specs.Prelude.{Ok, Result, ◌&&◌}
-use Rattle.proto_tokens.specs.Tokens.{literal_of, is_last, AreTokens, IsNext, IsHere, Stands, last, another, word, the_end, no_word, identifier, integer, number, string, mark}
-use Rattle.proto_tokens.specs.declared.token.Kind.{Kind}
-use Rattle.proto_tokens.specs.declared.token.Kind.TheVariants as kinds
-use Rattle.proto_tokens.specs.declared.token.Token.{Token}
-use Rattle.proto_parts.specs.Lexemes.{Lexeme, lexeme, lexemes, meaning, says, equals}
+use Rattle.proto_lexer.specs.Tokens.{literal_of, is_last, AreTokens, IsNext, IsHere, Stands, last, another, word, the_end, no_word, identifier, integer, number, string, mark}
+use Rattle.proto_lexer.specs.declared.token.Kind.{Kind}
+use Rattle.proto_lexer.specs.declared.token.Kind.TheVariants as kinds
+use Rattle.proto_lexer.specs.declared.token.Token.{Token}
+use Rattle.proto_grammar.specs.Lexemes.{Lexeme, lexeme, lexemes, meaning, says, equals}
 use Rattle.proto_schema.specs.Files.{Draft, nothing_said}
-use Rattle.proto_parts.specs.Reading.{Lies, Fails, is_mark, unexpected}
+use Rattle.proto_grammar.specs.Reading.{Lies, Fails, is_mark, unexpected}
 use Rattle.proto_schema.specs.Running.{AreTokensFrom, alone, with_others, Outcome, read, failed, Failed, run, behind}
 use Rattle.proto_schema.specs.Running.{behind_step, is_over, statement_step, place_of, depth, behind_word}
 use Rattle.proto_schema.specs.Running.{behind_equals, added, is_too_deep, is_begin, is_end, is_file}
-use Rattle.proto_parts.specs.declared.fault.ProtoFault.{ProtoFault}
-use Rattle.proto_parts.specs.declared.fault.ProtoFault.TheVariants as fault
+use Rattle.proto_grammar.specs.declared.fault.ProtoFault.{ProtoFault}
+use Rattle.proto_grammar.specs.declared.fault.ProtoFault.TheVariants as fault
 use Rattle.proto_schema.proofs.Depths.{Within, statement_within}
 use Rattle.proto_schema.specs.declared.statement.Place.{Place}
 use Rattle.proto_schema.specs.declared.statement.Step.TheVariants as steps
@@ -23,7 +23,7 @@ use Rattle.proto_schema.specs.declared.statement.Step.{Step}
 use Rattle.proto_schema.specs.declared.statement.Opening.{Opening}
 use Rattle.proto_schema.specs.declared.statement.Said.{Said}
 use Rattle.proto_schema.specs.declared.statement.Said.TheVariants as said
-use Rattle.proto_file.specs.declared.file.Word.{Word}
+use Rattle.proto_ast.specs.declared.file.Word.{Word}
 
 ordered : (text : List ℕ) (t : Token) → IsHere text t → t.start ≤ t.end
 ordered text t (word h s) = h

@@ -4,27 +4,27 @@ use Rattle.std.proofs.Common.{◌∷◌, ◌++◌, codes, refl, ap, sym, ◌∙�
 use Rattle.std.specs.Prelude.{Ok, Option, None, ◌&&◌}
 use Rattle.std.proofs.lemmas.Bool.{ne_eqb, lt-leb, and_right}
 use Rattle.std.proofs.lemmas.List.{append_assoc}
-use Rattle.proto_file.specs.Dot.{dot}
-use Rattle.proto_parts.specs.Lexemes.{Meaning, identifier, integer, number, string, mark, the_end, none, Lexeme}
-use Rattle.proto_parts.specs.Lexemes.{comma, semicolon, equals, minus, plus, opening_brace, closing_brace}
-use Rattle.proto_parts.specs.Lexemes.{opening_paren, closing_paren, opening_bracket, closing_bracket, IsWord, IsMark}
-use Rattle.proto_parts.specs.Lexemes.{says}
-use Rattle.proto_parts.specs.Grammar.{FullName, one, more, TypeName, relative, absolute, Closes, last_brace, closing}
-use Rattle.proto_parts.specs.Grammar.{opening, other, Strings, one_string, strings, AnyNumber, an_integer, a_number}
-use Rattle.proto_parts.specs.Grammar.{truth, Value, a_name, unsigned, signed, texts, block, OptionPart, plain_part}
-use Rattle.proto_parts.specs.Grammar.{custom_part, OptionName, one_part, parts, is_packed, OptionOf, option, latest}
-use Rattle.proto_parts.specs.Grammar.{OptionList, one_option, options, FieldOptions, no_options, bracketed}
-use Rattle.proto_parts.specs.Reading.{is_mark, truth_of, brace_step, option_step, next_option, tail_step, of_option}
+use Rattle.proto_ast.specs.Dot.{dot}
+use Rattle.proto_grammar.specs.Lexemes.{Meaning, identifier, integer, number, string, mark, the_end, none, Lexeme}
+use Rattle.proto_grammar.specs.Lexemes.{comma, semicolon, equals, minus, plus, opening_brace, closing_brace}
+use Rattle.proto_grammar.specs.Lexemes.{opening_paren, closing_paren, opening_bracket, closing_bracket, IsWord, IsMark}
+use Rattle.proto_grammar.specs.Lexemes.{says}
+use Rattle.proto_grammar.specs.Grammar.{FullName, one, more, TypeName, relative, absolute, Closes, last_brace, closing}
+use Rattle.proto_grammar.specs.Grammar.{opening, other, Strings, one_string, strings, AnyNumber, an_integer, a_number}
+use Rattle.proto_grammar.specs.Grammar.{truth, Value, a_name, unsigned, signed, texts, block, OptionPart, plain_part}
+use Rattle.proto_grammar.specs.Grammar.{custom_part, OptionName, one_part, parts, is_packed, OptionOf, option, latest}
+use Rattle.proto_grammar.specs.Grammar.{OptionList, one_option, options, FieldOptions, no_options, bracketed}
+use Rattle.proto_grammar.specs.Reading.{is_mark, truth_of, brace_step, option_step, next_option, tail_step, of_option}
 use Rattle.proto_schema.proofs.NameLemmas.{Walks, stay, go, walks_on, walks_in, word_no_mark, is_name}
 use Rattle.proto_schema.proofs.OptionRest.{said_if, untrue, truth_none}
 use Rattle.proto_schema.proofs.TailRest.{latest_assoc, latest_none}
-use Rattle.proto_file.specs.declared.file.Word.{Word}
-use Rattle.proto_parts.specs.declared.option.OptionState.{OptionState}
-use Rattle.proto_parts.specs.declared.option.OptionState.TheVariants as states
-use Rattle.proto_parts.specs.declared.option.OptionStep.TheVariants as steps
-use Rattle.proto_parts.specs.declared.tail.TailState.{TailState}
-use Rattle.proto_parts.specs.declared.tail.TailState.TheVariants as tails
-use Rattle.proto_parts.specs.declared.tail.TailStep.TheVariants as tail_steps
+use Rattle.proto_ast.specs.declared.file.Word.{Word}
+use Rattle.proto_grammar.specs.declared.option.OptionState.{OptionState}
+use Rattle.proto_grammar.specs.declared.option.OptionState.TheVariants as states
+use Rattle.proto_grammar.specs.declared.option.OptionStep.TheVariants as steps
+use Rattle.proto_grammar.specs.declared.tail.TailState.{TailState}
+use Rattle.proto_grammar.specs.declared.tail.TailState.TheVariants as tails
+use Rattle.proto_grammar.specs.declared.tail.TailStep.TheVariants as tail_steps
 
 abbrev pub OptionGoes : OptionState → Lexeme → OptionState → Type 0
 OptionGoes s x t = option_step s x ≡ Ok (steps.More t)

@@ -4,23 +4,23 @@ use Rattle.std.proofs.Common.{false, List, [], ◌∷◌, ◌++◌, codes, refl,
 use Rattle.std.specs.Prelude.{Ok, Err, Result, Option, None, if◌then◌else◌, ◌&&◌, ◌||◌}
 use Rattle.std.proofs.lemmas.Bool.{eqb-true, eqb-false, leb-true, leb-false}
 use Rattle.std.proofs.lemmas.List.{append_assoc}
-use Rattle.proto_file.specs.Dot.{dot}
-use Rattle.proto_parts.specs.Lexemes.{Meaning, identifier, integer, number, string, mark, the_end, none, Lexeme}
-use Rattle.proto_parts.specs.Lexemes.{equals, minus, plus, opening_brace, closing_brace, opening_paren}
-use Rattle.proto_parts.specs.Lexemes.{closing_paren, IsWord, IsMark, says}
-use Rattle.proto_parts.specs.Grammar.{FullName, one, more, TypeName, relative, absolute, Closes, last_brace, closing}
-use Rattle.proto_parts.specs.Grammar.{opening, other, Strings, one_string, strings, AnyNumber, an_integer, a_number}
-use Rattle.proto_parts.specs.Grammar.{truth, Value, a_name, unsigned, signed, texts, block, plain_part, custom_part}
-use Rattle.proto_parts.specs.Grammar.{OptionName, one_part, parts, is_packed}
-use Rattle.proto_parts.specs.Reading.{wrong, is_mark, is_string, is_number, if_name, more_option, truth_of, value_start, brace_step, option_step}
+use Rattle.proto_ast.specs.Dot.{dot}
+use Rattle.proto_grammar.specs.Lexemes.{Meaning, identifier, integer, number, string, mark, the_end, none, Lexeme}
+use Rattle.proto_grammar.specs.Lexemes.{equals, minus, plus, opening_brace, closing_brace, opening_paren}
+use Rattle.proto_grammar.specs.Lexemes.{closing_paren, IsWord, IsMark, says}
+use Rattle.proto_grammar.specs.Grammar.{FullName, one, more, TypeName, relative, absolute, Closes, last_brace, closing}
+use Rattle.proto_grammar.specs.Grammar.{opening, other, Strings, one_string, strings, AnyNumber, an_integer, a_number}
+use Rattle.proto_grammar.specs.Grammar.{truth, Value, a_name, unsigned, signed, texts, block, plain_part, custom_part}
+use Rattle.proto_grammar.specs.Grammar.{OptionName, one_part, parts, is_packed}
+use Rattle.proto_grammar.specs.Reading.{wrong, is_mark, is_string, is_number, if_name, more_option, truth_of, value_start, brace_step, option_step}
 use Rattle.proto_schema.proofs.Choices.{either_is, named_is, string_meant, number_meant}
 use Rattle.proto_schema.proofs.NameLemmas.{mark_is}
-use Rattle.proto_file.specs.declared.file.Word.{Word}
-use Rattle.proto_parts.specs.declared.fault.ProtoFault.{ProtoFault}
-use Rattle.proto_parts.specs.declared.option.OptionState.{OptionState}
-use Rattle.proto_parts.specs.declared.option.OptionState.TheVariants as states
-use Rattle.proto_parts.specs.declared.option.OptionStep.{OptionStep}
-use Rattle.proto_parts.specs.declared.option.OptionStep.TheVariants as steps
+use Rattle.proto_ast.specs.declared.file.Word.{Word}
+use Rattle.proto_grammar.specs.declared.fault.ProtoFault.{ProtoFault}
+use Rattle.proto_grammar.specs.declared.option.OptionState.{OptionState}
+use Rattle.proto_grammar.specs.declared.option.OptionState.TheVariants as states
+use Rattle.proto_grammar.specs.declared.option.OptionStep.{OptionStep}
+use Rattle.proto_grammar.specs.declared.option.OptionStep.TheVariants as steps
 
 -- the value that an option gives to `packed`
 abbrev pub said_if : Bool → List Lexeme → Option Bool

@@ -2,22 +2,22 @@
 -- after all earlier ones.
 use Rattle.std.proofs.Common.{◌≡◌, ℕ, suc, ◌≤◌, Bool, true, false, List, [], ◌∷◌, ◌++◌, length, refl, ◌∙◌, arith}
 use Rattle.std.specs.Prelude.{Option, Some, None}
-use Rattle.proto_file.specs.Order.{Declaration, Part, StandsAt, IsOrdered}
-use Rattle.proto_file.specs.Order
-use Rattle.proto_file.specs.declared.file.Span.{Span}
-use Rattle.proto_file.specs.declared.file.File.{File}
-use Rattle.proto_file.specs.declared.file.Word.{Word}
-use Rattle.proto_file.specs.declared.file.Number.{Number}
-use Rattle.proto_file.specs.declared.file.FieldType.{FieldType}
+use Rattle.proto_ast.specs.Order.{Declaration, Part, StandsAt, IsOrdered}
+use Rattle.proto_ast.specs.Order
+use Rattle.proto_ast.specs.declared.file.Span.{Span}
+use Rattle.proto_ast.specs.declared.file.File.{File}
+use Rattle.proto_ast.specs.declared.file.Word.{Word}
+use Rattle.proto_ast.specs.declared.file.Number.{Number}
+use Rattle.proto_ast.specs.declared.file.FieldType.{FieldType}
 use Rattle.std.proofs.lemmas.List.{append_assoc}
-use Rattle.proto_parts.specs.Lexemes.{Lexeme, word_at}
-use Rattle.proto_parts.specs.Grammar.{FieldTypeOf}
+use Rattle.proto_grammar.specs.Lexemes.{Lexeme, word_at}
+use Rattle.proto_grammar.specs.Grammar.{FieldTypeOf}
 use Rattle.proto_schema.specs.Files
 use Rattle.proto_schema.specs.Files.{Draft, Statement, Says, Forms, ClosesTo, FieldEnd, nothing_said, innermost_of, add_field, add_rpc, field}
 use Rattle.proto_schema.specs.Faults.{IsTextOf}
-use Rattle.proto_file.specs.Order.{HasFullName}
-use Rattle.proto_file.specs.declared.file.FieldLabel.{FieldLabel}
-use Rattle.proto_file.specs.declared.file.FieldLabel.TheVariants.{Plain}
+use Rattle.proto_ast.specs.Order.{HasFullName}
+use Rattle.proto_ast.specs.declared.file.FieldLabel.{FieldLabel}
+use Rattle.proto_ast.specs.declared.file.FieldLabel.TheVariants.{Plain}
 use Rattle.proto_schema.proofs.Places.{nothing_at}
 use Rattle.proto_schema.proofs.Along.{Along, along_ends, along_split, tokens_along}
 use Rattle.proto_schema.proofs.Spans.{IsWithin, NameWithin, TypesWithin, EndWithin, along_same, first_within, widen, full_along, types_along, end_along, numbered_along, rpc_along}

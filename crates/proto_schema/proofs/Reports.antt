@@ -5,14 +5,14 @@ use Rattle.std.specs.Prelude.{Ok, Err, Result, Some, if◌then◌else◌, slice_
 use Rattle.std.specs.Str.{bytes_eq}
 use Rattle.std.proofs.lemmas.Bool.{leb-true, leb-false}
 use Rattle.std.proofs.lemmas.List.{append_assoc, append-nil}
-use Rattle.proto_parts.specs.Lexemes.{Meaning, identifier, integer, number, string, mark, the_end, none, Lexeme, semicolon, equals, says}
+use Rattle.proto_grammar.specs.Lexemes.{Meaning, identifier, integer, number, string, mark, the_end, none, Lexeme, semicolon, equals, says}
 use Rattle.proto_schema.specs.Files
 use Rattle.proto_schema.specs.Files.{Draft, Statement, Says, nothing_said}
 use Rattle.proto_schema.specs.declared.limits.TheConstants.{MAX_OPEN}
 use Rattle.proto_schema.specs.Faults
-use Rattle.proto_parts.specs.Lexemes.{is_no_token}
+use Rattle.proto_grammar.specs.Lexemes.{is_no_token}
 use Rattle.proto_schema.specs.Faults.{CanGoOn, BreaksAt, IsNamed}
-use Rattle.proto_parts.specs.Reading.{fault_at, unexpected, is_mark}
+use Rattle.proto_grammar.specs.Reading.{fault_at, unexpected, is_mark}
 use Rattle.proto_schema.specs.Running.{place_of, added, statement_step, cut_off, read, failed, is_over, is_too_deep}
 use Rattle.proto_schema.specs.Running.{behind, run, reading, behind_word, behind_equals, behind_value, behind_syntax}
 use Rattle.proto_schema.proofs.Choices.{word_is, same_bytes, bytes_same}
@@ -26,9 +26,9 @@ use Rattle.proto_schema.proofs.Shallow.{get_behind, take_behind, added_less, ope
 use Rattle.proto_schema.proofs.Breaks.{at_fault, cut_goes_on}
 use Rattle.proto_schema.proofs.SoFarWords.{Fault, unlike, extends, imports, groups, streams}
 use Rattle.proto_schema.proofs.SoFar.{SoFar, StepOn, later_on, begin_on}
-use Rattle.proto_parts.specs.declared.fault.ProtoReason.{ProtoReason}
-use Rattle.proto_parts.specs.declared.fault.ProtoReason.TheVariants as reasons
-use Rattle.proto_parts.specs.declared.fault.ProtoFault.{ProtoFault}
+use Rattle.proto_grammar.specs.declared.fault.ProtoReason.{ProtoReason}
+use Rattle.proto_grammar.specs.declared.fault.ProtoReason.TheVariants as reasons
+use Rattle.proto_grammar.specs.declared.fault.ProtoFault.{ProtoFault}
 use Rattle.proto_schema.specs.declared.statement.Opening.TheVariants as openings
 use Rattle.proto_schema.specs.declared.statement.State.{State}
 use Rattle.proto_schema.specs.declared.statement.State.TheVariants as states

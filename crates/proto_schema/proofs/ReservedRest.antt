@@ -3,25 +3,25 @@ use Rattle.std.proofs.Common.{subst, ◌≡◌, ◌⊎◌, inl, inr, ℕ, Bool, 
 use Rattle.std.specs.Prelude.{Ok, Err, Result, Option, Some, None, if◌then◌else◌, ◌&&◌}
 use Rattle.std.proofs.lemmas.List.{append_assoc, append-nil}
 use Rattle.mrpc_table.specs.declared.words.Decimal.{Decimal}
-use Rattle.proto_parts.specs.Lexemes.{integer, string, Lexeme, comma, semicolon, minus, span_to, word_at, number_at, IsWord, IsMark, says}
-use Rattle.proto_parts.specs.Grammar.{NumberOf, whole, negative, RangeOf, single, between, up_from, RangesOf, one_range, ranges as more_ranges, NamesOf, one_name, names as more_names}
-use Rattle.proto_parts.specs.Reading.{wrong, is_mark, is_string, if_number, range_step, a_range, whole_range}
-use Rattle.proto_parts.specs.Reading.{more_reserved, of_range, behind_range, ranges_step, reserved_name}
-use Rattle.proto_parts.specs.Reading.{reserved_part_step}
+use Rattle.proto_grammar.specs.Lexemes.{integer, string, Lexeme, comma, semicolon, minus, span_to, word_at, number_at, IsWord, IsMark, says}
+use Rattle.proto_grammar.specs.Grammar.{NumberOf, whole, negative, RangeOf, single, between, up_from, RangesOf, one_range, ranges as more_ranges, NamesOf, one_name, names as more_names}
+use Rattle.proto_grammar.specs.Reading.{wrong, is_mark, is_string, if_number, range_step, a_range, whole_range}
+use Rattle.proto_grammar.specs.Reading.{more_reserved, of_range, behind_range, ranges_step, reserved_name}
+use Rattle.proto_grammar.specs.Reading.{reserved_part_step}
 use Rattle.proto_schema.proofs.Choices.{either_is, numbered_is, string_is, word_is, and_both}
 use Rattle.proto_schema.proofs.NameLemmas.{mark_is}
-use Rattle.proto_file.specs.declared.file.Span.{Span}
-use Rattle.proto_file.specs.declared.file.Word.{Word}
-use Rattle.proto_file.specs.declared.file.Number.{Number}
-use Rattle.proto_file.specs.declared.file.Range.{Range}
-use Rattle.proto_parts.specs.declared.fault.ProtoFault.{ProtoFault}
-use Rattle.proto_parts.specs.declared.reserved.RangeState.{RangeState}
-use Rattle.proto_parts.specs.declared.reserved.RangeState.TheVariants as ranges
-use Rattle.proto_parts.specs.declared.reserved.ReservedPart.{ReservedPart}
-use Rattle.proto_parts.specs.declared.reserved.ReservedPart.TheVariants as parts
-use Rattle.proto_parts.specs.declared.reserved.ReservedState.{ReservedState}
-use Rattle.proto_parts.specs.declared.reserved.ReservedStep.{ReservedStep}
-use Rattle.proto_parts.specs.declared.reserved.ReservedStep.TheVariants as steps
+use Rattle.proto_ast.specs.declared.file.Span.{Span}
+use Rattle.proto_ast.specs.declared.file.Word.{Word}
+use Rattle.proto_ast.specs.declared.file.Number.{Number}
+use Rattle.proto_ast.specs.declared.file.Range.{Range}
+use Rattle.proto_grammar.specs.declared.fault.ProtoFault.{ProtoFault}
+use Rattle.proto_grammar.specs.declared.reserved.RangeState.{RangeState}
+use Rattle.proto_grammar.specs.declared.reserved.RangeState.TheVariants as ranges
+use Rattle.proto_grammar.specs.declared.reserved.ReservedPart.{ReservedPart}
+use Rattle.proto_grammar.specs.declared.reserved.ReservedPart.TheVariants as parts
+use Rattle.proto_grammar.specs.declared.reserved.ReservedState.{ReservedState}
+use Rattle.proto_grammar.specs.declared.reserved.ReservedStep.{ReservedStep}
+use Rattle.proto_grammar.specs.declared.reserved.ReservedStep.TheVariants as steps
 
 -- ---- a range
 

@@ -4,25 +4,25 @@ use Rattle.std.specs.Prelude.{Ok, ◌&&◌}
 use Rattle.std.specs.Str.{bytes_eq}
 use Rattle.std.proofs.lemmas.Bool.{or_parts, false_from_ne_true}
 use Rattle.std.proofs.lemmas.List.{append_assoc}
-use Rattle.proto_file.specs.Dot.{dot}
-use Rattle.proto_parts.specs.Lexemes.{Lexeme, semicolon, opening_brace, opening_paren, closing_paren, span_to, word_at, rooted, IsWord, IsMark, says}
-use Rattle.proto_parts.specs.Grammar.{FullName, one, more, relative, absolute, begins_with, group_word, RpcType, stream_type, other_type}
+use Rattle.proto_ast.specs.Dot.{dot}
+use Rattle.proto_grammar.specs.Lexemes.{Lexeme, semicolon, opening_brace, opening_paren, closing_paren, span_to, word_at, rooted, IsWord, IsMark, says}
+use Rattle.proto_grammar.specs.Grammar.{FullName, one, more, relative, absolute, begins_with, group_word, RpcType, stream_type, other_type}
 use Rattle.proto_schema.specs.Files.{RpcHead, rpc_head}
-use Rattle.proto_parts.specs.Lexemes.{is_type_part}
-use Rattle.proto_parts.specs.Reading.{rpc_type_step, behind_type, is_streaming, rpc_step, of_input, of_output}
+use Rattle.proto_grammar.specs.Lexemes.{is_type_part}
+use Rattle.proto_grammar.specs.Reading.{rpc_type_step, behind_type, is_streaming, rpc_step, of_input, of_output}
 use Rattle.proto_schema.proofs.Choices.{dotted_differs}
 use Rattle.proto_schema.proofs.NameLemmas.{Walks, stay, go, walks_on, walks_in, is_name}
 use Rattle.proto_schema.proofs.NameRest.{behind_dot}
 use Rattle.proto_schema.proofs.FieldReads.{TypedGoes, typed_whole, first_goes, root_goes, dot_goes, part_goes, rooted_goes, no_group}
-use Rattle.proto_file.specs.declared.file.Span.{Span}
-use Rattle.proto_file.specs.declared.file.Word.{Word}
-use Rattle.proto_file.specs.declared.file.RpcDecl.{RpcDecl}
-use Rattle.proto_parts.specs.declared.name.NameState.{NameState}
-use Rattle.proto_parts.specs.declared.name.NameState.TheVariants as names
-use Rattle.proto_parts.specs.declared.name.NameStep.TheVariants as name_steps
-use Rattle.proto_parts.specs.declared.rpc.RpcState.{RpcState}
-use Rattle.proto_parts.specs.declared.rpc.RpcState.TheVariants as rpcs
-use Rattle.proto_parts.specs.declared.rpc.RpcStep.TheVariants as steps
+use Rattle.proto_ast.specs.declared.file.Span.{Span}
+use Rattle.proto_ast.specs.declared.file.Word.{Word}
+use Rattle.proto_ast.specs.declared.file.RpcDecl.{RpcDecl}
+use Rattle.proto_grammar.specs.declared.name.NameState.{NameState}
+use Rattle.proto_grammar.specs.declared.name.NameState.TheVariants as names
+use Rattle.proto_grammar.specs.declared.name.NameStep.TheVariants as name_steps
+use Rattle.proto_grammar.specs.declared.rpc.RpcState.{RpcState}
+use Rattle.proto_grammar.specs.declared.rpc.RpcState.TheVariants as rpcs
+use Rattle.proto_grammar.specs.declared.rpc.RpcStep.TheVariants as steps
 
 -- ---- the type
 

@@ -3,29 +3,29 @@ use Rattle.std.proofs.Common.{subst, ◌≡◌, ℕ, Bool, true, false, List, []
 use Rattle.std.specs.Prelude.{Ok, Err, Result, if◌then◌else◌, ◌&&◌}
 use Rattle.std.specs.Str.{bytes_eq}
 use Rattle.std.proofs.lemmas.List.{append_assoc}
-use Rattle.proto_file.specs.Dot.{dot}
-use Rattle.proto_parts.specs.Lexemes.{identifier, Lexeme, semicolon, opening_brace, opening_paren, closing_paren, span_to, word_at, IsWord, IsMark, says}
-use Rattle.proto_parts.specs.Grammar.{relative, RpcType, stream_type, other_type}
+use Rattle.proto_ast.specs.Dot.{dot}
+use Rattle.proto_grammar.specs.Lexemes.{identifier, Lexeme, semicolon, opening_brace, opening_paren, closing_paren, span_to, word_at, IsWord, IsMark, says}
+use Rattle.proto_grammar.specs.Grammar.{relative, RpcType, stream_type, other_type}
 use Rattle.proto_schema.specs.Files.{RpcHead, rpc_head}
-use Rattle.proto_parts.specs.Lexemes.{is_type_part}
-use Rattle.proto_parts.specs.Reading.{wrong, is_mark, part, fault_at, full_step, type_step, typed_step}
-use Rattle.proto_parts.specs.Reading.{rpc_type_step, behind_type, is_streaming, part_span, rpc_step, more_rpc}
-use Rattle.proto_parts.specs.Reading.{of_input, of_output}
+use Rattle.proto_grammar.specs.Lexemes.{is_type_part}
+use Rattle.proto_grammar.specs.Reading.{wrong, is_mark, part, fault_at, full_step, type_step, typed_step}
+use Rattle.proto_grammar.specs.Reading.{rpc_type_step, behind_type, is_streaming, part_span, rpc_step, more_rpc}
+use Rattle.proto_grammar.specs.Reading.{of_input, of_output}
 use Rattle.proto_schema.proofs.Choices.{either_is, named_is, same_bytes, word_is}
 use Rattle.proto_schema.proofs.NameLemmas.{mark_is}
 use Rattle.proto_schema.proofs.NameRest.{PartRest, ends, goes_on, TypedRest, from_start, from_root, from_dot, from_part, from_top}
-use Rattle.proto_file.specs.declared.file.Word.{Word}
-use Rattle.proto_file.specs.declared.file.RpcDecl.{RpcDecl}
-use Rattle.proto_parts.specs.declared.fault.ProtoReason.TheVariants as reasons
-use Rattle.proto_parts.specs.declared.fault.ProtoFault.{ProtoFault}
-use Rattle.proto_parts.specs.declared.name.NameState.{NameState}
-use Rattle.proto_parts.specs.declared.name.NameState.TheVariants as names
-use Rattle.proto_parts.specs.declared.name.NameStep.{NameStep}
-use Rattle.proto_parts.specs.declared.name.NameStep.TheVariants as name_steps
-use Rattle.proto_parts.specs.declared.rpc.RpcState.{RpcState}
-use Rattle.proto_parts.specs.declared.rpc.RpcState.TheVariants as rpcs
-use Rattle.proto_parts.specs.declared.rpc.RpcStep.{RpcStep}
-use Rattle.proto_parts.specs.declared.rpc.RpcStep.TheVariants as steps
+use Rattle.proto_ast.specs.declared.file.Word.{Word}
+use Rattle.proto_ast.specs.declared.file.RpcDecl.{RpcDecl}
+use Rattle.proto_grammar.specs.declared.fault.ProtoReason.TheVariants as reasons
+use Rattle.proto_grammar.specs.declared.fault.ProtoFault.{ProtoFault}
+use Rattle.proto_grammar.specs.declared.name.NameState.{NameState}
+use Rattle.proto_grammar.specs.declared.name.NameState.TheVariants as names
+use Rattle.proto_grammar.specs.declared.name.NameStep.{NameStep}
+use Rattle.proto_grammar.specs.declared.name.NameStep.TheVariants as name_steps
+use Rattle.proto_grammar.specs.declared.rpc.RpcState.{RpcState}
+use Rattle.proto_grammar.specs.declared.rpc.RpcState.TheVariants as rpcs
+use Rattle.proto_grammar.specs.declared.rpc.RpcStep.{RpcStep}
+use Rattle.proto_grammar.specs.declared.rpc.RpcStep.TheVariants as steps
 
 -- ---- the type
 

@@ -3,15 +3,15 @@ use Rattle.std.proofs.Common.{subst, ◌≡◌, ◌≢◌, inl, inr, ℕ, Bool, 
 use Rattle.std.specs.Prelude.{Ok, Err, Result, Option, Some, None, is_some, if◌then◌else◌, ◌&&◌, ◌||◌}
 use Rattle.std.specs.Str.{bytes_eq}
 use Rattle.std.proofs.lemmas.List.{append_assoc}
-use Rattle.proto_parts.specs.Lexemes.{Meaning, identifier, integer, number, string, mark, the_end, none, Lexeme, semicolon, equals, IsWord, IsMark, says}
+use Rattle.proto_grammar.specs.Lexemes.{Meaning, identifier, integer, number, string, mark, the_end, none, Lexeme, semicolon, equals, IsWord, IsMark, says}
 use Rattle.proto_schema.specs.Files
 use Rattle.proto_schema.specs.Files.{Draft, Block, no_block, a_oneof, an_enum, a_service, an_rpc, InFile, IsWhole, Statement, Syntax, Says, Forms, nothing_said}
-use Rattle.proto_parts.specs.Reading.{unexpected}
+use Rattle.proto_grammar.specs.Reading.{unexpected}
 use Rattle.proto_schema.specs.Running.{place_of, place_with, added, statement_step, read, is_file, is_end, is_over, is_too_deep, behind, run, reading}
 use Rattle.proto_schema.proofs.Next.{run_step, run_over}
-use Rattle.proto_file.specs.declared.file.Word.{Word}
-use Rattle.proto_file.specs.declared.file.File.{File}
-use Rattle.proto_parts.specs.declared.fault.ProtoFault.{ProtoFault}
+use Rattle.proto_ast.specs.declared.file.Word.{Word}
+use Rattle.proto_ast.specs.declared.file.File.{File}
+use Rattle.proto_grammar.specs.declared.fault.ProtoFault.{ProtoFault}
 use Rattle.proto_schema.specs.declared.statement.Opening.{Opening}
 use Rattle.proto_schema.specs.declared.statement.Opening.TheVariants as openings
 use Rattle.proto_schema.specs.declared.statement.State.{State}
@@ -21,14 +21,14 @@ use Rattle.proto_schema.specs.declared.statement.Said.TheVariants as said
 use Rattle.proto_schema.specs.declared.statement.Step.{Step}
 use Rattle.proto_schema.specs.declared.statement.Step.TheVariants as steps
 use Rattle.std.proofs.lemmas.Bool.{or_parts}
-use Rattle.proto_file.specs.Dot.{dot}
-use Rattle.proto_parts.specs.Lexemes.{opening_brace, closing_brace, word_at}
-use Rattle.proto_parts.specs.Lexemes.{says_one_of}
-use Rattle.proto_parts.specs.Grammar.{NumberOf, FieldOptions, one, more as further, FieldTypeOf, named, a_map}
-use Rattle.proto_parts.specs.Grammar.{map_of_maps, MapKey, map_key, relative, absolute, begins_with, group_word}
-use Rattle.proto_parts.specs.Grammar.{member_words, statement_words}
+use Rattle.proto_ast.specs.Dot.{dot}
+use Rattle.proto_grammar.specs.Lexemes.{opening_brace, closing_brace, word_at}
+use Rattle.proto_grammar.specs.Lexemes.{says_one_of}
+use Rattle.proto_grammar.specs.Grammar.{NumberOf, FieldOptions, one, more as further, FieldTypeOf, named, a_map}
+use Rattle.proto_grammar.specs.Grammar.{map_of_maps, MapKey, map_key, relative, absolute, begins_with, group_word}
+use Rattle.proto_grammar.specs.Grammar.{member_words, statement_words}
 use Rattle.proto_schema.specs.Files.{LabelOf, plain, optional, repeated, FieldEnd, field, ClosesTo}
-use Rattle.proto_parts.specs.Reading.{full_step, option_step, next_option}
+use Rattle.proto_grammar.specs.Reading.{full_step, option_step, next_option}
 use Rattle.proto_schema.specs.Running.{of_field, field_begins, begins, of_package, imported, of_options, of_reserved}
 use Rattle.proto_schema.specs.Running.{of_value, of_rpc, in_oneof, filled_with, is_enum, without_first, closed_with}
 use Rattle.proto_schema.specs.Running.{is_body, closes_in}
@@ -44,27 +44,27 @@ use Rattle.proto_schema.proofs.StatementRest.{said_of}
 use Rattle.std.proofs.lemmas.Bool.{and_right}
 use Rattle.proto_schema.proofs.BeginRest.{no_block_field}
 use Rattle.proto_schema.proofs.RunRest.{not_deep}
-use Rattle.proto_file.specs.declared.file.Number.{Number}
-use Rattle.proto_file.specs.declared.file.Range.{Range}
-use Rattle.proto_file.specs.declared.file.Import.{Import}
-use Rattle.proto_file.specs.declared.file.FieldLabel.{FieldLabel}
-use Rattle.proto_file.specs.declared.file.FieldLabel.TheVariants as labels
-use Rattle.proto_file.specs.declared.file.FieldType.{FieldType}
-use Rattle.proto_file.specs.declared.file.FieldDecl.{FieldDecl}
-use Rattle.proto_file.specs.declared.file.ValueDecl.{ValueDecl}
-use Rattle.proto_file.specs.declared.file.RpcDecl.{RpcDecl}
-use Rattle.proto_parts.specs.declared.name.NameState.{NameState}
-use Rattle.proto_parts.specs.declared.name.NameState.TheVariants as names
-use Rattle.proto_parts.specs.declared.option.OptionState.{OptionState}
-use Rattle.proto_parts.specs.declared.option.OptionStep.TheVariants as option_steps
-use Rattle.proto_parts.specs.declared.field.FieldState.{FieldState}
-use Rattle.proto_parts.specs.declared.field.FieldState.TheVariants as fields
-use Rattle.proto_parts.specs.declared.value.ValueState.{ValueState}
-use Rattle.proto_parts.specs.declared.value.ValueState.TheVariants as values
-use Rattle.proto_parts.specs.declared.rpc.RpcState.{RpcState}
-use Rattle.proto_parts.specs.declared.rpc.RpcState.TheVariants as rpcs
-use Rattle.proto_parts.specs.declared.reserved.ReservedState.{ReservedState}
-use Rattle.proto_parts.specs.declared.reserved.ReservedPart.TheVariants as parts
+use Rattle.proto_ast.specs.declared.file.Number.{Number}
+use Rattle.proto_ast.specs.declared.file.Range.{Range}
+use Rattle.proto_ast.specs.declared.file.Import.{Import}
+use Rattle.proto_ast.specs.declared.file.FieldLabel.{FieldLabel}
+use Rattle.proto_ast.specs.declared.file.FieldLabel.TheVariants as labels
+use Rattle.proto_ast.specs.declared.file.FieldType.{FieldType}
+use Rattle.proto_ast.specs.declared.file.FieldDecl.{FieldDecl}
+use Rattle.proto_ast.specs.declared.file.ValueDecl.{ValueDecl}
+use Rattle.proto_ast.specs.declared.file.RpcDecl.{RpcDecl}
+use Rattle.proto_grammar.specs.declared.name.NameState.{NameState}
+use Rattle.proto_grammar.specs.declared.name.NameState.TheVariants as names
+use Rattle.proto_grammar.specs.declared.option.OptionState.{OptionState}
+use Rattle.proto_grammar.specs.declared.option.OptionStep.TheVariants as option_steps
+use Rattle.proto_grammar.specs.declared.field.FieldState.{FieldState}
+use Rattle.proto_grammar.specs.declared.field.FieldState.TheVariants as fields
+use Rattle.proto_grammar.specs.declared.value.ValueState.{ValueState}
+use Rattle.proto_grammar.specs.declared.value.ValueState.TheVariants as values
+use Rattle.proto_grammar.specs.declared.rpc.RpcState.{RpcState}
+use Rattle.proto_grammar.specs.declared.rpc.RpcState.TheVariants as rpcs
+use Rattle.proto_grammar.specs.declared.reserved.ReservedState.{ReservedState}
+use Rattle.proto_grammar.specs.declared.reserved.ReservedPart.TheVariants as parts
 use Rattle.proto_schema.specs.declared.statement.Place.{Place}
 use Rattle.proto_schema.specs.declared.statement.Place.TheVariants as places
 

@@ -3,11 +3,11 @@ use Rattle.std.proofs.Common.{subst, ◌≡◌, ◌⊎◌, inl, inr, ℕ, Bool, 
 use Rattle.std.specs.Prelude.{Ok, Err, Result, if◌then◌else◌, ◌&&◌}
 use Rattle.std.specs.Str.{bytes_eq}
 use Rattle.std.proofs.lemmas.List.{append_assoc}
-use Rattle.proto_parts.specs.Lexemes.{Meaning, identifier, integer, number, string, mark, the_end, none, Lexeme, semicolon, equals, says}
+use Rattle.proto_grammar.specs.Lexemes.{Meaning, identifier, integer, number, string, mark, the_end, none, Lexeme, semicolon, equals, says}
 use Rattle.proto_schema.specs.Files
 use Rattle.proto_schema.specs.Files.{Draft, Block, no_block, a_oneof, an_enum, a_service, an_rpc, IsWhole, Statement, Says, Forms, nothing_said}
-use Rattle.proto_parts.specs.Lexemes.{is_no_token}
-use Rattle.proto_parts.specs.Reading.{fault_at, unexpected, is_mark}
+use Rattle.proto_grammar.specs.Lexemes.{is_no_token}
+use Rattle.proto_grammar.specs.Reading.{fault_at, unexpected, is_mark}
 use Rattle.proto_schema.specs.Running.{place_of, place_with, added, statement_step, cut_off, read, failed, is_begin}
 use Rattle.proto_schema.specs.Running.{is_file, is_end, is_over, is_too_deep, behind, run, reading, behind_word}
 use Rattle.proto_schema.specs.Running.{behind_equals, behind_value, behind_syntax}
@@ -16,9 +16,9 @@ use Rattle.proto_schema.proofs.NameLemmas.{mark_is}
 use Rattle.proto_schema.proofs.Next.{run_step, run_over}
 use Rattle.proto_schema.proofs.StatementRest.{Rest, NotBegin, Back, statement_back}
 use Rattle.proto_schema.proofs.BeginRest.{BeginBack, begin_back}
-use Rattle.proto_file.specs.declared.file.File.{File}
-use Rattle.proto_parts.specs.declared.fault.ProtoReason.TheVariants as reasons
-use Rattle.proto_parts.specs.declared.fault.ProtoFault.{ProtoFault}
+use Rattle.proto_ast.specs.declared.file.File.{File}
+use Rattle.proto_grammar.specs.declared.fault.ProtoReason.TheVariants as reasons
+use Rattle.proto_grammar.specs.declared.fault.ProtoFault.{ProtoFault}
 use Rattle.proto_schema.specs.declared.statement.Opening.TheVariants as openings
 use Rattle.proto_schema.specs.declared.statement.State.{State}
 use Rattle.proto_schema.specs.declared.statement.State.TheVariants as states

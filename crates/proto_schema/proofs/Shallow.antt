@@ -5,19 +5,19 @@ use Rattle.std.proofs.Common.{[], ◌∷◌, ◌++◌, codes, refl, ap, sym, ◌
 use Rattle.std.specs.Prelude.{Ok, Err, Result, Some, if◌then◌else◌}
 use Rattle.std.specs.Str.{bytes_eq}
 use Rattle.std.proofs.lemmas.List.{append_assoc}
-use Rattle.proto_parts.specs.Lexemes.{Meaning, identifier, integer, number, string, mark, the_end, none, Lexeme, semicolon, equals, IsMark, says}
+use Rattle.proto_grammar.specs.Lexemes.{Meaning, identifier, integer, number, string, mark, the_end, none, Lexeme, semicolon, equals, IsMark, says}
 use Rattle.proto_schema.specs.Files
 use Rattle.proto_schema.specs.Files.{Draft, Block, no_block, a_oneof, an_enum, a_service, an_rpc, Says, Forms, nothing_said}
-use Rattle.proto_parts.specs.Lexemes.{is_no_token}
-use Rattle.proto_parts.specs.Reading.{fault_at, unexpected, is_mark}
+use Rattle.proto_grammar.specs.Lexemes.{is_no_token}
+use Rattle.proto_grammar.specs.Reading.{fault_at, unexpected, is_mark}
 use Rattle.proto_schema.specs.Running.{place_of, added, statement_step, read, failed, is_over, is_too_deep, behind}
 use Rattle.proto_schema.specs.Running.{run, reading, behind_word, behind_equals, behind_value, behind_syntax, Outcome}
 use Rattle.proto_schema.proofs.Choices.{either_is}
 use Rattle.proto_schema.proofs.Next.{run_step, run_over}
-use Rattle.proto_file.specs.declared.file.Word.{Word}
-use Rattle.proto_file.specs.declared.file.File.{File}
-use Rattle.proto_parts.specs.declared.fault.ProtoReason.TheVariants as reasons
-use Rattle.proto_parts.specs.declared.fault.ProtoFault.{ProtoFault}
+use Rattle.proto_ast.specs.declared.file.Word.{Word}
+use Rattle.proto_ast.specs.declared.file.File.{File}
+use Rattle.proto_grammar.specs.declared.fault.ProtoReason.TheVariants as reasons
+use Rattle.proto_grammar.specs.declared.fault.ProtoFault.{ProtoFault}
 use Rattle.proto_schema.specs.declared.statement.Place.{Place}
 use Rattle.proto_schema.specs.declared.statement.Opening.TheVariants as openings
 use Rattle.proto_schema.specs.declared.statement.State.{State}
@@ -29,16 +29,16 @@ use Rattle.proto_schema.specs.declared.statement.Step.TheVariants as steps
 use Rattle.std.specs.Prelude.{slice_get}
 use Rattle.std.proofs.lemmas.Bool.{leb-true, leb-false}
 use Rattle.std.proofs.Math.Seq.{take-append-add}
-use Rattle.proto_tokens.specs.Tokens.{AreTokens, last as last_token, another as further_token, is_last, literal_of}
-use Rattle.proto_tokens.specs.declared.token.Kind.{Kind}
-use Rattle.proto_tokens.specs.declared.token.Kind.TheVariants as kinds
-use Rattle.proto_tokens.specs.declared.token.Token.{Token}
-use Rattle.proto_parts.specs.Lexemes.{opening_brace, lexeme, lexemes, meaning}
+use Rattle.proto_lexer.specs.Tokens.{AreTokens, last as last_token, another as further_token, is_last, literal_of}
+use Rattle.proto_lexer.specs.declared.token.Kind.{Kind}
+use Rattle.proto_lexer.specs.declared.token.Kind.TheVariants as kinds
+use Rattle.proto_lexer.specs.declared.token.Token.{Token}
+use Rattle.proto_grammar.specs.Lexemes.{opening_brace, lexeme, lexemes, meaning}
 use Rattle.proto_schema.specs.Files.{in_message, in_enum, open_message}
 use Rattle.proto_schema.specs.declared.limits.TheConstants.{MAX_OPEN}
 use Rattle.proto_schema.specs.Faults.{IsNamed, nesting, IsTextOf}
 use Rattle.proto_schema.specs.Running.{is_enum, without_first, closed_with}
-use Rattle.proto_parts.specs.declared.fault.ProtoReason.TheVariants.{Nesting}
+use Rattle.proto_grammar.specs.declared.fault.ProtoReason.TheVariants.{Nesting}
 use Rattle.proto_schema.proofs.Takes.{last, next}
 use Rattle.proto_schema.proofs.RunRest.{not_deep, Begun, begun, reading_reads}
 use Rattle.proto_schema.proofs.RunReads.{StepTakes, StatementReads, statement_reads, Shallow, is_shallow}

@@ -2,25 +2,25 @@
 use Rattle.std.proofs.Common.{ℕ, ◌<◌, false, List, [], ◌∷◌, ◌++◌, codes, refl, arith}
 use Rattle.std.specs.Prelude.{Option, Some, None}
 use Rattle.mrpc_table.specs.declared.words.Decimal.TheVariants.{Small}
-use Rattle.proto_parts.specs.Lexemes.{Meaning, Lexeme, identifier, integer, string, mark, the_end, word_at, number_at}
-use Rattle.proto_parts.specs.Grammar
+use Rattle.proto_grammar.specs.Lexemes.{Meaning, Lexeme, identifier, integer, string, mark, the_end, word_at, number_at}
+use Rattle.proto_grammar.specs.Grammar
 use Rattle.proto_schema.specs.Files
 use Rattle.proto_schema.specs.Files.{nothing_said}
 use Rattle.proto_schema.specs.Faults
 use Rattle.proto_schema.specs.Faults.{IsNamed}
-use Rattle.proto_file.specs.Joined.{Joined, alone}
-use Rattle.proto_file.specs.Order
-use Rattle.proto_file.specs.Order.{IsFormed, IsOrdered, StandsAt, message_decl, field_decl, its_type, its_name, its_number}
-use Rattle.proto_file.specs.Together
-use Rattle.proto_parts.specs.declared.fault.ProtoReason.TheVariants as reasons
-use Rattle.proto_file.specs.declared.file.Span.{Span}
-use Rattle.proto_file.specs.declared.file.FieldLabel.TheVariants.{Plain}
-use Rattle.proto_file.specs.declared.file.FieldType.TheVariants.{Named}
-use Rattle.proto_file.specs.declared.file.FieldDecl.{FieldDecl}
-use Rattle.proto_file.specs.declared.file.MessageDecl.{MessageDecl}
-use Rattle.proto_file.specs.declared.file.File.{File}
-use Rattle.proto_file.specs.declared.file.Word.{Word}
-use Rattle.proto_file.specs.declared.joined.Head.{Head}
+use Rattle.proto_ast.specs.Joined.{Joined, alone}
+use Rattle.proto_ast.specs.Order
+use Rattle.proto_ast.specs.Order.{IsFormed, IsOrdered, StandsAt, message_decl, field_decl, its_type, its_name, its_number}
+use Rattle.proto_ast.specs.Together
+use Rattle.proto_grammar.specs.declared.fault.ProtoReason.TheVariants as reasons
+use Rattle.proto_ast.specs.declared.file.Span.{Span}
+use Rattle.proto_ast.specs.declared.file.FieldLabel.TheVariants.{Plain}
+use Rattle.proto_ast.specs.declared.file.FieldType.TheVariants.{Named}
+use Rattle.proto_ast.specs.declared.file.FieldDecl.{FieldDecl}
+use Rattle.proto_ast.specs.declared.file.MessageDecl.{MessageDecl}
+use Rattle.proto_ast.specs.declared.file.File.{File}
+use Rattle.proto_ast.specs.declared.file.Word.{Word}
+use Rattle.proto_ast.specs.declared.joined.Head.{Head}
 
 abbrev at : ℕ → Meaning → Lexeme
 at n m = record { means = m; span = record { start = n; end = n; line = 1 } }

@@ -5,25 +5,25 @@ use Rattle.std.specs.Prelude.{Ok, Err, Result, Option, Some, None, is_some, ifâ—
 use Rattle.std.specs.Str.{bytes_eq}
 use Rattle.std.proofs.lemmas.Bool.{or_parts}
 use Rattle.std.proofs.lemmas.List.{append_assoc, append-nil}
-use Rattle.proto_file.specs.Dot.{dot}
-use Rattle.proto_parts.specs.Lexemes.{Meaning, identifier, integer, number, string, mark, the_end, none, Lexeme}
-use Rattle.proto_parts.specs.Lexemes.{semicolon, equals, opening_brace, closing_brace}
-use Rattle.proto_parts.specs.Lexemes.{opening_paren, closing_paren, less}
-use Rattle.proto_parts.specs.Lexemes.{word_at, number_at, IsWord, IsMark, says, says_one_of}
-use Rattle.proto_parts.specs.Grammar.{group_word, RpcType}
+use Rattle.proto_ast.specs.Dot.{dot}
+use Rattle.proto_grammar.specs.Lexemes.{Meaning, identifier, integer, number, string, mark, the_end, none, Lexeme}
+use Rattle.proto_grammar.specs.Lexemes.{semicolon, equals, opening_brace, closing_brace}
+use Rattle.proto_grammar.specs.Lexemes.{opening_paren, closing_paren, less}
+use Rattle.proto_grammar.specs.Lexemes.{word_at, number_at, IsWord, IsMark, says, says_one_of}
+use Rattle.proto_grammar.specs.Grammar.{group_word, RpcType}
 use Rattle.proto_schema.specs.Files.{Draft, Block, no_block, a_oneof, an_enum, a_service, an_rpc, InFile, InMessage, LabelOf, plain, optional, repeated}
 use Rattle.proto_schema.specs.Faults
-use Rattle.proto_parts.specs.Lexemes.{is_no_token, is_type_part}
+use Rattle.proto_grammar.specs.Lexemes.{is_no_token, is_type_part}
 use Rattle.proto_schema.specs.Faults.{is_path, BeforeRpcType, BeforeMapPart, BeforeType}
-use Rattle.proto_parts.specs.Reading.{fault_at, unexpected, wrong, is_mark, if_name}
-use Rattle.proto_parts.specs.Reading.{full_step}
-use Rattle.proto_parts.specs.Reading.{typed_step}
-use Rattle.proto_parts.specs.Reading.{begins_map, map_step}
-use Rattle.proto_parts.specs.Reading.{option_step, next_option, tail_step}
-use Rattle.proto_parts.specs.Reading.{more_field, head, named_step, of_type, of_map, of_tail, field_step}
-use Rattle.proto_parts.specs.Reading.{value_step, is_streaming, part_span, behind_type, rpc_type_step}
-use Rattle.proto_parts.specs.Reading.{more_rpc, of_input, of_output, rpc_step}
-use Rattle.proto_parts.specs.Reading.{reserved_step}
+use Rattle.proto_grammar.specs.Reading.{fault_at, unexpected, wrong, is_mark, if_name}
+use Rattle.proto_grammar.specs.Reading.{full_step}
+use Rattle.proto_grammar.specs.Reading.{typed_step}
+use Rattle.proto_grammar.specs.Reading.{begins_map, map_step}
+use Rattle.proto_grammar.specs.Reading.{option_step, next_option, tail_step}
+use Rattle.proto_grammar.specs.Reading.{more_field, head, named_step, of_type, of_map, of_tail, field_step}
+use Rattle.proto_grammar.specs.Reading.{value_step, is_streaming, part_span, behind_type, rpc_type_step}
+use Rattle.proto_grammar.specs.Reading.{more_rpc, of_input, of_output, rpc_step}
+use Rattle.proto_grammar.specs.Reading.{reserved_step}
 use Rattle.proto_schema.specs.Running
 use Rattle.proto_schema.specs.Running.{place_of, place_with, more, done, statement_step, import_step, ended}
 use Rattle.proto_schema.specs.Running.{of_package, of_options, of_reserved, of_rpc, of_field, field_begins}
@@ -34,41 +34,41 @@ use Rattle.proto_schema.proofs.NameLemmas.{mark_is}
 use Rattle.proto_schema.proofs.MapRest.{ValueBack, typed_value}
 use Rattle.proto_schema.proofs.RpcRest.{RpcTypeRest, TypeInBack, type_in_back}
 use Rattle.proto_schema.proofs.StatementRest.{NotBegin}
-use Rattle.proto_file.specs.declared.file.Span.{Span}
-use Rattle.proto_file.specs.declared.file.Word.{Word}
-use Rattle.proto_file.specs.declared.file.Number.{Number}
-use Rattle.proto_file.specs.declared.file.FieldLabel.{FieldLabel}
-use Rattle.proto_file.specs.declared.file.FieldLabel.TheVariants as labels
-use Rattle.proto_file.specs.declared.file.FieldType.TheVariants as types
-use Rattle.proto_parts.specs.declared.fault.ProtoReason.TheVariants as reasons
-use Rattle.proto_parts.specs.declared.fault.ProtoFault.{ProtoFault}
-use Rattle.proto_parts.specs.declared.name.NameState.{NameState}
-use Rattle.proto_parts.specs.declared.name.NameState.TheVariants as names
-use Rattle.proto_parts.specs.declared.name.NameStep.{NameStep}
-use Rattle.proto_parts.specs.declared.name.NameStep.TheVariants as name_steps
-use Rattle.proto_parts.specs.declared.option.OptionStep.{OptionStep}
-use Rattle.proto_parts.specs.declared.option.OptionStep.TheVariants as option_steps
-use Rattle.proto_parts.specs.declared.tail.TailState.TheVariants as tails
-use Rattle.proto_parts.specs.declared.tail.TailStep.{TailStep}
-use Rattle.proto_parts.specs.declared.tail.TailStep.TheVariants as tail_steps
-use Rattle.proto_parts.specs.declared.field.FieldHead.{FieldHead}
-use Rattle.proto_parts.specs.declared.field.MapState.{MapState}
-use Rattle.proto_parts.specs.declared.field.MapState.TheVariants as maps
-use Rattle.proto_parts.specs.declared.field.MapStep.{MapStep}
-use Rattle.proto_parts.specs.declared.field.MapStep.TheVariants as map_steps
-use Rattle.proto_parts.specs.declared.field.FieldState.{FieldState}
-use Rattle.proto_parts.specs.declared.field.FieldState.TheVariants as fields
-use Rattle.proto_parts.specs.declared.field.FieldStep.{FieldStep}
-use Rattle.proto_parts.specs.declared.field.FieldStep.TheVariants as field_steps
-use Rattle.proto_parts.specs.declared.value.ValueState.TheVariants as values
-use Rattle.proto_parts.specs.declared.value.ValueStep.{ValueStep}
-use Rattle.proto_parts.specs.declared.value.ValueStep.TheVariants as value_steps
-use Rattle.proto_parts.specs.declared.rpc.RpcState.{RpcState}
-use Rattle.proto_parts.specs.declared.rpc.RpcState.TheVariants as rpcs
-use Rattle.proto_parts.specs.declared.rpc.RpcStep.{RpcStep}
-use Rattle.proto_parts.specs.declared.rpc.RpcStep.TheVariants as rpc_steps
-use Rattle.proto_parts.specs.declared.reserved.ReservedStep.{ReservedStep}
-use Rattle.proto_parts.specs.declared.reserved.ReservedStep.TheVariants as reserved_steps
+use Rattle.proto_ast.specs.declared.file.Span.{Span}
+use Rattle.proto_ast.specs.declared.file.Word.{Word}
+use Rattle.proto_ast.specs.declared.file.Number.{Number}
+use Rattle.proto_ast.specs.declared.file.FieldLabel.{FieldLabel}
+use Rattle.proto_ast.specs.declared.file.FieldLabel.TheVariants as labels
+use Rattle.proto_ast.specs.declared.file.FieldType.TheVariants as types
+use Rattle.proto_grammar.specs.declared.fault.ProtoReason.TheVariants as reasons
+use Rattle.proto_grammar.specs.declared.fault.ProtoFault.{ProtoFault}
+use Rattle.proto_grammar.specs.declared.name.NameState.{NameState}
+use Rattle.proto_grammar.specs.declared.name.NameState.TheVariants as names
+use Rattle.proto_grammar.specs.declared.name.NameStep.{NameStep}
+use Rattle.proto_grammar.specs.declared.name.NameStep.TheVariants as name_steps
+use Rattle.proto_grammar.specs.declared.option.OptionStep.{OptionStep}
+use Rattle.proto_grammar.specs.declared.option.OptionStep.TheVariants as option_steps
+use Rattle.proto_grammar.specs.declared.tail.TailState.TheVariants as tails
+use Rattle.proto_grammar.specs.declared.tail.TailStep.{TailStep}
+use Rattle.proto_grammar.specs.declared.tail.TailStep.TheVariants as tail_steps
+use Rattle.proto_grammar.specs.declared.field.FieldHead.{FieldHead}
+use Rattle.proto_grammar.specs.declared.field.MapState.{MapState}
+use Rattle.proto_grammar.specs.declared.field.MapState.TheVariants as maps
+use Rattle.proto_grammar.specs.declared.field.MapStep.{MapStep}
+use Rattle.proto_grammar.specs.declared.field.MapStep.TheVariants as map_steps
+use Rattle.proto_grammar.specs.declared.field.FieldState.{FieldState}
+use Rattle.proto_grammar.specs.declared.field.FieldState.TheVariants as fields
+use Rattle.proto_grammar.specs.declared.field.FieldStep.{FieldStep}
+use Rattle.proto_grammar.specs.declared.field.FieldStep.TheVariants as field_steps
+use Rattle.proto_grammar.specs.declared.value.ValueState.TheVariants as values
+use Rattle.proto_grammar.specs.declared.value.ValueStep.{ValueStep}
+use Rattle.proto_grammar.specs.declared.value.ValueStep.TheVariants as value_steps
+use Rattle.proto_grammar.specs.declared.rpc.RpcState.{RpcState}
+use Rattle.proto_grammar.specs.declared.rpc.RpcState.TheVariants as rpcs
+use Rattle.proto_grammar.specs.declared.rpc.RpcStep.{RpcStep}
+use Rattle.proto_grammar.specs.declared.rpc.RpcStep.TheVariants as rpc_steps
+use Rattle.proto_grammar.specs.declared.reserved.ReservedStep.{ReservedStep}
+use Rattle.proto_grammar.specs.declared.reserved.ReservedStep.TheVariants as reserved_steps
 use Rattle.proto_schema.specs.declared.statement.Place.{Place}
 use Rattle.proto_schema.specs.declared.statement.Opening.{Opening}
 use Rattle.proto_schema.specs.declared.statement.State.{State}

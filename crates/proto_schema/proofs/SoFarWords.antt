@@ -4,59 +4,59 @@ use Rattle.std.specs.Prelude.{Ok, Err, Result, Option, Some, None, if◌then◌e
 use Rattle.std.specs.Str.{bytes_eq}
 use Rattle.std.proofs.lemmas.List.{append_assoc, append-nil}
 use Rattle.mrpc_table.specs.declared.words.Decimal.{Decimal}
-use Rattle.proto_file.specs.Dot.{dot}
-use Rattle.proto_parts.specs.Lexemes.{Meaning, identifier, integer, number, string, mark, the_end, none, Lexeme}
-use Rattle.proto_parts.specs.Lexemes.{comma, semicolon, equals, minus, plus, opening_brace, closing_brace}
-use Rattle.proto_parts.specs.Lexemes.{opening_paren, closing_paren, opening_bracket, closing_bracket, less, greater}
-use Rattle.proto_parts.specs.Lexemes.{span_to, word_at, number_at, IsWord, IsMark, says, says_one_of}
-use Rattle.proto_parts.specs.Grammar.{TypeName, begins_with, group_word, MapKey, map_key, latest}
+use Rattle.proto_ast.specs.Dot.{dot}
+use Rattle.proto_grammar.specs.Lexemes.{Meaning, identifier, integer, number, string, mark, the_end, none, Lexeme}
+use Rattle.proto_grammar.specs.Lexemes.{comma, semicolon, equals, minus, plus, opening_brace, closing_brace}
+use Rattle.proto_grammar.specs.Lexemes.{opening_paren, closing_paren, opening_bracket, closing_bracket, less, greater}
+use Rattle.proto_grammar.specs.Lexemes.{span_to, word_at, number_at, IsWord, IsMark, says, says_one_of}
+use Rattle.proto_grammar.specs.Grammar.{TypeName, begins_with, group_word, MapKey, map_key, latest}
 use Rattle.proto_schema.specs.Files.{Draft, InFile, InBody}
 use Rattle.proto_schema.specs.Faults
-use Rattle.proto_parts.specs.Lexemes.{is_no_token, is_type_part}
+use Rattle.proto_grammar.specs.Lexemes.{is_no_token, is_type_part}
 use Rattle.proto_schema.specs.Faults.{is_path, BeforeRpcType, BeforeMapPart, BeforeType}
-use Rattle.proto_parts.specs.Reading.{fault_at, unexpected, wrong, is_mark, is_string, is_number, if_name, by_name}
-use Rattle.proto_parts.specs.Reading.{if_number, by_number, if_string, by_string, part, full_step, type_step}
-use Rattle.proto_parts.specs.Reading.{typed_step, behind_key, key_step, of_key, of_inner_key, of_value}
-use Rattle.proto_parts.specs.Reading.{of_inner_value, begins_map, more_map, map_step, closed, more_option}
-use Rattle.proto_parts.specs.Reading.{value_start, brace_step, option_step, next_option, of_option, tail_step}
-use Rattle.proto_parts.specs.Reading.{of_value_tail, value_step}
-use Rattle.proto_parts.specs.Reading.{a_range, range_step, whole_range}
-use Rattle.proto_parts.specs.Reading.{more_reserved, of_range, behind_range, ranges_step, reserved_name}
-use Rattle.proto_parts.specs.Reading.{reserved_part_step}
+use Rattle.proto_grammar.specs.Reading.{fault_at, unexpected, wrong, is_mark, is_string, is_number, if_name, by_name}
+use Rattle.proto_grammar.specs.Reading.{if_number, by_number, if_string, by_string, part, full_step, type_step}
+use Rattle.proto_grammar.specs.Reading.{typed_step, behind_key, key_step, of_key, of_inner_key, of_value}
+use Rattle.proto_grammar.specs.Reading.{of_inner_value, begins_map, more_map, map_step, closed, more_option}
+use Rattle.proto_grammar.specs.Reading.{value_start, brace_step, option_step, next_option, of_option, tail_step}
+use Rattle.proto_grammar.specs.Reading.{of_value_tail, value_step}
+use Rattle.proto_grammar.specs.Reading.{a_range, range_step, whole_range}
+use Rattle.proto_grammar.specs.Reading.{more_reserved, of_range, behind_range, ranges_step, reserved_name}
+use Rattle.proto_grammar.specs.Reading.{reserved_part_step}
 use Rattle.proto_schema.proofs.Choices.{either_is, named_is, same_bytes, word_is, and_both, any_dot, dotted_differs}
 use Rattle.proto_schema.proofs.NameLemmas.{mark_is}
 use Rattle.proto_schema.proofs.NameRest.{NameBack, TypedRest, typed_back}
 use Rattle.proto_schema.proofs.MapRest.{ValueBack, typed_value}
-use Rattle.proto_file.specs.declared.file.Word.{Word}
-use Rattle.proto_file.specs.declared.file.Number.{Number}
-use Rattle.proto_file.specs.declared.file.Range.{Range}
-use Rattle.proto_file.specs.declared.file.FieldType.TheVariants as types
-use Rattle.proto_parts.specs.declared.fault.ProtoReason.TheVariants as reasons
-use Rattle.proto_parts.specs.declared.fault.ProtoFault.{ProtoFault}
-use Rattle.proto_parts.specs.declared.name.NameState.{NameState}
-use Rattle.proto_parts.specs.declared.name.NameState.TheVariants as names
-use Rattle.proto_parts.specs.declared.name.NameStep.{NameStep}
-use Rattle.proto_parts.specs.declared.name.NameStep.TheVariants as name_steps
-use Rattle.proto_parts.specs.declared.option.OptionState.{OptionState}
-use Rattle.proto_parts.specs.declared.option.OptionState.TheVariants as options
-use Rattle.proto_parts.specs.declared.option.OptionStep.{OptionStep}
-use Rattle.proto_parts.specs.declared.option.OptionStep.TheVariants as option_steps
-use Rattle.proto_parts.specs.declared.tail.TailState.{TailState}
-use Rattle.proto_parts.specs.declared.tail.TailState.TheVariants as tails
-use Rattle.proto_parts.specs.declared.tail.TailStep.{TailStep}
-use Rattle.proto_parts.specs.declared.tail.TailStep.TheVariants as tail_steps
-use Rattle.proto_parts.specs.declared.field.MapState.{MapState}
-use Rattle.proto_parts.specs.declared.field.MapState.TheVariants as maps
-use Rattle.proto_parts.specs.declared.field.MapStep.{MapStep}
-use Rattle.proto_parts.specs.declared.field.MapStep.TheVariants as map_steps
-use Rattle.proto_parts.specs.declared.value.ValueState.{ValueState}
-use Rattle.proto_parts.specs.declared.value.ValueState.TheVariants as values
-use Rattle.proto_parts.specs.declared.value.ValueStep.TheVariants as value_steps
-use Rattle.proto_parts.specs.declared.reserved.ReservedPart.{ReservedPart}
-use Rattle.proto_parts.specs.declared.reserved.ReservedPart.TheVariants as parts
-use Rattle.proto_parts.specs.declared.reserved.RangeState.{RangeState}
-use Rattle.proto_parts.specs.declared.reserved.RangeState.TheVariants as ranges
-use Rattle.proto_parts.specs.declared.reserved.ReservedStep.TheVariants as reserved_steps
+use Rattle.proto_ast.specs.declared.file.Word.{Word}
+use Rattle.proto_ast.specs.declared.file.Number.{Number}
+use Rattle.proto_ast.specs.declared.file.Range.{Range}
+use Rattle.proto_ast.specs.declared.file.FieldType.TheVariants as types
+use Rattle.proto_grammar.specs.declared.fault.ProtoReason.TheVariants as reasons
+use Rattle.proto_grammar.specs.declared.fault.ProtoFault.{ProtoFault}
+use Rattle.proto_grammar.specs.declared.name.NameState.{NameState}
+use Rattle.proto_grammar.specs.declared.name.NameState.TheVariants as names
+use Rattle.proto_grammar.specs.declared.name.NameStep.{NameStep}
+use Rattle.proto_grammar.specs.declared.name.NameStep.TheVariants as name_steps
+use Rattle.proto_grammar.specs.declared.option.OptionState.{OptionState}
+use Rattle.proto_grammar.specs.declared.option.OptionState.TheVariants as options
+use Rattle.proto_grammar.specs.declared.option.OptionStep.{OptionStep}
+use Rattle.proto_grammar.specs.declared.option.OptionStep.TheVariants as option_steps
+use Rattle.proto_grammar.specs.declared.tail.TailState.{TailState}
+use Rattle.proto_grammar.specs.declared.tail.TailState.TheVariants as tails
+use Rattle.proto_grammar.specs.declared.tail.TailStep.{TailStep}
+use Rattle.proto_grammar.specs.declared.tail.TailStep.TheVariants as tail_steps
+use Rattle.proto_grammar.specs.declared.field.MapState.{MapState}
+use Rattle.proto_grammar.specs.declared.field.MapState.TheVariants as maps
+use Rattle.proto_grammar.specs.declared.field.MapStep.{MapStep}
+use Rattle.proto_grammar.specs.declared.field.MapStep.TheVariants as map_steps
+use Rattle.proto_grammar.specs.declared.value.ValueState.{ValueState}
+use Rattle.proto_grammar.specs.declared.value.ValueState.TheVariants as values
+use Rattle.proto_grammar.specs.declared.value.ValueStep.TheVariants as value_steps
+use Rattle.proto_grammar.specs.declared.reserved.ReservedPart.{ReservedPart}
+use Rattle.proto_grammar.specs.declared.reserved.ReservedPart.TheVariants as parts
+use Rattle.proto_grammar.specs.declared.reserved.RangeState.{RangeState}
+use Rattle.proto_grammar.specs.declared.reserved.RangeState.TheVariants as ranges
+use Rattle.proto_grammar.specs.declared.reserved.ReservedStep.TheVariants as reserved_steps
 
 -- ---- what a fault means
 

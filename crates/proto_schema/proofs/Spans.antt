@@ -1,17 +1,17 @@
 -- Where the names and numbers of a statement start among its tokens, and the forms of its names.
 use Rattle.std.proofs.Common.{◌≡◌, ℕ, suc, ◌<◌, ◌≤◌, Bool, List, [], ◌∷◌, ◌++◌, refl, subst, arith}
 use Rattle.std.specs.Prelude.{Option}
-use Rattle.proto_parts.specs.Lexemes.{Lexeme, IsWord, word_at}
-use Rattle.proto_parts.specs.Grammar
-use Rattle.proto_parts.specs.Grammar.{FullName, TypeName, MapKey, FieldTypeOf, RpcType, NumberOf}
+use Rattle.proto_grammar.specs.Lexemes.{Lexeme, IsWord, word_at}
+use Rattle.proto_grammar.specs.Grammar
+use Rattle.proto_grammar.specs.Grammar.{FullName, TypeName, MapKey, FieldTypeOf, RpcType, NumberOf}
 use Rattle.proto_schema.specs.Files.{FieldEnd, field_end, RpcHead, rpc_head}
-use Rattle.proto_file.specs.Order.{HasName, HasFullName, HasTypeName, relative, absolute, HasTypeNames}
+use Rattle.proto_ast.specs.Order.{HasName, HasFullName, HasTypeName, relative, absolute, HasTypeNames}
 use Rattle.proto_schema.proofs.Along.{Along, along_ends, along_split, full_of_one, full_of_more}
-use Rattle.proto_file.specs.declared.file.Word.{Word}
-use Rattle.proto_file.specs.declared.file.Number.{Number}
-use Rattle.proto_file.specs.declared.file.FieldType.{FieldType}
-use Rattle.proto_file.specs.declared.file.FieldType.TheVariants.{Named, Map, NestedMap}
-use Rattle.proto_file.specs.declared.file.RpcDecl.{RpcDecl}
+use Rattle.proto_ast.specs.declared.file.Word.{Word}
+use Rattle.proto_ast.specs.declared.file.Number.{Number}
+use Rattle.proto_ast.specs.declared.file.FieldType.{FieldType}
+use Rattle.proto_ast.specs.declared.file.FieldType.TheVariants.{Named, Map, NestedMap}
+use Rattle.proto_ast.specs.declared.file.RpcDecl.{RpcDecl}
 
 pub record IsWithin (b e start : ℕ) : Type 0 where
   pub behind : b ≤ start

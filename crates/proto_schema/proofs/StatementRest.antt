@@ -1,9 +1,9 @@
 -- The tokens that complete a statement after its first token, and the part that its first token starts.
 use Rattle.std.proofs.Common.{◌≡◌, inl, inr, ℕ, Bool, true, false, List, [], ◌∷◌, ◌++◌, codes, refl, ap, sym, ◌∙◌}
 use Rattle.std.specs.Prelude.{Ok, Err, Result, Option, if◌then◌else◌, not, ◌&&◌, ◌||◌}
-use Rattle.proto_parts.specs.Lexemes.{Meaning, identifier, integer, number, string, mark, the_end, none, Lexeme, semicolon, opening_brace, word_at, IsWord, IsMark, says}
-use Rattle.proto_parts.specs.Lexemes.{is_no_token}
-use Rattle.proto_parts.specs.Reading.{fault_at, wrong, is_mark, full_step, option_step, field_step, reserved_step, value_step, rpc_step}
+use Rattle.proto_grammar.specs.Lexemes.{Meaning, identifier, integer, number, string, mark, the_end, none, Lexeme, semicolon, opening_brace, word_at, IsWord, IsMark, says}
+use Rattle.proto_grammar.specs.Lexemes.{is_no_token}
+use Rattle.proto_grammar.specs.Reading.{fault_at, wrong, is_mark, full_step, option_step, field_step, reserved_step, value_step, rpc_step}
 use Rattle.proto_schema.specs.Running.{more, done, of_field, of_package, imported, import_step, of_options, of_reserved, of_value, of_rpc, statement_step}
 use Rattle.proto_schema.proofs.Choices.{either_is, named_is, and_both, word_is}
 use Rattle.proto_schema.proofs.NameLemmas.{mark_is}
@@ -13,31 +13,31 @@ use Rattle.proto_schema.proofs.FieldRest.{FieldRest, FieldBack, field_back}
 use Rattle.proto_schema.proofs.ReservedRest.{Kept, ReservedRest, ReservedBack, part_back}
 use Rattle.proto_schema.proofs.ValueRest.{ValueRest, ValueBack, value_back}
 use Rattle.proto_schema.proofs.RpcRest.{RpcRest, RpcBack, rpc_back}
-use Rattle.proto_file.specs.declared.file.Word.{Word}
-use Rattle.proto_file.specs.declared.file.Import.{Import}
-use Rattle.proto_file.specs.declared.file.FieldDecl.{FieldDecl}
-use Rattle.proto_file.specs.declared.file.ValueDecl.{ValueDecl}
-use Rattle.proto_file.specs.declared.file.RpcDecl.{RpcDecl}
-use Rattle.proto_parts.specs.declared.fault.ProtoReason.TheVariants as reasons
-use Rattle.proto_parts.specs.declared.fault.ProtoFault.{ProtoFault}
-use Rattle.proto_parts.specs.declared.name.NameState.{NameState}
-use Rattle.proto_parts.specs.declared.name.NameStep.{NameStep}
-use Rattle.proto_parts.specs.declared.name.NameStep.TheVariants as name_steps
-use Rattle.proto_parts.specs.declared.option.OptionState.{OptionState}
-use Rattle.proto_parts.specs.declared.option.OptionStep.{OptionStep}
-use Rattle.proto_parts.specs.declared.option.OptionStep.TheVariants as option_steps
-use Rattle.proto_parts.specs.declared.field.FieldState.{FieldState}
-use Rattle.proto_parts.specs.declared.field.FieldStep.{FieldStep}
-use Rattle.proto_parts.specs.declared.field.FieldStep.TheVariants as field_steps
-use Rattle.proto_parts.specs.declared.value.ValueState.{ValueState}
-use Rattle.proto_parts.specs.declared.value.ValueStep.{ValueStep}
-use Rattle.proto_parts.specs.declared.value.ValueStep.TheVariants as value_steps
-use Rattle.proto_parts.specs.declared.rpc.RpcState.{RpcState}
-use Rattle.proto_parts.specs.declared.rpc.RpcStep.{RpcStep}
-use Rattle.proto_parts.specs.declared.rpc.RpcStep.TheVariants as rpc_steps
-use Rattle.proto_parts.specs.declared.reserved.ReservedState.{ReservedState}
-use Rattle.proto_parts.specs.declared.reserved.ReservedStep.{ReservedStep}
-use Rattle.proto_parts.specs.declared.reserved.ReservedStep.TheVariants as reserved_steps
+use Rattle.proto_ast.specs.declared.file.Word.{Word}
+use Rattle.proto_ast.specs.declared.file.Import.{Import}
+use Rattle.proto_ast.specs.declared.file.FieldDecl.{FieldDecl}
+use Rattle.proto_ast.specs.declared.file.ValueDecl.{ValueDecl}
+use Rattle.proto_ast.specs.declared.file.RpcDecl.{RpcDecl}
+use Rattle.proto_grammar.specs.declared.fault.ProtoReason.TheVariants as reasons
+use Rattle.proto_grammar.specs.declared.fault.ProtoFault.{ProtoFault}
+use Rattle.proto_grammar.specs.declared.name.NameState.{NameState}
+use Rattle.proto_grammar.specs.declared.name.NameStep.{NameStep}
+use Rattle.proto_grammar.specs.declared.name.NameStep.TheVariants as name_steps
+use Rattle.proto_grammar.specs.declared.option.OptionState.{OptionState}
+use Rattle.proto_grammar.specs.declared.option.OptionStep.{OptionStep}
+use Rattle.proto_grammar.specs.declared.option.OptionStep.TheVariants as option_steps
+use Rattle.proto_grammar.specs.declared.field.FieldState.{FieldState}
+use Rattle.proto_grammar.specs.declared.field.FieldStep.{FieldStep}
+use Rattle.proto_grammar.specs.declared.field.FieldStep.TheVariants as field_steps
+use Rattle.proto_grammar.specs.declared.value.ValueState.{ValueState}
+use Rattle.proto_grammar.specs.declared.value.ValueStep.{ValueStep}
+use Rattle.proto_grammar.specs.declared.value.ValueStep.TheVariants as value_steps
+use Rattle.proto_grammar.specs.declared.rpc.RpcState.{RpcState}
+use Rattle.proto_grammar.specs.declared.rpc.RpcStep.{RpcStep}
+use Rattle.proto_grammar.specs.declared.rpc.RpcStep.TheVariants as rpc_steps
+use Rattle.proto_grammar.specs.declared.reserved.ReservedState.{ReservedState}
+use Rattle.proto_grammar.specs.declared.reserved.ReservedStep.{ReservedStep}
+use Rattle.proto_grammar.specs.declared.reserved.ReservedStep.TheVariants as reserved_steps
 use Rattle.proto_schema.specs.declared.statement.Place.{Place}
 use Rattle.proto_schema.specs.declared.statement.Opening.{Opening}
 use Rattle.proto_schema.specs.declared.statement.State.{State}

@@ -2,53 +2,53 @@
 use Rattle.std.proofs.Common.{◌≡◌, ℕ, Bool, true, false, List, [], codes, refl}
 use Rattle.std.specs.Prelude.{Ok, Err, Result, Option, Some, None, ◌&&◌}
 use Rattle.std.specs.Str.{bytes_eq}
-use Rattle.proto_tokens.specs.Tokens.{literal_of, is_last}
-use Rattle.proto_tokens.specs.declared.token.Kind.{Kind}
-use Rattle.proto_tokens.specs.declared.token.Kind.TheVariants as kinds
-use Rattle.proto_tokens.specs.declared.token.Token.{Token}
-use Rattle.proto_parts.specs.Lexemes.{Meaning, identifier, integer, number, string, mark, the_end, none, Lexeme, meaning, lexeme, span_of}
-use Rattle.proto_parts.specs.Reading.{full_step, typed_step, behind_key, option_step, tail_step, of_option}
-use Rattle.proto_parts.specs.Reading.{field_step, map_step, of_key, of_inner_key, of_value, of_inner_value, of_type}
-use Rattle.proto_parts.specs.Reading.{of_map, of_tail, value_step, of_value_tail, rpc_step, behind_type}
-use Rattle.proto_parts.specs.Reading.{is_streaming, of_input, of_output, reserved_step, reserved_part_step}
-use Rattle.proto_parts.specs.Reading.{range_step, whole_range, behind_range, of_range}
+use Rattle.proto_lexer.specs.Tokens.{literal_of, is_last}
+use Rattle.proto_lexer.specs.declared.token.Kind.{Kind}
+use Rattle.proto_lexer.specs.declared.token.Kind.TheVariants as kinds
+use Rattle.proto_lexer.specs.declared.token.Token.{Token}
+use Rattle.proto_grammar.specs.Lexemes.{Meaning, identifier, integer, number, string, mark, the_end, none, Lexeme, meaning, lexeme, span_of}
+use Rattle.proto_grammar.specs.Reading.{full_step, typed_step, behind_key, option_step, tail_step, of_option}
+use Rattle.proto_grammar.specs.Reading.{field_step, map_step, of_key, of_inner_key, of_value, of_inner_value, of_type}
+use Rattle.proto_grammar.specs.Reading.{of_map, of_tail, value_step, of_value_tail, rpc_step, behind_type}
+use Rattle.proto_grammar.specs.Reading.{is_streaming, of_input, of_output, reserved_step, reserved_part_step}
+use Rattle.proto_grammar.specs.Reading.{range_step, whole_range, behind_range, of_range}
 use Rattle.proto_schema.specs.Running.{statement_step, depth, of_package, of_options, of_reserved, of_rpc}
 use Rattle.proto_schema.specs.Running
-use Rattle.proto_file.specs.declared.file.Span.{Span}
-use Rattle.proto_file.specs.declared.file.Word.{Word}
-use Rattle.proto_file.specs.declared.file.Number.{Number}
-use Rattle.proto_file.specs.declared.file.Range.{Range}
-use Rattle.proto_file.specs.declared.file.FieldLabel.{FieldLabel}
-use Rattle.proto_parts.specs.declared.fault.ProtoFault.{ProtoFault}
-use Rattle.proto_parts.specs.declared.name.NameState.{NameState}
-use Rattle.proto_parts.specs.declared.name.NameState.TheVariants as names
-use Rattle.proto_parts.specs.declared.name.NameStep.{NameStep}
-use Rattle.proto_parts.specs.declared.name.NameStep.TheVariants as name_steps
-use Rattle.proto_parts.specs.declared.option.OptionState.{OptionState}
-use Rattle.proto_parts.specs.declared.option.OptionState.TheVariants as options
-use Rattle.proto_parts.specs.declared.option.OptionStep.{OptionStep}
-use Rattle.proto_parts.specs.declared.option.OptionStep.TheVariants as option_steps
-use Rattle.proto_parts.specs.declared.tail.TailState.{TailState}
-use Rattle.proto_parts.specs.declared.tail.TailState.TheVariants as tails
-use Rattle.proto_parts.specs.declared.tail.TailStep.{TailStep}
-use Rattle.proto_parts.specs.declared.field.FieldHead.{FieldHead}
-use Rattle.proto_parts.specs.declared.field.FieldState.{FieldState}
-use Rattle.proto_parts.specs.declared.field.FieldState.TheVariants as fields
-use Rattle.proto_parts.specs.declared.field.FieldStep.{FieldStep}
-use Rattle.proto_parts.specs.declared.field.MapState.{MapState}
-use Rattle.proto_parts.specs.declared.field.MapState.TheVariants as maps
-use Rattle.proto_parts.specs.declared.field.MapStep.{MapStep}
-use Rattle.proto_parts.specs.declared.value.ValueState.{ValueState}
-use Rattle.proto_parts.specs.declared.value.ValueState.TheVariants as values
-use Rattle.proto_parts.specs.declared.value.ValueStep.{ValueStep}
-use Rattle.proto_parts.specs.declared.rpc.RpcState.{RpcState}
-use Rattle.proto_parts.specs.declared.rpc.RpcState.TheVariants as rpcs
-use Rattle.proto_parts.specs.declared.rpc.RpcStep.{RpcStep}
-use Rattle.proto_parts.specs.declared.reserved.ReservedPart.{ReservedPart}
-use Rattle.proto_parts.specs.declared.reserved.ReservedPart.TheVariants as parts
-use Rattle.proto_parts.specs.declared.reserved.RangeState.{RangeState}
-use Rattle.proto_parts.specs.declared.reserved.RangeState.TheVariants as ranges
-use Rattle.proto_parts.specs.declared.reserved.ReservedStep.{ReservedStep}
+use Rattle.proto_ast.specs.declared.file.Span.{Span}
+use Rattle.proto_ast.specs.declared.file.Word.{Word}
+use Rattle.proto_ast.specs.declared.file.Number.{Number}
+use Rattle.proto_ast.specs.declared.file.Range.{Range}
+use Rattle.proto_ast.specs.declared.file.FieldLabel.{FieldLabel}
+use Rattle.proto_grammar.specs.declared.fault.ProtoFault.{ProtoFault}
+use Rattle.proto_grammar.specs.declared.name.NameState.{NameState}
+use Rattle.proto_grammar.specs.declared.name.NameState.TheVariants as names
+use Rattle.proto_grammar.specs.declared.name.NameStep.{NameStep}
+use Rattle.proto_grammar.specs.declared.name.NameStep.TheVariants as name_steps
+use Rattle.proto_grammar.specs.declared.option.OptionState.{OptionState}
+use Rattle.proto_grammar.specs.declared.option.OptionState.TheVariants as options
+use Rattle.proto_grammar.specs.declared.option.OptionStep.{OptionStep}
+use Rattle.proto_grammar.specs.declared.option.OptionStep.TheVariants as option_steps
+use Rattle.proto_grammar.specs.declared.tail.TailState.{TailState}
+use Rattle.proto_grammar.specs.declared.tail.TailState.TheVariants as tails
+use Rattle.proto_grammar.specs.declared.tail.TailStep.{TailStep}
+use Rattle.proto_grammar.specs.declared.field.FieldHead.{FieldHead}
+use Rattle.proto_grammar.specs.declared.field.FieldState.{FieldState}
+use Rattle.proto_grammar.specs.declared.field.FieldState.TheVariants as fields
+use Rattle.proto_grammar.specs.declared.field.FieldStep.{FieldStep}
+use Rattle.proto_grammar.specs.declared.field.MapState.{MapState}
+use Rattle.proto_grammar.specs.declared.field.MapState.TheVariants as maps
+use Rattle.proto_grammar.specs.declared.field.MapStep.{MapStep}
+use Rattle.proto_grammar.specs.declared.value.ValueState.{ValueState}
+use Rattle.proto_grammar.specs.declared.value.ValueState.TheVariants as values
+use Rattle.proto_grammar.specs.declared.value.ValueStep.{ValueStep}
+use Rattle.proto_grammar.specs.declared.rpc.RpcState.{RpcState}
+use Rattle.proto_grammar.specs.declared.rpc.RpcState.TheVariants as rpcs
+use Rattle.proto_grammar.specs.declared.rpc.RpcStep.{RpcStep}
+use Rattle.proto_grammar.specs.declared.reserved.ReservedPart.{ReservedPart}
+use Rattle.proto_grammar.specs.declared.reserved.ReservedPart.TheVariants as parts
+use Rattle.proto_grammar.specs.declared.reserved.RangeState.{RangeState}
+use Rattle.proto_grammar.specs.declared.reserved.RangeState.TheVariants as ranges
+use Rattle.proto_grammar.specs.declared.reserved.ReservedStep.{ReservedStep}
 use Rattle.proto_schema.specs.declared.statement.Place.{Place}
 use Rattle.proto_schema.specs.declared.statement.State.{State}
 use Rattle.proto_schema.specs.declared.statement.State.TheVariants as states

@@ -2,18 +2,18 @@
 use Rattle.std.proofs.Common.{◌≡◌, ℕ, Bool, true, false, List, [], ◌∷◌, codes, refl, ap, sym, ◌∙◌}
 use Rattle.std.specs.Prelude.{if◌then◌else◌}
 use Rattle.std.specs.Str.{bytes_eq}
-use Rattle.proto_tokens.specs.Strings.{string_value}
-use Rattle.proto_tokens.specs.Tokens.{literal_of, AreTokens}
-use Rattle.proto_tokens.specs.declared.token.Kind.{Kind}
-use Rattle.proto_tokens.specs.declared.token.Kind.TheVariants as kinds
-use Rattle.proto_tokens.specs.declared.token.Token.{Token}
-use Rattle.proto_parts.specs.Lexemes.{Lexeme, lexeme, lexemes, meaning, says, semicolon, equals}
-use Rattle.proto_parts.specs.Lexemes.{is_no_token}
+use Rattle.proto_lexer.specs.Strings.{string_value}
+use Rattle.proto_lexer.specs.Tokens.{literal_of, AreTokens}
+use Rattle.proto_lexer.specs.declared.token.Kind.{Kind}
+use Rattle.proto_lexer.specs.declared.token.Kind.TheVariants as kinds
+use Rattle.proto_lexer.specs.declared.token.Token.{Token}
+use Rattle.proto_grammar.specs.Lexemes.{Lexeme, lexeme, lexemes, meaning, says, semicolon, equals}
+use Rattle.proto_grammar.specs.Lexemes.{is_no_token}
 use Rattle.proto_schema.specs.Files.{nothing_said}
-use Rattle.proto_parts.specs.Reading.{fault_at, unexpected, is_mark}
+use Rattle.proto_grammar.specs.Reading.{fault_at, unexpected, is_mark}
 use Rattle.proto_schema.specs.Running.{AreTokensFrom, alone, with_others, failed, run, reading, behind_word, behind_equals, behind_value, behind_syntax}
 use Rattle.proto_schema.proofs.Next.{mark_not_last, word_not_last, string_not_last, word_list}
-use Rattle.proto_parts.specs.declared.fault.ProtoReason.TheVariants as reasons
+use Rattle.proto_grammar.specs.declared.fault.ProtoReason.TheVariants as reasons
 use Rattle.proto_schema.specs.declared.statement.State.TheVariants as states
 
 -- ---- the first token

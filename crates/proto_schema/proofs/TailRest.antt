@@ -2,20 +2,20 @@
 use Rattle.std.proofs.Common.{subst, ◌≡◌, Bool, List, [], ◌∷◌, ◌++◌, refl, ap, sym, ◌∙◌}
 use Rattle.std.specs.Prelude.{Ok, Err, Result, Option, Some, None, if◌then◌else◌}
 use Rattle.std.proofs.lemmas.List.{append_assoc}
-use Rattle.proto_parts.specs.Lexemes.{Lexeme, comma, semicolon, opening_bracket, closing_bracket, IsMark}
-use Rattle.proto_parts.specs.Grammar.{OptionOf, option, latest, OptionList, one_option, options, FieldOptions, no_options, bracketed}
-use Rattle.proto_parts.specs.Reading.{wrong, is_mark, option_step, next_option, tail_step, of_option, behind_option}
+use Rattle.proto_grammar.specs.Lexemes.{Lexeme, comma, semicolon, opening_bracket, closing_bracket, IsMark}
+use Rattle.proto_grammar.specs.Grammar.{OptionOf, option, latest, OptionList, one_option, options, FieldOptions, no_options, bracketed}
+use Rattle.proto_grammar.specs.Reading.{wrong, is_mark, option_step, next_option, tail_step, of_option, behind_option}
 use Rattle.proto_schema.proofs.Choices.{either_is}
 use Rattle.proto_schema.proofs.NameLemmas.{mark_is}
 use Rattle.proto_schema.proofs.OptionRest.{from_name, OptionRest, OptionBack, option_back}
-use Rattle.proto_parts.specs.declared.fault.ProtoFault.{ProtoFault}
-use Rattle.proto_parts.specs.declared.option.OptionState.{OptionState}
-use Rattle.proto_parts.specs.declared.option.OptionStep.{OptionStep}
-use Rattle.proto_parts.specs.declared.option.OptionStep.TheVariants as option_steps
-use Rattle.proto_parts.specs.declared.tail.TailState.{TailState}
-use Rattle.proto_parts.specs.declared.tail.TailState.TheVariants as tails
-use Rattle.proto_parts.specs.declared.tail.TailStep.{TailStep}
-use Rattle.proto_parts.specs.declared.tail.TailStep.TheVariants as steps
+use Rattle.proto_grammar.specs.declared.fault.ProtoFault.{ProtoFault}
+use Rattle.proto_grammar.specs.declared.option.OptionState.{OptionState}
+use Rattle.proto_grammar.specs.declared.option.OptionStep.{OptionStep}
+use Rattle.proto_grammar.specs.declared.option.OptionStep.TheVariants as option_steps
+use Rattle.proto_grammar.specs.declared.tail.TailState.{TailState}
+use Rattle.proto_grammar.specs.declared.tail.TailState.TheVariants as tails
+use Rattle.proto_grammar.specs.declared.tail.TailStep.{TailStep}
+use Rattle.proto_grammar.specs.declared.tail.TailStep.TheVariants as steps
 
 pub option_of : (ys : List Lexeme) (b : Option Bool) → OptionRest next_option ys b → OptionOf ys b
 option_of ys b (from_name x n q v e s) = option x n q v e (sym s)

@@ -1,6 +1,6 @@
 -- A part is read token by token up to its last one.
 use Rattle.std.proofs.Common.{List, [], ◌∷◌, ◌++◌}
-use Rattle.proto_parts.specs.Lexemes.{Lexeme}
+use Rattle.proto_grammar.specs.Lexemes.{Lexeme}
 use Rattle.proto_schema.proofs.NameLemmas.{Walks, stay, go}
 
 pub data Takes {S V : Type 0} (goes : S → Lexeme → S → Type 0) (ends : S → Lexeme → V → Type 0) : S → List Lexeme → V → Type 0 where

@@ -1,19 +1,19 @@
 -- What reading returns for a text, in terms of the grammar.
 use Rattle.std.proofs.Common.{subst, ◌≡◌, ℕ, true, List, refl, sym, ◌∙◌}
 use Rattle.std.specs.Prelude.{Ok, Err, Result, IfOk, IfErr, MatchResult}
-use Rattle.proto_tokens.specs.Tokens.{AreTokens}
-use Rattle.proto_tokens.specs.declared.token.Token.{Token}
-use Rattle.proto_parts.specs.Lexemes.{lexemes}
+use Rattle.proto_lexer.specs.Tokens.{AreTokens}
+use Rattle.proto_lexer.specs.declared.token.Token.{Token}
+use Rattle.proto_grammar.specs.Lexemes.{lexemes}
 use Rattle.proto_schema.specs.Faults.{IsTextOf, HasFault, IsFaultOf}
 use Rattle.proto_schema.specs.Running.{read, failed, Comes, reading}
-use Rattle.proto_parts.specs.Reading.{fault_at}
+use Rattle.proto_grammar.specs.Reading.{fault_at}
 use Rattle.proto_schema.proofs.Shallow.{text_of, read_of}
 use Rattle.proto_schema.proofs.FirstFaults.{failed_first}
-use Rattle.proto_file.specs.declared.file.Span.{Span}
-use Rattle.proto_parts.specs.declared.fault.ProtoReason.{ProtoReason}
-use Rattle.proto_file.specs.declared.file.File.{File}
-use Rattle.proto_parts.specs.declared.fault.ProtoFault.{ProtoFault}
-use Rattle.proto_parts.specs.declared.fault.ProtoFault.TheVariants as fault
+use Rattle.proto_ast.specs.declared.file.Span.{Span}
+use Rattle.proto_grammar.specs.declared.fault.ProtoReason.{ProtoReason}
+use Rattle.proto_ast.specs.declared.file.File.{File}
+use Rattle.proto_grammar.specs.declared.fault.ProtoFault.{ProtoFault}
+use Rattle.proto_grammar.specs.declared.fault.ProtoFault.TheVariants as fault
 
 -- the result of the tokens of a text
 abbrev pub ComesOf : List ℕ → Result File ProtoFault → Type 0

@@ -4,36 +4,36 @@ use Rattle.std.specs.Prelude.{Ok, Result, Option, Some, None, ◌&&◌}
 use Rattle.std.proofs.lemmas.Bool.{and_right}
 use Rattle.std.proofs.lemmas.List.{append_assoc}
 use Rattle.mrpc_table.specs.declared.words.Decimal.{Decimal}
-use Rattle.proto_parts.specs.Lexemes.{integer, string, mark, Lexeme, comma, semicolon, equals, minus, span_to, word_at, number_at, IsWord, IsMark, says}
-use Rattle.proto_parts.specs.Grammar.{NumberOf, whole, negative, FieldOptions, RangeOf, single, between, up_from}
-use Rattle.proto_parts.specs.Grammar.{RangesOf, one_range, ranges as more_ranges, NamesOf, one_name}
-use Rattle.proto_parts.specs.Grammar.{names as more_names}
-use Rattle.proto_parts.specs.Reading.{wrong, is_mark, is_string, by_number, tail_step, value_step, of_value_tail, range_step, a_range, whole_range, of_range, behind_range, reserved_step}
+use Rattle.proto_grammar.specs.Lexemes.{integer, string, mark, Lexeme, comma, semicolon, equals, minus, span_to, word_at, number_at, IsWord, IsMark, says}
+use Rattle.proto_grammar.specs.Grammar.{NumberOf, whole, negative, FieldOptions, RangeOf, single, between, up_from}
+use Rattle.proto_grammar.specs.Grammar.{RangesOf, one_range, ranges as more_ranges, NamesOf, one_name}
+use Rattle.proto_grammar.specs.Grammar.{names as more_names}
+use Rattle.proto_grammar.specs.Reading.{wrong, is_mark, is_string, by_number, tail_step, value_step, of_value_tail, range_step, a_range, whole_range, of_range, behind_range, reserved_step}
 use Rattle.proto_schema.proofs.Choices.{string_meant}
 use Rattle.proto_schema.proofs.NameLemmas.{Walks, stay, go, walks_on, walks_in, mark_is}
 use Rattle.proto_schema.proofs.OptionReads.{TailGoes, tail_reads}
 use Rattle.proto_schema.proofs.Takes.{Takes, last, next, walk_takes}
 use Rattle.proto_schema.proofs.ValueRest.{value_of}
 use Rattle.proto_schema.proofs.ReservedRest.{Kept}
-use Rattle.proto_file.specs.declared.file.Span.{Span}
-use Rattle.proto_file.specs.declared.file.Word.{Word}
-use Rattle.proto_file.specs.declared.file.Number.{Number}
-use Rattle.proto_file.specs.declared.file.Range.{Range}
-use Rattle.proto_file.specs.declared.file.ValueDecl.{ValueDecl}
-use Rattle.proto_parts.specs.declared.fault.ProtoFault.{ProtoFault}
-use Rattle.proto_parts.specs.declared.value.ValueState.{ValueState}
-use Rattle.proto_parts.specs.declared.value.ValueState.TheVariants as values
-use Rattle.proto_parts.specs.declared.value.ValueStep.TheVariants as value_steps
-use Rattle.proto_parts.specs.declared.tail.TailState.{TailState}
-use Rattle.proto_parts.specs.declared.tail.TailState.TheVariants as tails
-use Rattle.proto_parts.specs.declared.tail.TailStep.TheVariants as tail_steps
-use Rattle.proto_parts.specs.declared.reserved.RangeState.{RangeState}
-use Rattle.proto_parts.specs.declared.reserved.RangeState.TheVariants as ranges
-use Rattle.proto_parts.specs.declared.reserved.ReservedPart.{ReservedPart}
-use Rattle.proto_parts.specs.declared.reserved.ReservedPart.TheVariants as parts
-use Rattle.proto_parts.specs.declared.reserved.ReservedState.{ReservedState}
-use Rattle.proto_parts.specs.declared.reserved.ReservedStep.{ReservedStep}
-use Rattle.proto_parts.specs.declared.reserved.ReservedStep.TheVariants as steps
+use Rattle.proto_ast.specs.declared.file.Span.{Span}
+use Rattle.proto_ast.specs.declared.file.Word.{Word}
+use Rattle.proto_ast.specs.declared.file.Number.{Number}
+use Rattle.proto_ast.specs.declared.file.Range.{Range}
+use Rattle.proto_ast.specs.declared.file.ValueDecl.{ValueDecl}
+use Rattle.proto_grammar.specs.declared.fault.ProtoFault.{ProtoFault}
+use Rattle.proto_grammar.specs.declared.value.ValueState.{ValueState}
+use Rattle.proto_grammar.specs.declared.value.ValueState.TheVariants as values
+use Rattle.proto_grammar.specs.declared.value.ValueStep.TheVariants as value_steps
+use Rattle.proto_grammar.specs.declared.tail.TailState.{TailState}
+use Rattle.proto_grammar.specs.declared.tail.TailState.TheVariants as tails
+use Rattle.proto_grammar.specs.declared.tail.TailStep.TheVariants as tail_steps
+use Rattle.proto_grammar.specs.declared.reserved.RangeState.{RangeState}
+use Rattle.proto_grammar.specs.declared.reserved.RangeState.TheVariants as ranges
+use Rattle.proto_grammar.specs.declared.reserved.ReservedPart.{ReservedPart}
+use Rattle.proto_grammar.specs.declared.reserved.ReservedPart.TheVariants as parts
+use Rattle.proto_grammar.specs.declared.reserved.ReservedState.{ReservedState}
+use Rattle.proto_grammar.specs.declared.reserved.ReservedStep.{ReservedStep}
+use Rattle.proto_grammar.specs.declared.reserved.ReservedStep.TheVariants as steps
 
 -- ---- values
 

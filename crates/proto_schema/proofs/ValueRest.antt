@@ -2,25 +2,25 @@
 use Rattle.std.proofs.Common.{◌≡◌, Bool, true, false, List, [], ◌∷◌, ◌++◌, refl, ap}
 use Rattle.std.specs.Prelude.{Ok, Err, Result, Option}
 use Rattle.mrpc_table.specs.declared.words.Decimal.{Decimal}
-use Rattle.proto_parts.specs.Lexemes.{integer, Lexeme, semicolon, equals, minus, span_to, number_at, IsMark}
-use Rattle.proto_parts.specs.Grammar.{NumberOf, whole, negative, FieldOptions}
-use Rattle.proto_parts.specs.Reading.{wrong, is_mark, if_number, tail_step, value_step, more_value, of_value_tail}
+use Rattle.proto_grammar.specs.Lexemes.{integer, Lexeme, semicolon, equals, minus, span_to, number_at, IsMark}
+use Rattle.proto_grammar.specs.Grammar.{NumberOf, whole, negative, FieldOptions}
+use Rattle.proto_grammar.specs.Reading.{wrong, is_mark, if_number, tail_step, value_step, more_value, of_value_tail}
 use Rattle.proto_schema.proofs.Choices.{either_is, numbered_is}
 use Rattle.proto_schema.proofs.NameLemmas.{mark_is}
 use Rattle.proto_schema.proofs.TailRest.{TailRest, TailBack, tail_back, OptionsEnd, options_end}
-use Rattle.proto_file.specs.declared.file.Span.{Span}
-use Rattle.proto_file.specs.declared.file.Word.{Word}
-use Rattle.proto_file.specs.declared.file.Number.{Number}
-use Rattle.proto_file.specs.declared.file.ValueDecl.{ValueDecl}
-use Rattle.proto_parts.specs.declared.fault.ProtoFault.{ProtoFault}
-use Rattle.proto_parts.specs.declared.value.ValueState.{ValueState}
-use Rattle.proto_parts.specs.declared.value.ValueState.TheVariants as values
-use Rattle.proto_parts.specs.declared.value.ValueStep.{ValueStep}
-use Rattle.proto_parts.specs.declared.value.ValueStep.TheVariants as steps
-use Rattle.proto_parts.specs.declared.tail.TailState.{TailState}
-use Rattle.proto_parts.specs.declared.tail.TailState.TheVariants as tails
-use Rattle.proto_parts.specs.declared.tail.TailStep.{TailStep}
-use Rattle.proto_parts.specs.declared.tail.TailStep.TheVariants as tail_steps
+use Rattle.proto_ast.specs.declared.file.Span.{Span}
+use Rattle.proto_ast.specs.declared.file.Word.{Word}
+use Rattle.proto_ast.specs.declared.file.Number.{Number}
+use Rattle.proto_ast.specs.declared.file.ValueDecl.{ValueDecl}
+use Rattle.proto_grammar.specs.declared.fault.ProtoFault.{ProtoFault}
+use Rattle.proto_grammar.specs.declared.value.ValueState.{ValueState}
+use Rattle.proto_grammar.specs.declared.value.ValueState.TheVariants as values
+use Rattle.proto_grammar.specs.declared.value.ValueStep.{ValueStep}
+use Rattle.proto_grammar.specs.declared.value.ValueStep.TheVariants as steps
+use Rattle.proto_grammar.specs.declared.tail.TailState.{TailState}
+use Rattle.proto_grammar.specs.declared.tail.TailState.TheVariants as tails
+use Rattle.proto_grammar.specs.declared.tail.TailStep.{TailStep}
+use Rattle.proto_grammar.specs.declared.tail.TailStep.TheVariants as tail_steps
 
 abbrev pub value_of : Word → Number → ValueDecl
 value_of name n = record { name = name; number = n }

@@ -1,23 +1,23 @@
 -- Which token of a text that is not a proto file is at fault first, and why (this project's own).
 use Rattle.std.specs.Prelude.{◌≡◌, ◌≢◌, ℕ, ◌+◌, ◌<◌, ◌≤◌, Bool, true, false, List, [], ◌∷◌, ◌++◌, codes}
 use Rattle.std.specs.Prelude.{length, take, Some, slice_get}
-use Rattle.proto_tokens.specs.Tokens.{AreTokens}
-use Rattle.proto_tokens.specs.declared.token.Token.{Token}
-use Rattle.proto_parts.specs.Lexemes.{Lexeme, Meaning, string, the_end, lexemes, IsWord, is_no_token, is_type_part}
-use Rattle.proto_parts.specs.Lexemes.{IsMark, less, equals, opening_brace, opening_paren, closing_paren, says}
-use Rattle.proto_parts.specs.Lexemes.{says_one_of}
-use Rattle.proto_parts.specs.Grammar.{MapKey, RpcType}
+use Rattle.proto_lexer.specs.Tokens.{AreTokens}
+use Rattle.proto_lexer.specs.declared.token.Token.{Token}
+use Rattle.proto_grammar.specs.Lexemes.{Lexeme, Meaning, string, the_end, lexemes, IsWord, is_no_token, is_type_part}
+use Rattle.proto_grammar.specs.Lexemes.{IsMark, less, equals, opening_brace, opening_paren, closing_paren, says}
+use Rattle.proto_grammar.specs.Lexemes.{says_one_of}
+use Rattle.proto_grammar.specs.Grammar.{MapKey, RpcType}
 use Rattle.proto_schema.specs.Files.{Draft, InFile, InMessage, InBody, a_oneof, a_service, LabelOf, Says, Forms}
 use Rattle.proto_schema.specs.declared.limits.TheConstants.{MAX_OPEN}
-use Rattle.proto_file.specs.declared.file.FieldLabel.{FieldLabel}
-use Rattle.proto_file.specs.declared.file.Word.{Word}
-use Rattle.proto_file.specs.declared.file.File.{File}
-use Rattle.proto_file.specs.declared.file.Span.{Span}
-use Rattle.proto_parts.specs.declared.fault.ProtoReason.{ProtoReason}
-use Rattle.proto_parts.specs.declared.fault.ProtoReason.TheVariants.{Token as NoToken, Expected, Import, Stream, Group}
-use Rattle.proto_parts.specs.declared.fault.ProtoReason.TheVariants.{Extend, Syntax2, Nesting}
-use Rattle.proto_parts.specs.declared.fault.ProtoFault.{ProtoFault}
-use Rattle.proto_parts.specs.declared.fault.ProtoFault.TheVariants as fault
+use Rattle.proto_ast.specs.declared.file.FieldLabel.{FieldLabel}
+use Rattle.proto_ast.specs.declared.file.Word.{Word}
+use Rattle.proto_ast.specs.declared.file.File.{File}
+use Rattle.proto_ast.specs.declared.file.Span.{Span}
+use Rattle.proto_grammar.specs.declared.fault.ProtoReason.{ProtoReason}
+use Rattle.proto_grammar.specs.declared.fault.ProtoReason.TheVariants.{Token as NoToken, Expected, Import, Stream, Group}
+use Rattle.proto_grammar.specs.declared.fault.ProtoReason.TheVariants.{Extend, Syntax2, Nesting}
+use Rattle.proto_grammar.specs.declared.fault.ProtoFault.{ProtoFault}
+use Rattle.proto_grammar.specs.declared.fault.ProtoFault.TheVariants as fault
 
 -- ---- where a text breaks off
 

@@ -3,22 +3,22 @@
 -- innermost open one.
 use Rattle.std.specs.Prelude.{◌≡◌, ◌≢◌, ℕ, zero, suc, ◌-◌, Bool, true, false, List, [], ◌∷◌, ◌++◌, codes, length}
 use Rattle.std.specs.Prelude.{Option, Some, None, slice_get}
-use Rattle.proto_parts.specs.Lexemes.{Lexeme, string, the_end, IsWord, IsMark, semicolon, equals, opening_brace}
-use Rattle.proto_parts.specs.Lexemes.{closing_brace, opening_paren, closing_paren, word_at}
-use Rattle.proto_parts.specs.Grammar.{FullName, begins_with, member_words, statement_words, group_word, FieldTypeOf}
-use Rattle.proto_parts.specs.Grammar.{RpcType, NumberOf, OptionOf, FieldOptions, RangesOf, NamesOf}
-use Rattle.proto_file.specs.declared.file.Word.{Word}
-use Rattle.proto_file.specs.declared.file.Number.{Number}
-use Rattle.proto_file.specs.declared.file.Range.{Range}
-use Rattle.proto_file.specs.declared.file.FieldLabel.{FieldLabel}
-use Rattle.proto_file.specs.declared.file.FieldLabel.TheVariants.{Plain, Optional, Repeated}
-use Rattle.proto_file.specs.declared.file.FieldType.{FieldType}
-use Rattle.proto_file.specs.declared.file.FieldDecl.{FieldDecl}
-use Rattle.proto_file.specs.declared.file.MessageDecl.{MessageDecl}
-use Rattle.proto_file.specs.declared.file.EnumDecl.{EnumDecl}
-use Rattle.proto_file.specs.declared.file.RpcDecl.{RpcDecl}
-use Rattle.proto_file.specs.declared.file.ServiceDecl.{ServiceDecl}
-use Rattle.proto_file.specs.declared.file.File.{File}
+use Rattle.proto_grammar.specs.Lexemes.{Lexeme, string, the_end, IsWord, IsMark, semicolon, equals, opening_brace}
+use Rattle.proto_grammar.specs.Lexemes.{closing_brace, opening_paren, closing_paren, word_at}
+use Rattle.proto_grammar.specs.Grammar.{FullName, begins_with, member_words, statement_words, group_word, FieldTypeOf}
+use Rattle.proto_grammar.specs.Grammar.{RpcType, NumberOf, OptionOf, FieldOptions, RangesOf, NamesOf}
+use Rattle.proto_ast.specs.declared.file.Word.{Word}
+use Rattle.proto_ast.specs.declared.file.Number.{Number}
+use Rattle.proto_ast.specs.declared.file.Range.{Range}
+use Rattle.proto_ast.specs.declared.file.FieldLabel.{FieldLabel}
+use Rattle.proto_ast.specs.declared.file.FieldLabel.TheVariants.{Plain, Optional, Repeated}
+use Rattle.proto_ast.specs.declared.file.FieldType.{FieldType}
+use Rattle.proto_ast.specs.declared.file.FieldDecl.{FieldDecl}
+use Rattle.proto_ast.specs.declared.file.MessageDecl.{MessageDecl}
+use Rattle.proto_ast.specs.declared.file.EnumDecl.{EnumDecl}
+use Rattle.proto_ast.specs.declared.file.RpcDecl.{RpcDecl}
+use Rattle.proto_ast.specs.declared.file.ServiceDecl.{ServiceDecl}
+use Rattle.proto_ast.specs.declared.file.File.{File}
 
 -- ---- what is declared so far, and what is open
 

@@ -2,46 +2,46 @@
 use Rattle.std.specs.Prelude.{◌≡◌, ℕ, ◌==◌, nat_le, Bool, true, false, not, ◌&&◌, ◌||◌, if◌then◌else◌, List, [], ◌∷◌}
 use Rattle.std.specs.Prelude.{◌++◌, codes, length, Option, Some, None, is_some, Result, Ok, Err}
 use Rattle.std.specs.Str.{bytes_eq}
-use Rattle.proto_tokens.specs.Tokens.{AreTokens, is_last}
-use Rattle.proto_tokens.specs.declared.token.Token.{Token}
-use Rattle.proto_file.specs.Dot.{dot}
-use Rattle.proto_parts.specs.Lexemes.{Meaning, identifier, string, mark, the_end, Lexeme, says, semicolon, equals}
-use Rattle.proto_parts.specs.Lexemes.{opening_brace, closing_brace, word_at}
+use Rattle.proto_lexer.specs.Tokens.{AreTokens, is_last}
+use Rattle.proto_lexer.specs.declared.token.Token.{Token}
+use Rattle.proto_ast.specs.Dot.{dot}
+use Rattle.proto_grammar.specs.Lexemes.{Meaning, identifier, string, mark, the_end, Lexeme, says, semicolon, equals}
+use Rattle.proto_grammar.specs.Lexemes.{opening_brace, closing_brace, word_at}
 use Rattle.proto_schema.specs.Files.{Draft, Block, no_block, a_oneof, an_enum, a_service, an_rpc, with_file, with_block}
 use Rattle.proto_schema.specs.Files.{in_message, in_enum, open_message, open_enum, open_service, open_oneof, add_field}
 use Rattle.proto_schema.specs.Files.{add_rpc, nothing_said}
 use Rattle.proto_schema.specs.declared.limits.TheConstants.{MAX_OPEN}
-use Rattle.proto_parts.specs.Lexemes.{is_no_token}
-use Rattle.proto_parts.specs.Reading.{fault_at, unexpected, wrong, if_name, is_mark, full_step, option_step}
-use Rattle.proto_parts.specs.Reading.{next_option, field_step, reserved_step, value_step, rpc_step, option_depth}
-use Rattle.proto_parts.specs.Reading.{field_depth, value_depth}
-use Rattle.proto_file.specs.declared.file.Span.{Span}
-use Rattle.proto_file.specs.declared.file.Word.{Word}
-use Rattle.proto_file.specs.declared.file.Import.{Import}
-use Rattle.proto_file.specs.declared.file.FieldLabel.{FieldLabel}
-use Rattle.proto_file.specs.declared.file.FieldLabel.TheVariants as labels
-use Rattle.proto_file.specs.declared.file.FieldDecl.{FieldDecl}
-use Rattle.proto_file.specs.declared.file.File.{File}
-use Rattle.proto_parts.specs.declared.fault.ProtoReason.TheVariants as reasons
-use Rattle.proto_parts.specs.declared.fault.ProtoFault.{ProtoFault}
-use Rattle.proto_parts.specs.declared.fault.ProtoFault.TheVariants as fault
-use Rattle.proto_parts.specs.declared.name.NameState.TheVariants as names
-use Rattle.proto_parts.specs.declared.name.NameStep.{NameStep}
-use Rattle.proto_parts.specs.declared.name.NameStep.TheVariants as name_steps
-use Rattle.proto_parts.specs.declared.option.OptionStep.{OptionStep}
-use Rattle.proto_parts.specs.declared.option.OptionStep.TheVariants as option_steps
-use Rattle.proto_parts.specs.declared.field.FieldState.TheVariants as fields
-use Rattle.proto_parts.specs.declared.field.FieldStep.{FieldStep}
-use Rattle.proto_parts.specs.declared.field.FieldStep.TheVariants as field_steps
-use Rattle.proto_parts.specs.declared.value.ValueState.TheVariants as values
-use Rattle.proto_parts.specs.declared.value.ValueStep.{ValueStep}
-use Rattle.proto_parts.specs.declared.value.ValueStep.TheVariants as value_steps
-use Rattle.proto_parts.specs.declared.rpc.RpcState.TheVariants as rpcs
-use Rattle.proto_parts.specs.declared.rpc.RpcStep.{RpcStep}
-use Rattle.proto_parts.specs.declared.rpc.RpcStep.TheVariants as rpc_steps
-use Rattle.proto_parts.specs.declared.reserved.ReservedPart.TheVariants as parts
-use Rattle.proto_parts.specs.declared.reserved.ReservedStep.{ReservedStep}
-use Rattle.proto_parts.specs.declared.reserved.ReservedStep.TheVariants as reserved_steps
+use Rattle.proto_grammar.specs.Lexemes.{is_no_token}
+use Rattle.proto_grammar.specs.Reading.{fault_at, unexpected, wrong, if_name, is_mark, full_step, option_step}
+use Rattle.proto_grammar.specs.Reading.{next_option, field_step, reserved_step, value_step, rpc_step, option_depth}
+use Rattle.proto_grammar.specs.Reading.{field_depth, value_depth}
+use Rattle.proto_ast.specs.declared.file.Span.{Span}
+use Rattle.proto_ast.specs.declared.file.Word.{Word}
+use Rattle.proto_ast.specs.declared.file.Import.{Import}
+use Rattle.proto_ast.specs.declared.file.FieldLabel.{FieldLabel}
+use Rattle.proto_ast.specs.declared.file.FieldLabel.TheVariants as labels
+use Rattle.proto_ast.specs.declared.file.FieldDecl.{FieldDecl}
+use Rattle.proto_ast.specs.declared.file.File.{File}
+use Rattle.proto_grammar.specs.declared.fault.ProtoReason.TheVariants as reasons
+use Rattle.proto_grammar.specs.declared.fault.ProtoFault.{ProtoFault}
+use Rattle.proto_grammar.specs.declared.fault.ProtoFault.TheVariants as fault
+use Rattle.proto_grammar.specs.declared.name.NameState.TheVariants as names
+use Rattle.proto_grammar.specs.declared.name.NameStep.{NameStep}
+use Rattle.proto_grammar.specs.declared.name.NameStep.TheVariants as name_steps
+use Rattle.proto_grammar.specs.declared.option.OptionStep.{OptionStep}
+use Rattle.proto_grammar.specs.declared.option.OptionStep.TheVariants as option_steps
+use Rattle.proto_grammar.specs.declared.field.FieldState.TheVariants as fields
+use Rattle.proto_grammar.specs.declared.field.FieldStep.{FieldStep}
+use Rattle.proto_grammar.specs.declared.field.FieldStep.TheVariants as field_steps
+use Rattle.proto_grammar.specs.declared.value.ValueState.TheVariants as values
+use Rattle.proto_grammar.specs.declared.value.ValueStep.{ValueStep}
+use Rattle.proto_grammar.specs.declared.value.ValueStep.TheVariants as value_steps
+use Rattle.proto_grammar.specs.declared.rpc.RpcState.TheVariants as rpcs
+use Rattle.proto_grammar.specs.declared.rpc.RpcStep.{RpcStep}
+use Rattle.proto_grammar.specs.declared.rpc.RpcStep.TheVariants as rpc_steps
+use Rattle.proto_grammar.specs.declared.reserved.ReservedPart.TheVariants as parts
+use Rattle.proto_grammar.specs.declared.reserved.ReservedStep.{ReservedStep}
+use Rattle.proto_grammar.specs.declared.reserved.ReservedStep.TheVariants as reserved_steps
 use Rattle.proto_schema.specs.declared.draft.Block.{Block as CodeBlock}
 use Rattle.proto_schema.specs.declared.draft.Block.TheVariants as block
 use Rattle.proto_schema.specs.declared.draft.Draft.{Draft as CodeDraft}

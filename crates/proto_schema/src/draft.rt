@@ -10,7 +10,7 @@ ghost use Rattle.proto_schema.specs.declared.statement.Said.TheVariants as said;
 use crate::limits::MAX_OPEN;
 use crate::statement::{Opening, Place, Said};
 use mrpc_table::{Memory, Sequence};
-use proto_file::{
+use proto_ast::{
     EnumDecl, EnumDecls, FieldDecl, FieldDecls, File, Import, Imports, MessageDecl, MessageDecls,
     Ranges, RpcDecl, RpcDecls, ServiceDecl, ServiceDecls, ValueDecl, ValueDecls, Word, Words,
 };

@@ -2,15 +2,15 @@
 
 ghost use Rattle.std.specs.Prelude.{◌≡◌, ◌⊎◌, ℕ, List, length};
 ghost use Rattle.proto_schema.specs.Faults.{IsTextOf, HasFault};
-ghost use Rattle.proto_file.specs.Joined.{alone};
-ghost use Rattle.proto_file.specs.Order.{IsFormed, IsOrdered};
-ghost use Rattle.proto_file.specs.Within.{IsWithin};
-ghost use Rattle.proto_file.specs.Together as Together;
-ghost use Rattle.proto_file.specs.declared.file.File.{File};
-ghost use Rattle.proto_file.specs.declared.file.Span.{Span};
-ghost use Rattle.proto_parts.specs.declared.fault.ProtoReason.{ProtoReason};
+ghost use Rattle.proto_ast.specs.Joined.{alone};
+ghost use Rattle.proto_ast.specs.Order.{IsFormed, IsOrdered};
+ghost use Rattle.proto_ast.specs.Within.{IsWithin};
+ghost use Rattle.proto_ast.specs.Together as Together;
+ghost use Rattle.proto_ast.specs.declared.file.File.{File};
+ghost use Rattle.proto_ast.specs.declared.file.Span.{Span};
+ghost use Rattle.proto_grammar.specs.declared.fault.ProtoReason.{ProtoReason};
 
-use proto_tokens::one_list;
+use proto_lexer::one_list;
 
 /// A text reads as at most one file.
 pub fn one_file()

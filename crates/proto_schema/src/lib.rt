@@ -2,7 +2,7 @@
 //!
 //! [`read_proto`] reads a text, token by token. `specs/Files.antt` defines what a text of statements declares, and
 //! `specs/Faults.antt` which token of any other text is at fault first, and why. The crate uses the tokens of
-//! `proto_tokens`; `proto_parts`, which defines and reads the parts of statements; the types of `proto_file`; and
+//! `proto_lexer`; `proto_grammar`, which defines and reads the parts of statements; the types of `proto_ast`; and
 //! `mrpc_table`.
 //!
 //! The layer above relies on the contract of [`read_proto`]. A file that it returns is what the text reads as
@@ -10,9 +10,9 @@
 //! returns is the text's first one (`fault`). A text reads as at most one file ([`one_file`]), has at most one first
 //! fault ([`one_fault`]), and has exactly one of the two ([`file_or_fault`]).
 //!
-//! The file is valid, and its names and numbers start in the order of its lists (`Order` of `proto_file`,
-//! [`file_is_ordered`]); so it is as a file that is resolved alone (`Together` of `proto_file`,
-//! [`alone_is_ordered`]). They lie within the text (`Within` of `proto_file`, [`file_is_within`]).
+//! The file is valid, and its names and numbers start in the order of its lists (`Order` of `proto_ast`,
+//! [`file_is_ordered`]); so it is as a file that is resolved alone (`Together` of `proto_ast`,
+//! [`alone_is_ordered`]). They lie within the text (`Within` of `proto_ast`, [`file_is_within`]).
 #![tactic(auto)]
 
 mod draft;

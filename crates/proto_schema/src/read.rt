@@ -3,22 +3,22 @@
 ghost use Rattle.std.specs.Prelude.{◌≡◌, ◌↔◌, ◌<◌, ◌≤◌, ◌^◌, ◌+◌, IsTrue, ℕ, List, IfOk, IfErr, MatchOption, MatchResult};
 ghost use Rattle.std.specs.Prelude.{codes, length, true, false, Ok};
 ghost use Rattle.std.specs.Str.{bytes_eq};
-ghost use Rattle.proto_tokens.specs.Strings.{string_value as value_of};
-ghost use Rattle.proto_tokens.specs.Tokens.{IsNext, AreTokens, line_at, is_last, literal_of};
-ghost use Rattle.proto_tokens.specs.declared.token.Token.{Token};
-ghost use Rattle.proto_tokens.specs.declared.token.Kind.TheVariants as kinds;
-ghost use Rattle.proto_parts.specs.Lexemes.{lexeme, lexemes};
+ghost use Rattle.proto_lexer.specs.Strings.{string_value as value_of};
+ghost use Rattle.proto_lexer.specs.Tokens.{IsNext, AreTokens, line_at, is_last, literal_of};
+ghost use Rattle.proto_lexer.specs.declared.token.Token.{Token};
+ghost use Rattle.proto_lexer.specs.declared.token.Kind.TheVariants as kinds;
+ghost use Rattle.proto_grammar.specs.Lexemes.{lexeme, lexemes};
 ghost use Rattle.proto_schema.specs.Files.{nothing_said};
-ghost use Rattle.proto_parts.specs.Lexemes.{is_no_token};
+ghost use Rattle.proto_grammar.specs.Lexemes.{is_no_token};
 ghost use Rattle.proto_schema.specs.Faults.{IsTextOf, IsFaultOf};
-ghost use Rattle.proto_file.specs.declared.file.File.{File};
-ghost use Rattle.proto_file.specs.declared.file.Word.{Word};
-ghost use Rattle.proto_parts.specs.declared.fault.ProtoFault.TheVariants as faults;
-ghost use Rattle.proto_parts.specs.Reading.{Lies};
+ghost use Rattle.proto_ast.specs.declared.file.File.{File};
+ghost use Rattle.proto_ast.specs.declared.file.Word.{Word};
+ghost use Rattle.proto_grammar.specs.declared.fault.ProtoFault.TheVariants as faults;
+ghost use Rattle.proto_grammar.specs.Reading.{Lies};
 ghost use Rattle.proto_schema.specs.Running.{Comes, Failed, Follows, AreTokensFrom, run, reading, behind_word, behind_step, draft_of};
 ghost use Rattle.proto_schema.specs.Running.{place_of, is_over, is_too_deep as too_deep, depth};
 ghost use Rattle.proto_schema.specs.Running.{statement_step as statement_reading};
-ghost use Rattle.proto_parts.specs.Lexemes.{Lexeme};
+ghost use Rattle.proto_grammar.specs.Lexemes.{Lexeme};
 ghost use Rattle.proto_schema.specs.declared.statement.State.TheVariants as states;
 ghost use Rattle.proto_schema.specs.declared.statement.Step.TheVariants as steps;
 ghost use Rattle.proto_schema.specs.declared.statement.Said.TheVariants as said;
@@ -26,11 +26,11 @@ ghost use Rattle.proto_schema.specs.declared.statement.Said.TheVariants as said;
 use crate::draft::Draft;
 use crate::statement::{Opening, Place, Said, State, Step, statement_step};
 use mrpc_table::Memory;
-use proto_file::{File, Span, Word};
-use proto_parts::{
+use proto_ast::{File, Span, Word};
+use proto_grammar::{
     ProtoFault, ProtoReason, bytes_of, fault_at, is_mark, is_word, span_of, unexpected,
 };
-use proto_tokens::{Kind, Token, next_token, one_list, one_token, string_value};
+use proto_lexer::{Kind, Token, next_token, one_list, one_token, string_value};
 use std::alloc::Global;
 
 // The next token of a text.

@@ -2,27 +2,27 @@
 
 ghost use Rattle.std.specs.Prelude.{◌≡◌, ◌<◌, ◌^◌, ℕ, List, Ok, true, false, if◌then◌else◌};
 ghost use Rattle.std.specs.Str.{bytes_eq};
-ghost use Rattle.proto_tokens.specs.Tokens.{literal_of};
-ghost use Rattle.proto_tokens.specs.declared.token.Kind.TheVariants as kinds;
-ghost use Rattle.proto_parts.specs.Lexemes.{lexeme, word_at, opening_brace, semicolon};
-ghost use Rattle.proto_parts.specs.Reading.{Lies, Gives, wrong, if_name, is_mark as is_the_mark};
-ghost use Rattle.proto_parts.specs.Reading.{full_step as full_reading, option_step as option_reading, option_depth};
-ghost use Rattle.proto_parts.specs.Reading.{field_step as field_reading, field_depth, value_step as value_reading};
-ghost use Rattle.proto_parts.specs.Reading.{value_depth, reserved_step as reserved_reading, rpc_step as rpc_reading};
+ghost use Rattle.proto_lexer.specs.Tokens.{literal_of};
+ghost use Rattle.proto_lexer.specs.declared.token.Kind.TheVariants as kinds;
+ghost use Rattle.proto_grammar.specs.Lexemes.{lexeme, word_at, opening_brace, semicolon};
+ghost use Rattle.proto_grammar.specs.Reading.{Lies, Gives, wrong, if_name, is_mark as is_the_mark};
+ghost use Rattle.proto_grammar.specs.Reading.{full_step as full_reading, option_step as option_reading, option_depth};
+ghost use Rattle.proto_grammar.specs.Reading.{field_step as field_reading, field_depth, value_step as value_reading};
+ghost use Rattle.proto_grammar.specs.Reading.{value_depth, reserved_step as reserved_reading, rpc_step as rpc_reading};
 ghost use Rattle.proto_schema.specs.Running;
 ghost use Rattle.proto_schema.specs.declared.statement.Place.TheVariants as places;
 ghost use Rattle.proto_schema.specs.declared.statement.State.TheVariants as states;
 ghost use Rattle.proto_schema.specs.declared.statement.Said.TheVariants as said;
 ghost use Rattle.proto_schema.specs.declared.statement.Step.TheVariants as steps;
 
-use proto_file::{FieldDecl, FieldLabel, Import, Ranges, RpcDecl, ValueDecl, Word, Words};
-use proto_parts::{
+use proto_ast::{FieldDecl, FieldLabel, Import, Ranges, RpcDecl, ValueDecl, Word, Words};
+use proto_grammar::{
     FieldState, FieldStep, NameState, NameStep, OptionState, OptionStep, ProtoFault, ProtoReason,
     ReservedPart, ReservedState, ReservedStep, RpcState, RpcStep, ValueState, ValueStep, bytes_of,
     fault_at, field_step, full_step, identifier_of, is_mark, is_word, option_step, reserved_step,
     rpc_step, span_of, unexpected, value_step, word_of,
 };
-use proto_tokens::{Kind, Token, string_value};
+use proto_lexer::{Kind, Token, string_value};
 use std::alloc::Global;
 
 // Where a statement is.

@@ -5,10 +5,10 @@ use Rattle.mrpc_base.specs.Heap.{Heap}
 use Rattle.mrpc_base.specs.Quota.{Counters}
 use Rattle.mrpc_table.specs.declared.limits.TheConstants.{MAX_HEAP, MIN_HEAP}
 use Rattle.engine_core.specs.declared.op.Op.{Op}
-use Rattle.script_text.specs.Lines.{op_in}
-use Rattle.script_text.specs.declared.script.Line.{Line}
-use Rattle.script_text.specs.declared.script.Line.TheVariants as line
-use Rattle.script_text.specs.declared.script.Script.{Script}
+use Rattle.replay_script.specs.Lines.{op_in}
+use Rattle.replay_script.specs.declared.script.Line.{Line}
+use Rattle.replay_script.specs.declared.script.Line.TheVariants as line
+use Rattle.replay_script.specs.declared.script.Script.{Script}
 use Rattle.replay_run.specs.Kept.{AreInOrder, BrokenOn, BrokenWhere, DoesWhere, DoneOn, DoneWhere, IsListed, IsOf}
 use Rattle.replay_run.specs.Kept.{IsResting, IsStored, Keeps, MayDo, MayOperate, OnRan, StoppedOn, StoppedWhere}
 use Rattle.replay_run.specs.declared.connection.Connection.{Connection}

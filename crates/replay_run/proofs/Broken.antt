@@ -8,8 +8,8 @@ use Rattle.mrpc_table.specs.declared.table.Table.{Table}
 use Rattle.frame_transport.specs.Links.{IsLater, IsRefused, failures_of, frames_of, sink_of}
 use Rattle.frame_transport.specs.declared.byte_link.ByteLink.{ByteLink}
 use Rattle.frame_transport.specs.declared.format.TheConstants.{HEADER_LEN}
-use Rattle.script_text.specs.declared.script.Line.TheVariants as line
-use Rattle.script_text.specs.declared.script.Script.{Script}
+use Rattle.replay_script.specs.declared.script.Line.TheVariants as line
+use Rattle.replay_script.specs.declared.script.Script.{Script}
 use Rattle.call_history.specs.Behind.{Behind, standing}
 use Rattle.call_history.specs.Draining.{BeginsToDrain}
 use Rattle.call_history.specs.Events.{Comes, Course, IsReady, changes, fails, has_turn, is_away, is_sent, link_failed, refused_for_link, rises, stays, takes}

@@ -7,12 +7,12 @@ use Rattle.std.proofs.lemmas.Bool.{eq-eqb, ne_eqb}
 use Rattle.std.proofs.lemmas.Bool.Decides.{nat_tests}
 use Rattle.engine_core.specs.Chains.{Chain}
 use Rattle.engine_core.specs.declared.op.Op.{Op}
-use Rattle.policy_blocks.specs.declared.item.NamedPolicy.{NamedPolicy}
-use Rattle.script_words.specs.declared.fault.ScriptReason.TheVariants.{Unknown}
-use Rattle.script_text.specs.Lines.{heap_of, op_in, is_conn, conn_of, chain_of, chain_behind, new_chain, done, Allows, not_open}
-use Rattle.script_text.specs.declared.script.Line.{Line}
-use Rattle.script_text.specs.declared.script.Line.TheVariants as line
-use Rattle.script_text.specs.declared.script.Script.{Script}
+use Rattle.policy_declarations.specs.declared.item.NamedPolicy.{NamedPolicy}
+use Rattle.script_grammar.specs.declared.fault.ScriptReason.TheVariants.{Unknown}
+use Rattle.replay_script.specs.Lines.{heap_of, op_in, is_conn, conn_of, chain_of, chain_behind, new_chain, done, Allows, not_open}
+use Rattle.replay_script.specs.declared.script.Line.{Line}
+use Rattle.replay_script.specs.declared.script.Line.TheVariants as line
+use Rattle.replay_script.specs.declared.script.Script.{Script}
 use Rattle.call_history.specs.Behind.{Behind, chain, taken}
 use Rattle.call_history.specs.Events.{Comes, Course, Event, accepts, fails, operates, sends, shows, turns, turns_away, takes, is_away, changes, rises, stays, has_turn, is_sent, link_failed}
 use Rattle.call_history.specs.Rules.{Under}

@@ -2,10 +2,10 @@
 use Rattle.std.proofs.Common.{◌≡◌, ◌≢◌, ℕ, List, [], ◌∷◌, ◌++◌, refl, sym, ap, ◌∙◌, subst, append-nil, append_assoc, arith}
 use Rattle.std.specs.Prelude.{None}
 use Rattle.std.specs.List.{AllByRecursion}
-use Rattle.script_text.specs.Lines.{heap_of, conn_of, AreAllowed, Allows, IsScript}
-use Rattle.script_text.specs.declared.script.Line.{Line}
-use Rattle.script_text.specs.declared.script.Line.TheVariants as line
-use Rattle.script_text.specs.declared.script.Script.{Script}
+use Rattle.replay_script.specs.Lines.{heap_of, conn_of, AreAllowed, Allows, IsScript}
+use Rattle.replay_script.specs.declared.script.Line.{Line}
+use Rattle.replay_script.specs.declared.script.Line.TheVariants as line
+use Rattle.replay_script.specs.declared.script.Script.{Script}
 use Rattle.replay_run.specs.Follows.{Opened, State, start, new_one, Does, GoesOn, Step, opens, goes_on, Leads}
 use Rattle.replay_run.proofs.Built.{AreBuilt, AreNew, IsBuilt, built-one, built-other, does-keeps, does-moves, heap-opened, new-more, opened-new}
 use Rattle.replay_run.proofs.Followed.{allowed-front}

@@ -6,8 +6,8 @@ use Rattle.mrpc_base.specs.Quota.{Counters}
 use Rattle.engine_core.specs.Moves.{first_at}
 use Rattle.frame_transport.specs.Links.{IsLater, failures_of, frames_of, sink_of}
 use Rattle.frame_transport.specs.declared.byte_link.ByteLink.{ByteLink}
-use Rattle.script_text.specs.declared.script.Line.TheVariants as line
-use Rattle.script_text.specs.declared.script.Script.{Script}
+use Rattle.replay_script.specs.declared.script.Line.TheVariants as line
+use Rattle.replay_script.specs.declared.script.Script.{Script}
 use Rattle.call_history.specs.Behind.{chain}
 use Rattle.call_history.specs.Draining.{BeginsToDrain, Drains}
 use Rattle.call_history.specs.Events.{Comes, Course, has_turn, is_away, changes, is_sent, link_failed, rises, sends, stays, takes}

@@ -11,9 +11,9 @@ use Rattle.std.proofs.lemmas.List.Concat.{flat_map-append}
 use Rattle.std.proofs.lemmas.List.FromFn.{length-range_with_len}
 use Rattle.mrpc_base.specs.Quota.{Counters, drawn_in, tickets_of}
 use Rattle.mrpc_base.specs.declared.tickets.TheConstants.{WINDOWS}
-use Rattle.script_text.specs.Lines.{IsScript}
-use Rattle.script_text.specs.declared.script.Line.{Line}
-use Rattle.script_text.specs.declared.script.Script.{Script}
+use Rattle.replay_script.specs.Lines.{IsScript}
+use Rattle.replay_script.specs.declared.script.Line.{Line}
+use Rattle.replay_script.specs.declared.script.Script.{Script}
 use Rattle.call_history.specs.Legal.{History, behind}
 use Rattle.audit_text.specs.Lines.{audit, audit_line}
 use Rattle.replay_run.specs.Follows.{Opened, State, start, on_connection, under}

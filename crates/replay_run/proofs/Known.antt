@@ -3,8 +3,8 @@ use Rattle.std.proofs.Common.{◌≡◌, ℕ, ◌+◌, List, [], ◌∷◌, ◌+
 use Rattle.std.specs.List.{AllByRecursion}
 use Rattle.std.proofs.lemmas.List.Elements.{All-nil}
 use Rattle.mrpc_table.specs.declared.call.Call.{Call}
-use Rattle.script_text.specs.declared.script.Line.{Line}
-use Rattle.script_text.specs.declared.script.Script.{Script}
+use Rattle.replay_script.specs.declared.script.Line.{Line}
+use Rattle.replay_script.specs.declared.script.Script.{Script}
 use Rattle.call_history.specs.Behind.{Behind, chain}
 use Rattle.call_history.specs.Events.{Course, Comes, Event, accepts, operates, sends, shows, turns, turns_away, fails, takes, is_away, changes, rises, stays, has_turn, is_sent, link_failed}
 use Rattle.call_history.specs.Rules.{Under}

@@ -4,11 +4,11 @@ use Rattle.std.specs.Prelude.{Option, Some, None}
 use Rattle.std.specs.List.{AllByRecursion}
 use Rattle.std.proofs.lemmas.Bool.{eq-eqb, ne_eqb}
 use Rattle.engine_core.specs.declared.op.Op.{Op}
-use Rattle.policy_blocks.specs.declared.item.NamedPolicy.{NamedPolicy}
-use Rattle.script_words.specs.declared.fault.ScriptReason.TheVariants.{Known}
-use Rattle.script_text.specs.Lines.{heap_of, op_in, Allows, is_open}
-use Rattle.script_text.specs.declared.script.Line.{Line}
-use Rattle.script_text.specs.declared.script.Line.TheVariants.{Conn, Store, Race, Submit, Attach, Detach, Upgrade, Moment, Turn, Send, Drain}
+use Rattle.policy_declarations.specs.declared.item.NamedPolicy.{NamedPolicy}
+use Rattle.script_grammar.specs.declared.fault.ScriptReason.TheVariants.{Known}
+use Rattle.replay_script.specs.Lines.{heap_of, op_in, Allows, is_open}
+use Rattle.replay_script.specs.declared.script.Line.{Line}
+use Rattle.replay_script.specs.declared.script.Line.TheVariants.{Conn, Store, Race, Submit, Attach, Detach, Upgrade, Moment, Turn, Send, Drain}
 
 -- the numbers of the connections that they open
 abbrev pub openings : List Line → List ℕ

@@ -14,12 +14,12 @@ use Rattle.engine_core.specs.Policies.{IsPolicy, KnowsTenantOf}
 use Rattle.engine_core.specs.declared.op.Op.{Op}
 use Rattle.engine_core.specs.declared.op.Op.TheVariants.{Attach, Detach, Upgrade}
 use Rattle.engine_core.specs.declared.policy.Policy.TheVariants.{Count}
-use Rattle.policy_blocks.specs.declared.item.NamedPolicy.{NamedPolicy}
-use Rattle.script_words.specs.declared.fault.ScriptReason.TheVariants.{At, Place, Unknown}
-use Rattle.script_text.specs.Lines.{heap_of, op_in, is_conn, conn_of, chain_of, reason_of, Allows, IsPlace, IsScript, is_refused, no_engine, no_load, no_place_there, not_open}
-use Rattle.script_text.specs.declared.script.Line.{Line}
-use Rattle.script_text.specs.declared.script.Line.TheVariants as line
-use Rattle.script_text.specs.declared.script.Script.{Script}
+use Rattle.policy_declarations.specs.declared.item.NamedPolicy.{NamedPolicy}
+use Rattle.script_grammar.specs.declared.fault.ScriptReason.TheVariants.{At, Place, Unknown}
+use Rattle.replay_script.specs.Lines.{heap_of, op_in, is_conn, conn_of, chain_of, reason_of, Allows, IsPlace, IsScript, is_refused, no_engine, no_load, no_place_there, not_open}
+use Rattle.replay_script.specs.declared.script.Line.{Line}
+use Rattle.replay_script.specs.declared.script.Line.TheVariants as line
+use Rattle.replay_script.specs.declared.script.Script.{Script}
 use Rattle.call_history.specs.Behind.{taken}
 use Rattle.chain_upgrade.specs.Chains.{chain_of as chain_in}
 use Rattle.conn_core.specs.Connections.{IsConnection, behind}

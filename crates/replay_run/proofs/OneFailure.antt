@@ -6,10 +6,10 @@ use Rattle.std.specs.List.{AllByRecursion}
 use Rattle.mrpc_table.specs.declared.call.Call.{Call}
 use Rattle.mrpc_table.specs.declared.table.Table.{Table}
 use Rattle.engine_core.specs.Moves.{first_at}
-use Rattle.script_text.specs.Lines.{AreAllowed, IsScript, conn_of}
-use Rattle.script_text.specs.declared.script.Line.{Line}
-use Rattle.script_text.specs.declared.script.Line.TheVariants as line
-use Rattle.script_text.specs.declared.script.Script.{Script}
+use Rattle.replay_script.specs.Lines.{AreAllowed, IsScript, conn_of}
+use Rattle.replay_script.specs.declared.script.Line.{Line}
+use Rattle.replay_script.specs.declared.script.Line.TheVariants as line
+use Rattle.replay_script.specs.declared.script.Script.{Script}
 use Rattle.call_history.specs.Behind.{Behind, chain}
 use Rattle.call_history.specs.Draining.{BeginsToDrain, SendsSome}
 use Rattle.call_history.specs.Events.{Comes, Course, IsCourse, IsReady, fails, sends, takes, is_away, changes, rises, stays, has_turn, is_sent, link_failed}

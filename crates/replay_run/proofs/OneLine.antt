@@ -8,10 +8,10 @@ use Rattle.engine_core.specs.declared.outcome.Outcome.{Outcome}
 use Rattle.engine_core.specs.Chains.{Entry}
 use Rattle.engine_core.specs.declared.call_row.TheConstants.{MAX_CALLS}
 use Rattle.graph_form.specs.Malformed.{ReadsBy}
-use Rattle.script_text.specs.Lines.{op_in}
-use Rattle.script_text.specs.declared.script.Line.{Line}
-use Rattle.script_text.specs.declared.script.Line.TheVariants as line
-use Rattle.script_text.specs.declared.script.Script.{Script}
+use Rattle.replay_script.specs.Lines.{op_in}
+use Rattle.replay_script.specs.declared.script.Line.{Line}
+use Rattle.replay_script.specs.declared.script.Line.TheVariants as line
+use Rattle.replay_script.specs.declared.script.Script.{Script}
 use Rattle.call_history.specs.Behind.{Behind, chain, standing}
 use Rattle.call_history.specs.Draining.{Drains}
 use Rattle.call_history.specs.Events.{Comes, Course, HasTurn, IsCourse, accepts, operates, sends, shows, turned}

@@ -5,8 +5,8 @@ use Rattle.engine_core.specs.Chains.{Entry}
 use Rattle.engine_core.specs.declared.outcome.Outcome.{Outcome}
 use Rattle.engine_core.specs.declared.outcome.Outcome.TheVariants as outcomes
 use Rattle.mrpc_table.specs.declared.call.Call.{Call}
-use Rattle.script_text.specs.declared.script.Line.{Line}
-use Rattle.script_text.specs.declared.script.Script.{Script}
+use Rattle.replay_script.specs.declared.script.Line.{Line}
+use Rattle.replay_script.specs.declared.script.Script.{Script}
 use Rattle.call_history.specs.Behind.{Behind}
 use Rattle.call_history.specs.Draining.{Ending, at_rest, again, Turns, is_idle, is_held, redacts, goes, Passes, is_over, next, begins_again, SendsSome, none, one, BeginsToDrain}
 use Rattle.call_history.specs.Events.{Course, Comes, Event, accepts, operates, sends, shows, turns, turns_away, fails}

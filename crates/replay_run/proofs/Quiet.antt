@@ -4,9 +4,9 @@ use Rattle.std.specs.Prelude.{Err, IfErr, Ok, OnOk, Option, Result}
 use Rattle.mrpc_base.specs.Heap.{Heap}
 use Rattle.mrpc_base.specs.Quota.{Counters}
 use Rattle.mrpc_table.specs.declared.table.Table.{Table}
-use Rattle.script_text.specs.declared.script.Line.{Line}
-use Rattle.script_text.specs.declared.script.Line.TheVariants as line
-use Rattle.script_text.specs.declared.script.Script.{Script}
+use Rattle.replay_script.specs.declared.script.Line.{Line}
+use Rattle.replay_script.specs.declared.script.Line.TheVariants as line
+use Rattle.replay_script.specs.declared.script.Script.{Script}
 use Rattle.call_history.specs.Events.{Comes, Course, Event, accepts, operates, shows, turns_away}
 use Rattle.call_history.specs.Frames.{frames_behind}
 use Rattle.call_history.specs.Tickets.{tickets_behind}

@@ -4,10 +4,10 @@ use Rattle.std.specs.Prelude.{Err, IfErr, Ok, OnErr, OnOk, Option, Result}
 use Rattle.std.specs.Io.KnownBytes.{Appends}
 use Rattle.mrpc_base.specs.Faults.{HasCause}
 use Rattle.mrpc_base.specs.Quota.{Counters}
-use Rattle.script_text.specs.Lines.{is_conn}
-use Rattle.script_text.specs.declared.script.Line.{Line}
-use Rattle.script_text.specs.declared.script.Line.TheVariants as line
-use Rattle.script_text.specs.declared.script.Script.{Script}
+use Rattle.replay_script.specs.Lines.{is_conn}
+use Rattle.replay_script.specs.declared.script.Line.{Line}
+use Rattle.replay_script.specs.declared.script.Line.TheVariants as line
+use Rattle.replay_script.specs.declared.script.Script.{Script}
 use Rattle.conn_core.specs.Connections.{IsConnection}
 use Rattle.replay_run.specs.Kept.{BrokenOn, DoneOn, DoneTold, IsTold, OnRan, StopsAt, TellsSome, behind_failure, behind_line, untold}
 use Rattle.replay_run.specs.declared.connection.Connection.{Connection}

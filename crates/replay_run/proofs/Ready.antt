@@ -8,10 +8,10 @@ use Rattle.engine_core.specs.Policies.{IsPolicy, KnowsTenantOf}
 use Rattle.engine_core.specs.declared.op.Op.{Op}
 use Rattle.engine_core.specs.declared.op.Op.TheVariants.{Attach, Detach, Upgrade}
 use Rattle.engine_core.specs.declared.policy.Policy.{Policy}
-use Rattle.policy_blocks.specs.declared.item.NamedPolicy.{NamedPolicy}
-use Rattle.script_text.specs.Lines.{op_in, conn_of, chain_behind, chain_of, new_chain, done}
-use Rattle.script_text.specs.declared.script.Line.{Line}
-use Rattle.script_text.specs.declared.script.Line.TheVariants as line
+use Rattle.policy_declarations.specs.declared.item.NamedPolicy.{NamedPolicy}
+use Rattle.replay_script.specs.Lines.{op_in, conn_of, chain_behind, chain_of, new_chain, done}
+use Rattle.replay_script.specs.declared.script.Line.{Line}
+use Rattle.replay_script.specs.declared.script.Line.TheVariants as line
 
 -- ---- the chains that lines lead to
 

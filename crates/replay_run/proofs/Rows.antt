@@ -26,8 +26,8 @@ use Rattle.graph_form.specs.Malformed.{is_copied as comes_copied}
 use Rattle.graph_form.specs.Placed.{Placed, nothing as no_words, first, word, IsFine, IsSound}
 use Rattle.graph_form.specs.Roles.{value}
 use Rattle.graph_form.specs.declared.reason.Reason.TheVariants.{Address, Presence, Case, Length, Utf8, Narrow, Depth, Loads as TooMany, NoMethod}
-use Rattle.script_text.specs.declared.script.Line.TheVariants as line
-use Rattle.script_text.specs.declared.script.Script.{Script}
+use Rattle.replay_script.specs.declared.script.Line.TheVariants as line
+use Rattle.replay_script.specs.declared.script.Script.{Script}
 use Rattle.call_history.specs.Behind.{Behind}
 use Rattle.call_history.specs.Draining.{at_rest, is_idle as has_none, goes, is_over, next, none, one as sends_one}
 use Rattle.call_history.specs.Events.{Course, beginning, takes, is_away as turned_away, changes, rises, has_turn as comes_round, is_sent as goes_out, link_failed}
@@ -43,7 +43,7 @@ use Rattle.call_history.specs.declared.happening.TookCopy.TheVariants.{Copy}
 use Rattle.replay_run.specs.Follows.{Opened, start, new_one, Does, stores, races, submits, is_away, operates_on}
 use Rattle.replay_run.specs.Follows.{shows_it, is_idle, has_turn, none_ready, is_sent, drains, Fails, by_send}
 use Rattle.replay_run.specs.Follows.{by_drain, GoesOn, Step, opens, goes_on}
-use Rattle.connection_text.specs.Standing.{holding, queue_name}
+use Rattle.connection_audit.specs.Standing.{holding, queue_name}
 use Rattle.replay_run.specs.Stands.{stands_on}
 use Rattle.replay_run.specs.Tickets.{tickets, AreInTurn}
 

@@ -10,10 +10,10 @@ use Rattle.mrpc_base.specs.Quota.{Counters, drawn_in, tickets_of}
 use Rattle.mrpc_base.specs.declared.tickets.TheConstants.{WINDOWS}
 use Rattle.mrpc_table.specs.declared.call.Call.{Call}
 use Rattle.mrpc_table.specs.declared.table.Table.{Table}
-use Rattle.script_text.specs.Lines.{IsScript, conn_of}
-use Rattle.script_text.specs.declared.script.Line.{Line}
-use Rattle.script_text.specs.declared.script.Line.TheVariants as line
-use Rattle.script_text.specs.declared.script.Script.{Script}
+use Rattle.replay_script.specs.Lines.{IsScript, conn_of}
+use Rattle.replay_script.specs.declared.script.Line.{Line}
+use Rattle.replay_script.specs.declared.script.Line.TheVariants as line
+use Rattle.replay_script.specs.declared.script.Script.{Script}
 use Rattle.call_history.specs.Draining.{BeginsToDrain}
 use Rattle.call_history.specs.Events.{Course}
 use Rattle.call_history.specs.Frames.{frame_of, frames, frames_behind}

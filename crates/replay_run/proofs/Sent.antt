@@ -9,8 +9,8 @@ use Rattle.chain_upgrade.specs.declared.turned.Turned.{Turned}
 use Rattle.chain_upgrade.specs.declared.turned.Turned.TheVariants.{Idle, Moved, Held, Refused, Redacted}
 use Rattle.engine_core.specs.declared.outcome.Outcome.{Outcome}
 use Rattle.engine_core.specs.declared.outcome.Outcome.TheVariants as outcomes
-use Rattle.script_text.specs.declared.script.Line.TheVariants as line
-use Rattle.script_text.specs.declared.script.Script.{Script}
+use Rattle.replay_script.specs.declared.script.Line.TheVariants as line
+use Rattle.replay_script.specs.declared.script.Script.{Script}
 use Rattle.call_history.specs.Events.{Comes, Course, Event, turns}
 use Rattle.call_history.specs.Frames.{frames_behind}
 use Rattle.call_history.specs.Rules.{Under}

@@ -1,8 +1,8 @@
 -- After a line that drains a connection, the connection is settled.
 use Rattle.std.proofs.Common.{◌≡◌, map, sym, subst}
 use Rattle.std.specs.Prelude.{Some, None}
-use Rattle.script_text.specs.declared.script.Line.TheVariants.{Drain}
-use Rattle.script_text.specs.declared.script.Script.{Script}
+use Rattle.replay_script.specs.declared.script.Line.TheVariants.{Drain}
+use Rattle.replay_script.specs.declared.script.Script.{Script}
 use Rattle.call_history.specs.Draining.{Drains}
 use Rattle.call_history.specs.Events.{Course, IsCourse}
 use Rattle.call_history.specs.Places.{IsSettled}

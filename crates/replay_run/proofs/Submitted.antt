@@ -4,7 +4,7 @@ use Rattle.mrpc_base.specs.Heap.{Heap, AfterLoad, AfterRoom, stores_of}
 use Rattle.mrpc_table.specs.declared.limits.TheConstants.{MIN_HEAP, MAX_HEAP}
 use Rattle.graph_copy.specs.Copies.{since}
 use Rattle.graph_form.specs.Malformed.{ReadsBy}
-use Rattle.script_text.specs.declared.script.Line.TheVariants as line
+use Rattle.replay_script.specs.declared.script.Line.TheVariants as line
 use Rattle.call_history.specs.Events.{accepts, turns_away}
 use Rattle.call_history.specs.Loads.{IsLoaded, Loads}
 use Rattle.call_history.specs.declared.happening.Taken.{Taken}

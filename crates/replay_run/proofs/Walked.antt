@@ -3,8 +3,8 @@ use Rattle.std.proofs.Common.{◌≡◌, ℕ, ◌+◌, ◌<◌, List, [], ◌∷
 use Rattle.std.specs.Prelude.{Err, Option}
 use Rattle.std.proofs.lemmas.List.{take_more}
 use Rattle.mrpc_base.specs.Quota.{Counters}
-use Rattle.script_text.specs.declared.script.Line.{Line}
-use Rattle.script_text.specs.declared.script.Script.{Script}
+use Rattle.replay_script.specs.declared.script.Line.{Line}
+use Rattle.replay_script.specs.declared.script.Script.{Script}
 use Rattle.replay_run.specs.Kept.{After, Before, OnRan}
 use Rattle.replay_run.specs.declared.connection.Connection.{Connection}
 use Rattle.replay_run.specs.declared.stop.Stop.{Stop}

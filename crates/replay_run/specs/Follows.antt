@@ -7,10 +7,10 @@ use Rattle.engine_core.specs.Moves.{first_at}
 use Rattle.engine_core.specs.declared.op.Op.{Op}
 use Rattle.engine_core.specs.declared.outcome.Outcome.{Outcome}
 use Rattle.graph_form.specs.Malformed.{ReadsBy}
-use Rattle.script_text.specs.Lines.{conn_of, op_in}
-use Rattle.script_text.specs.declared.script.Line.{Line}
-use Rattle.script_text.specs.declared.script.Line.TheVariants as line
-use Rattle.script_text.specs.declared.script.Script.{Script}
+use Rattle.replay_script.specs.Lines.{conn_of, op_in}
+use Rattle.replay_script.specs.declared.script.Line.{Line}
+use Rattle.replay_script.specs.declared.script.Line.TheVariants as line
+use Rattle.replay_script.specs.declared.script.Script.{Script}
 use Rattle.call_history.specs.Behind.{chain}
 use Rattle.call_history.specs.Draining.{BeginsToDrain, Drains}
 use Rattle.call_history.specs.Events.{Course, Comes, Event, IsReady, accepts, beginning, fails, operates, sends, shows, turns, turns_away}

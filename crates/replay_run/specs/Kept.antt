@@ -13,10 +13,10 @@ use Rattle.engine_core.specs.Chains.{Refusal, Refuses}
 use Rattle.engine_core.specs.declared.op.Op.{Op}
 use Rattle.chain_upgrade.specs.Chains.{chain_of}
 use Rattle.graph_copy.specs.Copies.{since}
-use Rattle.script_text.specs.Lines.{op_in}
-use Rattle.script_text.specs.declared.script.Line.{Line}
-use Rattle.script_text.specs.declared.script.Line.TheVariants as line
-use Rattle.script_text.specs.declared.script.Script.{Script}
+use Rattle.replay_script.specs.Lines.{op_in}
+use Rattle.replay_script.specs.declared.script.Line.{Line}
+use Rattle.replay_script.specs.declared.script.Line.TheVariants as line
+use Rattle.replay_script.specs.declared.script.Script.{Script}
 use Rattle.call_history.specs.Behind.{taken}
 use Rattle.call_history.specs.Draining.{BeginsToDrain}
 use Rattle.call_history.specs.Events.{Course, turns_away}

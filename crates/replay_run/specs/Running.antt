@@ -3,9 +3,9 @@ use Rattle.std.specs.Prelude.{◌≡◌, ℕ, ◌<◌, ◌≤◌, ◌⊎◌, Lis
 use Rattle.std.specs.List.{flat_map}
 use Rattle.std.specs.Io.KnownBytes.{Appends}
 use Rattle.mrpc_table.specs.declared.call.Call.{Call}
-use Rattle.script_text.specs.declared.script.Line.{Line}
-use Rattle.script_text.specs.declared.script.Line.TheVariants as line
-use Rattle.script_text.specs.declared.script.Script.{Script}
+use Rattle.replay_script.specs.declared.script.Line.{Line}
+use Rattle.replay_script.specs.declared.script.Line.TheVariants as line
+use Rattle.replay_script.specs.declared.script.Script.{Script}
 use Rattle.call_history.specs.Draining.{BeginsToDrain}
 use Rattle.call_history.specs.Frames.{frames, frame_of}
 use Rattle.audit_text.specs.Lines.{audit}

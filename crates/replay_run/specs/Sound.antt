@@ -1,6 +1,6 @@
 -- Properties of each connection of a script, after any of its lines (this project's own).
 use Rattle.std.specs.Prelude.{◌≡◌, ℕ, All}
-use Rattle.script_text.specs.declared.script.Script.{Script}
+use Rattle.replay_script.specs.declared.script.Script.{Script}
 use Rattle.call_history.specs.Behind.{chain}
 use Rattle.call_history.specs.Events.{Course, IsCourse}
 use Rattle.call_history.specs.Legal.{History, behind}

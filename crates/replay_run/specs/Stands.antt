@@ -1,8 +1,8 @@
 -- The lines of pending calls at the end (this project's own).
 use Rattle.std.specs.Prelude.{ℕ, ◌==◌, List, [], find, option_map, unwrap_or}
 use Rattle.std.specs.List.{flat_map, range_with_len}
-use Rattle.connection_text.specs.Standing.{all_told}
-use Rattle.script_text.specs.declared.limits.TheConstants.{MAX_CONNECTIONS}
+use Rattle.connection_audit.specs.Standing.{all_told}
+use Rattle.replay_script.specs.declared.limits.TheConstants.{MAX_CONNECTIONS}
 use Rattle.replay_run.specs.Follows.{Opened}
 
 -- the lines of a connection, by ascending number of the call

@@ -9,7 +9,7 @@ ghost use Rattle.replay_run.specs.Kept.{IsTold, TellsSome, untold};
 
 use crate::connection::Connection;
 use crate::stop::Stop;
-use connection_text::append_happened;
+use connection_audit::append_happened;
 use mrpc_base::{Sink, write_all};
 use mrpc_table::{Bytes, Memory, Table};
 use std::alloc::Global;

@@ -2,10 +2,10 @@
 
 ghost use Rattle.std.specs.Prelude.{◌≡◌, ◌++◌, All, List, length, map};
 ghost use Rattle.mrpc_table.specs.declared.call.Call.{Call};
-ghost use Rattle.script_text.specs.Lines.{IsScript};
-ghost use Rattle.script_text.specs.declared.script.Line.{Line};
-ghost use Rattle.script_text.specs.declared.script.Line.TheVariants.{Drain};
-ghost use Rattle.script_text.specs.declared.script.Script.{Script};
+ghost use Rattle.replay_script.specs.Lines.{IsScript};
+ghost use Rattle.replay_script.specs.declared.script.Line.{Line};
+ghost use Rattle.replay_script.specs.declared.script.Line.TheVariants.{Drain};
+ghost use Rattle.replay_script.specs.declared.script.Script.{Script};
 ghost use Rattle.call_history.specs.Events.{IsCourse};
 ghost use Rattle.call_history.specs.Frames.{frames};
 ghost use Rattle.call_history.specs.Legal.{IsLegal};

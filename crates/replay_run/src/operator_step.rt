@@ -1,8 +1,8 @@
 //! Operations, and the clock.
 
 ghost use Rattle.std.specs.Prelude.{◌≡◌, ◌≢◌, ◌<◌, ℕ, IfErr, IfOk, None, OnOk, Some, length};
-ghost use Rattle.script_text.specs.Lines.{op_in};
-ghost use Rattle.script_text.specs.declared.script.Line.TheVariants.{Attach, Moment, Upgrade};
+ghost use Rattle.replay_script.specs.Lines.{op_in};
+ghost use Rattle.replay_script.specs.declared.script.Line.TheVariants.{Attach, Moment, Upgrade};
 ghost use Rattle.replay_run.specs.Kept.{DoesWhere, IsResting, Keeps, MayOperate};
 
 use crate::connection::Connection;
@@ -10,8 +10,8 @@ use crate::stop::Stop;
 use chain_upgrade::ChainFault;
 use engine_core::Op;
 use mrpc_table::{Memory, Name};
-use policy_blocks::NamedPolicy;
-use script_text::{Line, Script};
+use policy_declarations::NamedPolicy;
+use replay_script::{Line, Script};
 use std::alloc::Global;
 
 // Applies the operation of an operator's line, which the chain accepts.

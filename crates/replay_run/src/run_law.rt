@@ -4,10 +4,10 @@ ghost use Rattle.std.specs.Prelude.{◌≡◌, ◌≢◌, ◌<◌, ◌≤◌, �
 ghost use Rattle.std.specs.Io.KnownBytes.{Appends};
 ghost use Rattle.mrpc_base.specs.Quota.{Counters, drawn_in};
 ghost use Rattle.mrpc_table.specs.declared.limits.TheConstants.{MAX_HEAP, MIN_HEAP};
-ghost use Rattle.script_text.specs.Lines.{IsScript, conn_of, is_conn};
-ghost use Rattle.script_text.specs.declared.script.Line.{Line};
-ghost use Rattle.script_text.specs.declared.script.Line.TheVariants.{Conn};
-ghost use Rattle.script_text.specs.declared.script.Script.{Script};
+ghost use Rattle.replay_script.specs.Lines.{IsScript, conn_of, is_conn};
+ghost use Rattle.replay_script.specs.declared.script.Line.{Line};
+ghost use Rattle.replay_script.specs.declared.script.Line.TheVariants.{Conn};
+ghost use Rattle.replay_script.specs.declared.script.Script.{Script};
 ghost use Rattle.replay_run.specs.Follows.{new_one};
 ghost use Rattle.replay_run.specs.Kept.{After, Before, Broke, BrokenTold, DoneTold, HaveCounted, IsFresh, IsReady, KnowsTenants, MayDo, StopsAt, TellsSome, opened_of};
 ghost use Rattle.replay_run.specs.Stands.{all_stands};

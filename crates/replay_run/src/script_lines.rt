@@ -7,7 +7,7 @@ ghost use Rattle.mrpc_base.specs.Quota.{drawn_in};
 ghost use Rattle.mrpc_base.specs.declared.tickets.TheConstants.{WINDOWS};
 ghost use Rattle.mrpc_table.specs.Valid.{IsValid};
 ghost use Rattle.mrpc_table.specs.declared.limits.TheConstants.{MAX_HEAP, MIN_HEAP};
-ghost use Rattle.script_text.specs.Lines.{IsScript, conn_of};
+ghost use Rattle.replay_script.specs.Lines.{IsScript, conn_of};
 ghost use Rattle.replay_run.specs.Kept.{After, Before, Broke, BrokenOn, BrokenTold, DoneOn, DoneTold, HasCounted, HasOpened, HaveCounted, IsReady, KnowsTenants, MayDo, OnRan, StoppedOn, StopsAt, TellsSome, opened_of};
 ghost use Rattle.replay_run.specs.Running.{Breaks, Replays, Stops};
 ghost use Rattle.replay_run.specs.Stands.{all_stands};
@@ -21,7 +21,7 @@ use crate::stop::Stop;
 use crate::submission::submit;
 use crate::turns_and_sends::{drain, send, turn};
 use mrpc_base::{PlainTickets, Sink, Tickets, WINDOWS};
-use script_text::{Line, Script};
+use replay_script::{Line, Script};
 use std::alloc::Global;
 
 // No script has this many lines, since its text has at most 16 MiB.

@@ -6,16 +6,16 @@ ghost use Rattle.std.specs.Io.KnownBytes.{Appends};
 ghost use Rattle.mrpc_base.specs.Faults.{HasCause};
 ghost use Rattle.replay_run.specs.Kept.{TellsSome, opened_of};
 ghost use Rattle.replay_run.specs.Stands.{all_stands, stands_on};
-ghost use Rattle.connection_text.specs.Standing.{told_call};
+ghost use Rattle.connection_audit.specs.Standing.{told_call};
 
 use crate::audit_lines::write_line;
 use crate::connection::{Connection, place_of};
 use crate::stop::Stop;
 use conn_core::Conn;
-use connection_text::append_standing;
+use connection_audit::append_standing;
 use mrpc_base::Sink;
 use mrpc_table::{Bytes, Memory};
-use script_text::MAX_CONNECTIONS;
+use replay_script::MAX_CONNECTIONS;
 use std::alloc::Global;
 
 // Writes the lines of all pending calls, by connection and number.

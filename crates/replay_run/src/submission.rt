@@ -2,7 +2,7 @@
 
 ghost use Rattle.std.specs.Prelude.{◌≡◌, ◌+◌, ◌<◌, ◌≤◌, ◌^◌, IfErr, OnOk, length};
 ghost use Rattle.mrpc_table.specs.declared.limits.TheConstants.{MAX_HEAP, MIN_HEAP};
-ghost use Rattle.script_text.specs.declared.script.Line.TheVariants.{Submit};
+ghost use Rattle.replay_script.specs.declared.script.Line.TheVariants.{Submit};
 ghost use Rattle.call_history.specs.Behind.{taken};
 ghost use Rattle.conn_core.specs.Connections.{IsSame, behind};
 ghost use Rattle.replay_run.specs.Kept.{DoesWhere, IsResting, Keeps, Submits};

@@ -3,7 +3,7 @@
 ghost use Rattle.std.specs.Prelude.{◌≡◌, ◌<◌, ℕ, Err, List, Option, length};
 ghost use Rattle.mrpc_base.specs.Quota.{Counters};
 ghost use Rattle.mrpc_base.specs.Faults.{HasCause};
-ghost use Rattle.script_text.specs.declared.script.Line.TheVariants.{Drain, Send, Turn};
+ghost use Rattle.replay_script.specs.declared.script.Line.TheVariants.{Drain, Send, Turn};
 ghost use Rattle.replay_run.specs.Kept.{BrokenWhere, DoneWhere, IsResting, KnowsTenants, OnRan, StoppedWhere};
 
 use crate::connection::Connection;

@@ -7,7 +7,7 @@ use Rattle.mrpc_table.specs.declared.table.Table.{Table}
 use Rattle.app_program.specs.declared.program.ProgramLine.{ProgramLine}
 use Rattle.app_program.specs.declared.program.ProgramLine.TheVariants as program
 use Rattle.app_program.specs.Programs.{IsClientLine, IsClientProgram}
-use Rattle.policy_blocks.specs.Declarations.{nothing}
+use Rattle.policy_declarations.specs.Declarations.{nothing}
 use Rattle.run_plan.specs.Chains.{empty_chain}
 use Rattle.run_plan.specs.Plans.{IsPlan, IsApplication, work}
 use Rattle.run_plan.specs.Ports.{HasClient, peer_in}

@@ -8,9 +8,9 @@ use Rattle.mrpc_table.specs.declared.table.Table.{Table}
 use Rattle.engine_core.specs.Policies.{IsAccess}
 use Rattle.engine_core.specs.declared.policy.Policy.{Policy}
 use Rattle.engine_core.specs.declared.policy.Policy.TheVariants.{Quota}
-use Rattle.policy_blocks.specs.Declarations.{IsSound}
-use Rattle.policy_blocks.specs.declared.item.NamedPolicy.{NamedPolicy}
-use Rattle.policy_blocks.specs.declared.item.Tenant.{Tenant}
+use Rattle.policy_declarations.specs.Declarations.{IsSound}
+use Rattle.policy_declarations.specs.declared.item.NamedPolicy.{NamedPolicy}
+use Rattle.policy_declarations.specs.declared.item.Tenant.{Tenant}
 use Rattle.app_program.specs.Programs.{IsClientProgram, IsServerProgram, submits_of}
 use Rattle.run_plan.specs.Chains.{policy_at, policy_of, IsReadUnder, SaysTheSame, lines_on, NeverRefuses}
 use Rattle.run_plan.specs.Ports.{IsPort, ArePaired, connections_of}

@@ -7,7 +7,7 @@
 //! - Tables are valid, and each policy was read under every table by which it judges.
 //!
 //! A run checks none of this again. `specs/Chains.antt` defines which operations each chain gets. The crate depends
-//! on `mrpc_table`, `policy_access`, `policy_redact`, `engine_core`, `policy_blocks` and `app_program`.
+//! on `mrpc_table`, `policy_access`, `policy_redact`, `engine_core`, `policy_declarations` and `app_program`.
 #![tactic(auto)]
 
 mod application;

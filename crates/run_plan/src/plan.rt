@@ -8,7 +8,7 @@ ghost use Rattle.run_plan.specs.Ports.{application_in, link_in, other_end, peer_
 use crate::application::Application;
 use crate::operator::Operator;
 use mrpc_table::{Name, Sequence, Table};
-use policy_blocks::Declarations;
+use policy_declarations::Declarations;
 
 /// Two connections that talk to each other.
 #[derive(Clone, Copy)]

@@ -3,11 +3,11 @@
 use Rattle.std.proofs.Common.{◌≡◌, ℕ, true, false, pos, List, [], ◌∷◌, codes, Some, None, refl, arith, lit≤, lit<}
 use Rattle.mrpc_table.specs.declared.words.Decimal.TheVariants.{Small}
 use Rattle.app_program.specs.declared.program.ProgramLine.TheVariants as program
-use Rattle.policy_blocks.specs.declared.item.NamedPolicy.{NamedPolicy}
+use Rattle.policy_declarations.specs.declared.item.NamedPolicy.{NamedPolicy}
 use Rattle.run_plan.specs.declared.application.Application.{Application}
 use Rattle.run_plan.specs.declared.application.Role.TheVariants as plan_role
-use Rattle.script_words.specs.Sorts.{number, unbounded}
-use Rattle.script_words.specs.Values.{plain}
+use Rattle.script_grammar.specs.Sorts.{number, unbounded}
+use Rattle.script_grammar.specs.Values.{plain}
 use Rattle.toml.specs.Data.{string, integer, array, table, no_items, item, Members, no_members, member}
 use Rattle.toml.specs.Parse.{parse_document}
 use Rattle.toml.proofs.OnLiterals.{toml_on_literals}
@@ -22,7 +22,7 @@ use Rattle.scenario_lines.specs.declared.form.LineForm.TheVariants as line
 use Rattle.scenario_lines.specs.declared.form.ProgramRole.TheVariants as of
 use Rattle.scenario_lines.specs.declared.reason.LineReason.TheVariants as reason
 use Rattle.scenario.specs.Scenarios.{AppSays, LinkSays, TopAgainst}
-use Rattle.scenario_values.specs.Values.{flag_at, has_keys, number_in}
+use Rattle.scenario_toml.specs.Values.{flag_at, has_keys, number_in}
 use Rattle.scenario.specs.declared.fault.ScenarioReason.TheVariants.{Key, Number, Name, Known, Unknown, Word, Pair as NoPair}
 
 abbrev schema : List ℕ

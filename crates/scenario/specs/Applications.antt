@@ -3,13 +3,13 @@ use Rattle.std.specs.Prelude.{◌≡◌, ℕ, ◌+◌, ◌*◌, ◌<◌, true, f
 use Rattle.mrpc_table.specs.Names.{IsName}
 use Rattle.mrpc_table.specs.declared.policy_lines.RuleReason.{RuleReason}
 use Rattle.mrpc_table.specs.declared.table.Table.{Table}
-use Rattle.proto_file.specs.declared.file.File.{File}
+use Rattle.proto_ast.specs.declared.file.File.{File}
 use Rattle.proto_schema.specs.Faults.{IsTextOf}
 use Rattle.schema_resolve.specs.Resolving.{Resolves}
 use Rattle.engine_core.specs.Chains.{Chain, Refusal, Refuses}
 use Rattle.engine_core.specs.declared.op.Op.{Op}
 use Rattle.engine_core.specs.declared.op.Op.TheVariants as op
-use Rattle.policy_blocks.specs.declared.item.NamedPolicy.{NamedPolicy}
+use Rattle.policy_declarations.specs.declared.item.NamedPolicy.{NamedPolicy}
 use Rattle.run_plan.specs.Chains.{Changing, empty_chain}
 use Rattle.run_plan.specs.declared.limits.TheConstants.{MAX_WORK}
 use Rattle.toml.specs.Data.{Members}
@@ -20,7 +20,7 @@ use Rattle.scenario_lines.specs.declared.form.ProgramRole.{ProgramRole}
 use Rattle.scenario_lines.specs.declared.reason.LineReason.{LineReason}
 use Rattle.scenario.specs.Policies.{LinesFail, name_of, names_of}
 use Rattle.scenario.specs.Reasons.{of_line, of_refusal, of_rule}
-use Rattle.scenario_values.specs.Values.{TheRange, has_keys, is_out, number_in, tables_at, text_at, texts_at}
+use Rattle.scenario_toml.specs.Values.{TheRange, has_keys, is_out, number_in, tables_at, text_at, texts_at}
 use Rattle.scenario.specs.declared.fault.ScenarioReason.{ScenarioReason}
 use Rattle.scenario.specs.declared.fault.ScenarioReason.TheVariants.{Key, Number, Name, Known, Unknown, Schema, OtherKind, Pair, Work}
 use Rattle.scenario.specs.declared.form.Kind.TheVariants as kind

@@ -4,8 +4,8 @@ use Rattle.std.specs.Str.{bytes_eq}
 use Rattle.mrpc_table.specs.declared.limits.TheConstants.{MIN_HEAP, MAX_HEAP, MAX_LOADS}
 use Rattle.run_plan.specs.declared.limits.TheConstants.{MAX_CONNECTIONS, MAX_RING, MAX_WEIGHT, MAX_WORKERS}
 use Rattle.toml.specs.Data.{Members}
-use Rattle.scenario_values.specs.Values.{TheKey, TheRange, a_key, a_range, may_be, has_keys, word_at}
-use Rattle.scenario_values.specs.declared.key.Shape.TheVariants as shape
+use Rattle.scenario_toml.specs.Values.{TheKey, TheRange, a_key, a_range, may_be, has_keys, word_at}
+use Rattle.scenario_toml.specs.declared.key.Shape.TheVariants as shape
 use Rattle.scenario.specs.declared.form.Kind.{Kind}
 use Rattle.scenario.specs.declared.form.Kind.TheVariants as kind
 use Rattle.scenario.specs.declared.form.RoleWord.{RoleWord}

@@ -5,7 +5,7 @@ use Rattle.mrpc_table.specs.Lines.{in_64_bits}
 use Rattle.engine_core.specs.Chains.{Chain, Refusal}
 use Rattle.engine_core.specs.declared.op.Op.{Op}
 use Rattle.engine_core.specs.declared.op.Op.TheVariants as op
-use Rattle.policy_blocks.specs.declared.item.NamedPolicy.{NamedPolicy}
+use Rattle.policy_declarations.specs.declared.item.NamedPolicy.{NamedPolicy}
 use Rattle.run_plan.specs.Chains.{Changing, empty_chain}
 use Rattle.run_plan.specs.declared.limits.TheConstants.{MAX_STEPS}
 use Rattle.toml.specs.Data.{Members}
@@ -19,7 +19,7 @@ use Rattle.scenario_lines.specs.declared.step.StepText.{StepText}
 use Rattle.scenario_lines.specs.declared.step.StepText.TheVariants as text
 use Rattle.scenario.specs.Policies.{names_of}
 use Rattle.scenario.specs.Reasons.{of_line, of_refusal, of_rule}
-use Rattle.scenario_values.specs.Values.{TheRange, has_keys, is_out, texts_at}
+use Rattle.scenario_toml.specs.Values.{TheRange, has_keys, is_out, texts_at}
 use Rattle.scenario.specs.declared.fault.ScenarioReason.{ScenarioReason}
 use Rattle.scenario.specs.declared.fault.ScenarioReason.TheVariants.{Key, Number, Known, Unknown}
 

@@ -10,13 +10,13 @@ use Rattle.policy_redact.specs.Faults as redact_faults
 use Rattle.policy_redact.specs.Texts as redact_texts
 use Rattle.engine_core.specs.declared.policy.Policy.{Policy}
 use Rattle.engine_core.specs.declared.policy.Policy.TheVariants as policy
-use Rattle.policy_blocks.specs.declared.item.NamedPolicy.{NamedPolicy}
-use Rattle.policy_blocks.specs.declared.item.Tenant.{Tenant}
-use Rattle.policy_blocks.specs.declared.limits.TheConstants.{MAX_TENANTS}
+use Rattle.policy_declarations.specs.declared.item.NamedPolicy.{NamedPolicy}
+use Rattle.policy_declarations.specs.declared.item.Tenant.{Tenant}
+use Rattle.policy_declarations.specs.declared.limits.TheConstants.{MAX_TENANTS}
 use Rattle.toml.specs.Data.{Members}
 use Rattle.scenario.specs.Keys.{tenant_keys, per, kind_of, has_policy_keys, policy_ranges, amount, burst, cap}
 use Rattle.scenario.specs.Reasons.{of_rule}
-use Rattle.scenario_values.specs.Values.{TheRange, has_keys, is_out, number_in, word_at, texts_at}
+use Rattle.scenario_toml.specs.Values.{TheRange, has_keys, is_out, number_in, word_at, texts_at}
 use Rattle.scenario.specs.declared.fault.ScenarioReason.{ScenarioReason}
 use Rattle.scenario.specs.declared.fault.ScenarioReason.TheVariants.{Key, Number, Name, Known, Unknown}
 use Rattle.scenario.specs.declared.form.Kind.{Kind}

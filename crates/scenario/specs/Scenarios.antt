@@ -4,7 +4,7 @@ use Rattle.std.specs.Str.{bytes_eq}
 use Rattle.mrpc_table.specs.Names.{IsFullName}
 use Rattle.mrpc_table.specs.Valid.{Ascends}
 use Rattle.mrpc_table.specs.declared.table.Table.{Table}
-use Rattle.policy_blocks.specs.declared.item.NamedPolicy.{NamedPolicy}
+use Rattle.policy_declarations.specs.declared.item.NamedPolicy.{NamedPolicy}
 use Rattle.run_plan.specs.declared.application.Application.{Application}
 use Rattle.run_plan.specs.declared.application.OwnPolicy.{OwnPolicy}
 use Rattle.run_plan.specs.declared.application.OwnSchema.{OwnSchema}
@@ -29,7 +29,7 @@ use Rattle.scenario_lines.specs.declared.form.ProgramRole.TheVariants as program
 use Rattle.scenario_lines.specs.declared.step.StepText.{StepText}
 use Rattle.scenario.specs.Policies.{KindSays, PolicyAgainst, PolicySays, TenantAgainst, TenantSays, name_of}
 use Rattle.scenario.specs.Reasons.{list_of_entry, number_of_entry, order_of}
-use Rattle.scenario_values.specs.Values.{TheRange, flag_at, has_keys, is_out, number_in, text_at, word_at}
+use Rattle.scenario_toml.specs.Values.{TheRange, flag_at, has_keys, is_out, number_in, text_at, word_at}
 use Rattle.scenario.specs.declared.fault.Entry.{Entry}
 use Rattle.scenario.specs.declared.fault.Entry.TheVariants as entry
 use Rattle.scenario.specs.declared.fault.ScenarioFault.{ScenarioFault}

@@ -2,8 +2,8 @@
 
 ghost use Rattle.std.specs.Prelude.{◌≡◌, Some, codes};
 ghost use Rattle.toml.specs.View.{table_view};
-ghost use Rattle.scenario_values.specs.Values.{a_key, has_keys};
-ghost use Rattle.scenario_values.specs.declared.key.Shape.TheVariants as shape;
+ghost use Rattle.scenario_toml.specs.Values.{a_key, has_keys};
+ghost use Rattle.scenario_toml.specs.declared.key.Shape.TheVariants as shape;
 ghost use Rattle.scenario.specs.Keys as keys;
 ghost use Rattle.scenario.specs.Policies as policies;
 ghost use Rattle.scenario.specs.declared.form.RoleWord.TheVariants as role;
@@ -11,7 +11,7 @@ ghost use Rattle.scenario.specs.declared.form.RoleWord.TheVariants as role;
 use crate::form::{Kind, RoleWord};
 use mrpc_table::{MAX_HEAP, MAX_LOADS, MIN_HEAP, is_word};
 use run_plan::{MAX_CONNECTIONS, MAX_RING, MAX_WEIGHT, MAX_WORKERS};
-use scenario_values::{Key, Range, Shape, has_keys, word_at};
+use scenario_toml::{Key, Range, Shape, has_keys, word_at};
 use toml::Table;
 
 // The longest window, and the longest period of a rate, in milliseconds.

@@ -5,7 +5,7 @@ ghost use Rattle.mrpc_table.specs.Valid.{IsValid};
 ghost use Rattle.scenario.specs.Applications.{IsTableIn};
 
 use mrpc_table::{Memory, Table};
-use proto_parts::ProtoFault;
+use proto_grammar::ProtoFault;
 use proto_schema::{alone_is_ordered, read_proto};
 use schema_resolve::{ResolveFault, resolve};
 use std::alloc::Global;

@@ -6,8 +6,8 @@ ghost use Rattle.scenario.specs.Policies.{TenantSays};
 
 use crate::keys::per;
 use mrpc_table::{Memory, Name};
-use policy_blocks::Tenant;
-use scenario_values::word_at;
+use policy_declarations::Tenant;
+use scenario_toml::word_at;
 use std::alloc::Global;
 use toml::Table;
 

@@ -1,3 +1,7 @@
+mod Asking
+mod Declaring
+mod Distinct
+mod FirstPolicyReason
 mod FirstReason
 mod Linked
 mod Linking
@@ -5,4 +9,14 @@ mod Listing
 mod Lists
 mod Naming
 mod OneFault
+mod OnePolicy
+mod Owned
+mod PolicyListing
+mod PolicyLists
+mod PolicyNaming
 mod Ranges
+mod Reentering
+mod Rereading
+mod Rows
+mod Sound
+mod Using

@@ -8,7 +8,7 @@ use Rattle.std.proofs.lemmas.Option.{same_Some}
 use Rattle.run_plan.specs.declared.plan.Pair.{Pair}
 use Rattle.toml.specs.Data.{Members}
 use Rattle.scenario_lines.specs.Programs.{Each}
-use Rattle.scenario_values.specs.Values.{has_keys, is_within_at, number_in}
+use Rattle.scenario_toml.specs.Values.{has_keys, is_within_at, number_in}
 use Rattle.scenario.specs.Applications.{IsClientOn, LinkAgainst, all_ends, app_tables, conn_of, conns_of, ends_of}
 use Rattle.scenario.specs.Applications as against
 use Rattle.scenario.specs.Keys.{end_a, end_b, link_keys, link_ranges, role_of}

@@ -5,7 +5,7 @@ ghost use Rattle.std.specs.List.{list_all};
 ghost use Rattle.toml.specs.Data.{Members};
 ghost use Rattle.toml.specs.View.{table_view};
 ghost use Rattle.scenario_lines.specs.Programs.{Each};
-ghost use Rattle.scenario_values.specs.Values.{is_within_at, number_in};
+ghost use Rattle.scenario_toml.specs.Values.{is_within_at, number_in};
 ghost use Rattle.scenario.specs.Applications.{LinkAgainst, app_tables};
 ghost use Rattle.scenario.specs.Keys as keys;
 ghost use Rattle.scenario.specs.Keys.{link_ranges};
@@ -18,7 +18,7 @@ use mrpc_table::Sequence;
 use run_plan::Pair;
 use scenario::keys::{end_a, end_b, has_link_keys};
 use scenario::{Entry, RoleWord, ScenarioFault, ScenarioReason, earlier, reason_if};
-use scenario_values::are_within;
+use scenario_toml::are_within;
 use std::alloc::Global;
 use toml::Table;
 

@@ -18,7 +18,7 @@ use Rattle.run_plan.specs.declared.limits.TheConstants.{MAX_CONNECTIONS, MAX_RIN
 use Rattle.run_plan.specs.declared.plan.Plan.{Plan}
 use Rattle.mrpc_table.specs.declared.limits.TheConstants.{MIN_HEAP, MAX_HEAP}
 use Rattle.toml.specs.Data.{Members}
-use Rattle.scenario_values.specs.Values.{TheRange, number_in, text_at}
+use Rattle.scenario_toml.specs.Values.{TheRange, number_in, text_at}
 use Rattle.scenario.specs.Applications.{AppAgainst, HasTable, app_tables, names_in, chain_of, submissions, work}
 use Rattle.scenario.specs.Applications as against
 use Rattle.scenario.specs.Keys.{app_ranges, conn, heap, loads, receive, ring, weight}

@@ -10,7 +10,7 @@ use Rattle.engine_core.specs.Chains.{Chain, IsChain}
 use Rattle.engine_core.specs.declared.op.Op.{Op}
 use Rattle.engine_core.specs.declared.op.Op.TheVariants as op
 use Rattle.engine_core.specs.declared.policy.Policy.{Policy}
-use Rattle.policy_blocks.specs.declared.item.NamedPolicy.{NamedPolicy}
+use Rattle.policy_declarations.specs.declared.item.NamedPolicy.{NamedPolicy}
 use Rattle.run_plan.specs.Chains.{Changing, NeverRefuses, chained, empty_chain, label_at, lines_on, op_of, operator_in, policy_of, steps_in, with_policy}
 use Rattle.run_plan.specs.Plans.{IsOwnPolicy}
 use Rattle.run_plan.specs.declared.application.Application.{Application}
@@ -25,7 +25,7 @@ use Rattle.scenario_lines.specs.Programs.{Each}
 use Rattle.scenario_lines.specs.Steps.{StepSays as LineTells}
 use Rattle.scenario_lines.specs.declared.step.StepText.{StepText}
 use Rattle.scenario_lines.specs.declared.step.StepText.TheVariants as text
-use Rattle.scenario_values.specs.Values.{text_at}
+use Rattle.scenario_toml.specs.Values.{text_at}
 use Rattle.scenario.specs.Applications.{AppAgainst, AreAttached, app_tables, chain_of, conn_of, names_in, operator_tables}
 use Rattle.scenario.specs.Applications as against_app
 use Rattle.scenario.specs.Lines.{policy_in}

@@ -6,7 +6,7 @@ use Rattle.std.proofs.lemmas.Map.Steps.{length-le_from_distinct_below}
 use Rattle.mrpc_table.specs.Valid.{AreDistinct}
 use Rattle.mrpc_table.specs.Lines.{IsIn}
 use Rattle.toml.specs.Data.{Members}
-use Rattle.scenario_values.specs.Values.{TheRange, integer_in, is_out, is_within, natural, number_in}
+use Rattle.scenario_toml.specs.Values.{TheRange, integer_in, is_out, is_within, natural, number_in}
 use Rattle.scenario_laws.proofs.Lists.{there_first, there_more}
 
 in_range : (least most : ℕ) (z : ℤ) → is_within least most z ≡ true → IsIn least most (natural z)

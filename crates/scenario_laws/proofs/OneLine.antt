@@ -7,9 +7,9 @@ use Rattle.mrpc_table.specs.declared.words.Decimal.{Decimal}
 use Rattle.mrpc_table.specs.declared.words.Decimal.TheVariants.{Small, Large}
 use Rattle.app_program.specs.declared.program.ProgramLine.{ProgramLine}
 use Rattle.app_program.specs.declared.program.ProgramLine.TheVariants as program
-use Rattle.script_words.specs.Lines.{AreSaid}
-use Rattle.script_words.specs.Sorts.{Meaning}
-use Rattle.script_words.specs.declared.sort.Sort.{Sort}
+use Rattle.script_grammar.specs.Lines.{AreSaid}
+use Rattle.script_grammar.specs.Sorts.{Meaning}
+use Rattle.script_grammar.specs.declared.sort.Sort.{Sort}
 use Rattle.run_plan.specs.declared.operator.Step.{Step}
 use Rattle.run_plan.specs.declared.operator.StepLine.{StepLine}
 use Rattle.run_plan.specs.declared.operator.StepLine.TheVariants as step_line

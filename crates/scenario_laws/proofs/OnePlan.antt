@@ -6,9 +6,9 @@ use Rattle.mrpc_table.specs.declared.table.Table.{Table}
 use Rattle.engine_core.specs.Chains.{Chain, Changes, IsChain}
 use Rattle.engine_core.specs.declared.op.Op.{Op}
 use Rattle.app_program.specs.declared.program.ProgramLine.{ProgramLine}
-use Rattle.policy_blocks.specs.Declarations.{Declared}
-use Rattle.policy_blocks.specs.declared.item.NamedPolicy.{NamedPolicy}
-use Rattle.policy_blocks.specs.declared.item.Tenant.{Tenant}
+use Rattle.policy_declarations.specs.Declarations.{Declared}
+use Rattle.policy_declarations.specs.declared.item.NamedPolicy.{NamedPolicy}
+use Rattle.policy_declarations.specs.declared.item.Tenant.{Tenant}
 use Rattle.run_plan.specs.Plans.{IsPlan}
 use Rattle.run_plan.specs.declared.application.Application.{Application}
 use Rattle.run_plan.specs.declared.application.Role.{Role}
@@ -21,7 +21,7 @@ use Rattle.toml.specs.Data.{Members}
 use Rattle.scenario_lines.specs.Lines.{LineSays}
 use Rattle.scenario_lines.specs.Programs.{Each}
 use Rattle.scenario_lines.specs.declared.form.ProgramRole.TheVariants.{Client, Server}
-use Rattle.scenario_values.specs.Values.{number_in, text_at}
+use Rattle.scenario_toml.specs.Values.{number_in, text_at}
 use Rattle.scenario.specs.Applications.{app_tables, link_tables, operator_tables, policy_tables, program_of, tenant_tables}
 use Rattle.scenario.specs.Keys.{heap}
 use Rattle.scenario.specs.Operators.{steps_of}

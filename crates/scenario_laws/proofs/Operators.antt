@@ -6,11 +6,11 @@ use Rattle.std.proofs.lemmas.Option.{same_Some}
 use Rattle.mrpc_table.specs.Lines.{words_of}
 use Rattle.mrpc_table.specs.Names.{IsName}
 use Rattle.mrpc_table.specs.Valid.{AreDistinct, Ascends}
-use Rattle.script_words.specs.Lines.{AreSaid}
-use Rattle.script_words.specs.Sorts.{Meaning, name, name_at, name_in}
-use Rattle.script_words.specs.Sorts.{Says as WordSays}
-use Rattle.script_words.specs.declared.sort.Sort.{Sort}
-use Rattle.script_words.specs.declared.sort.Sort.TheVariants as sort
+use Rattle.script_grammar.specs.Lines.{AreSaid}
+use Rattle.script_grammar.specs.Sorts.{Meaning, name, name_at, name_in}
+use Rattle.script_grammar.specs.Sorts.{Says as WordSays}
+use Rattle.script_grammar.specs.declared.sort.Sort.{Sort}
+use Rattle.script_grammar.specs.declared.sort.Sort.TheVariants as sort
 use Rattle.run_plan.specs.Plans.{HasNames, IsOperator}
 use Rattle.run_plan.specs.Ports.{connections_of}
 use Rattle.run_plan.specs.declared.limits.TheConstants.{MAX_STEPS}

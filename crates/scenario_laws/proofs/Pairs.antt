@@ -12,7 +12,7 @@ use Rattle.run_plan.specs.declared.plan.Pair.{Pair}
 use Rattle.run_plan.specs.declared.plan.Plan.{Plan}
 use Rattle.toml.specs.Data.{Members}
 use Rattle.scenario_lines.specs.Programs.{Each}
-use Rattle.scenario_values.specs.Values.{number_in}
+use Rattle.scenario_toml.specs.Values.{number_in}
 use Rattle.scenario.specs.Applications.{AppAgainst, IsClientOn, LinkAgainst, all_ends, app_tables, conn_of, conns_of, ends_of, link_tables}
 use Rattle.scenario.specs.Applications as against
 use Rattle.scenario.specs.Keys.{end_a, end_b, role_of}

@@ -10,7 +10,7 @@ use Rattle.std.proofs.lemmas.Slice.Eq.{bytes_eq-Decides}
 use Rattle.mrpc_table.specs.declared.table.Table.{Table}
 use Rattle.engine_core.specs.declared.policy.Policy.{Policy}
 use Rattle.engine_core.specs.declared.policy.Policy.TheVariants as policy
-use Rattle.policy_blocks.specs.declared.item.NamedPolicy.{NamedPolicy}
+use Rattle.policy_declarations.specs.declared.item.NamedPolicy.{NamedPolicy}
 use Rattle.run_plan.specs.Chains.{policy_at, policy_by}
 use Rattle.run_plan.specs.Plans.{IsInbound, IsOwnPolicy}
 use Rattle.run_plan.specs.declared.application.Application.{Application}
@@ -19,7 +19,7 @@ use Rattle.run_plan.specs.declared.application.OwnSchema.{OwnSchema}
 use Rattle.run_plan.specs.declared.plan.Plan.{Plan}
 use Rattle.toml.specs.Data.{Members, no_members}
 use Rattle.scenario_lines.specs.Programs.{Each}
-use Rattle.scenario_values.specs.Values.{text_at}
+use Rattle.scenario_toml.specs.Values.{text_at}
 use Rattle.scenario.specs.Applications.{AppAgainst, names_in, policy_tables, tenant_tables}
 use Rattle.scenario.specs.Applications as against
 use Rattle.scenario.specs.Keys.{kind_of}

@@ -12,9 +12,9 @@ use Rattle.app_program.specs.Programs as programs
 use Rattle.app_program.specs.declared.program.ProgramLine.{ProgramLine}
 use Rattle.app_program.specs.declared.program.ProgramLine.TheVariants as program
 use Rattle.app_program.specs.declared.program.TheConstants.{MAX_LINES, MAX_REQUEST_STORES, MAX_STORES}
-use Rattle.script_words.specs.Lines.{AreSaid}
-use Rattle.script_words.specs.Sorts.{Meaning, number, number_at}
-use Rattle.script_words.specs.declared.sort.Sort.TheVariants as sort
+use Rattle.script_grammar.specs.Lines.{AreSaid}
+use Rattle.script_grammar.specs.Sorts.{Meaning, number, number_at}
+use Rattle.script_grammar.specs.declared.sort.Sort.TheVariants as sort
 use Rattle.run_plan.specs.Plans.{HasProgram}
 use Rattle.run_plan.specs.Plans as plans
 use Rattle.run_plan.specs.declared.application.Role.{Role}
@@ -29,7 +29,7 @@ use Rattle.scenario_lines.specs.declared.form.ProgramRole.{ProgramRole}
 use Rattle.scenario_lines.specs.declared.form.ProgramRole.TheVariants.{Client, Server}
 use Rattle.scenario_lines.specs.declared.reason.LineReason.{LineReason}
 use Rattle.scenario_lines.specs.declared.reason.LineReason.TheVariants.{Number, Word}
-use Rattle.scenario_values.specs.Values.{number_in}
+use Rattle.scenario_toml.specs.Values.{number_in}
 use Rattle.scenario.specs.Applications.{program_of, role_submits, submissions}
 use Rattle.scenario.specs.Keys.{heap, role_of}
 use Rattle.scenario.specs.Lines.{is_submit, program_role, submits_of}

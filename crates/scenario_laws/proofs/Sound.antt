@@ -8,8 +8,8 @@ use Rattle.mrpc_table.specs.Lines.{IsIn}
 use Rattle.mrpc_table.specs.Names.{IsFullName, is_full_form, is_short_full}
 use Rattle.mrpc_table.specs.declared.limits.TheConstants.{MAX_LOADS}
 use Rattle.mrpc_table.specs.declared.table.Table.{Table}
-use Rattle.policy_blocks.specs.Declarations.{Declared, IsSound}
-use Rattle.policy_blocks.specs.declared.item.NamedPolicy.{NamedPolicy}
+use Rattle.policy_declarations.specs.Declarations.{Declared, IsSound}
+use Rattle.policy_declarations.specs.declared.item.NamedPolicy.{NamedPolicy}
 use Rattle.run_plan.specs.Chains.{IsReadUnder}
 use Rattle.run_plan.specs.Plans.{HasWindow, IsApplication, IsOwnPolicy, IsPlan}
 use Rattle.run_plan.specs.Ports.{connections_of}
@@ -19,7 +19,7 @@ use Rattle.run_plan.specs.declared.limits.TheConstants.{MAX_CONNECTIONS, MAX_WOR
 use Rattle.run_plan.specs.declared.plan.Plan.{Plan}
 use Rattle.toml.specs.Data.{Members}
 use Rattle.scenario_lines.specs.Programs.{Each}
-use Rattle.scenario_values.specs.Values.{TheRange, number_in, word_at}
+use Rattle.scenario_toml.specs.Values.{TheRange, number_in, word_at}
 use Rattle.scenario.specs.Applications.{policy_tables, tenant_tables}
 use Rattle.scenario.specs.Keys.{loads, top_ranges, workers}
 use Rattle.scenario.specs.Policies.{PolicyAgainst, PolicySays, TenantAgainst, TenantSays}

@@ -9,9 +9,10 @@ ghost use Rattle.scenario.specs.declared.fault.Entry.{Entry};
 ghost use Rattle.scenario.specs.declared.fault.ScenarioReason.{ScenarioReason};
 
 use engine_core::{change_is_changed, one_change, stays_chain};
-use scenario_entries::{not_both, one_fault};
-use scenario_policies::{declared_is_sound, one_declaration, one_table, own_is_sound};
-use script_words::one_judgement;
+use scenario_entries::{
+    declared_is_sound, not_both, one_declaration, one_fault, one_table, own_is_sound,
+};
+use script_grammar::one_judgement;
 
 /// The plan of a scenario is valid, so a run need not check what a plan guarantees.
 pub fn a_said_plan_is_sound()

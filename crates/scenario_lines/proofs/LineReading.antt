@@ -1,11 +1,11 @@
 -- A line by the steps of its reading: its form, its words, its place.
 use Rattle.std.proofs.Common.{◌≡◌, ◌≢◌, ℕ, ◌≤◌, List, [], length, Some, refl, sym, ap, ◌∙◌, subst, arith}
 use Rattle.mrpc_table.specs.Lines.{words_of}
-use Rattle.script_words.specs.Lines.{AreSaid, IsAgainst, in_word, miscounted}
-use Rattle.script_words.specs.Sorts.{Meaning}
-use Rattle.script_words.specs.declared.fault.ScriptReason.{ScriptReason}
-use Rattle.script_words.specs.declared.fault.ScriptReason.TheVariants as script
-use Rattle.script_words.specs.declared.sort.Sort.{Sort}
+use Rattle.script_grammar.specs.Lines.{AreSaid, IsAgainst, in_word, miscounted}
+use Rattle.script_grammar.specs.Sorts.{Meaning}
+use Rattle.script_grammar.specs.declared.fault.ScriptReason.{ScriptReason}
+use Rattle.script_grammar.specs.declared.fault.ScriptReason.TheVariants as script
+use Rattle.script_grammar.specs.declared.sort.Sort.{Sort}
 use Rattle.scenario_lines.specs.Forms.{sorts_of}
 use Rattle.scenario_lines.specs.Lines.{IsLine, IsNoPlace, LineAgainst, WordsAgainst, behind, form_of, in_words, no_form, no_place, place_in}
 use Rattle.scenario_lines.specs.Reasons.{IsFirst, of_words, order_of}

@@ -2,13 +2,13 @@
 use Rattle.std.proofs.Common.{◌≡◌, ◌⊎◌, ℕ, ◌≤◌, Bool, true, false, ◌&&◌, ◌||◌, not, List, [], ◌∷◌, length, Some, inl, inr, refl, sym, ap, subst, arith}
 use Rattle.std.proofs.lemmas.Grind.{common_steps}
 use Rattle.mrpc_table.specs.Names.{IsName, is_name_form, is_short}
-use Rattle.script_words.specs.Lines.{IsAgainst, OneOffends, in_word, miscounted}
-use Rattle.script_words.specs.Reasons as scripts
-use Rattle.script_words.specs.Sorts.{Offends}
-use Rattle.script_words.specs.declared.fault.ScriptReason.{ScriptReason}
-use Rattle.script_words.specs.declared.fault.ScriptReason.TheVariants as script
-use Rattle.script_words.specs.declared.sort.Sort.{Sort}
-use Rattle.script_words.specs.declared.sort.Sort.TheVariants as sort
+use Rattle.script_grammar.specs.Lines.{IsAgainst, OneOffends, in_word, miscounted}
+use Rattle.script_grammar.specs.Reasons as scripts
+use Rattle.script_grammar.specs.Sorts.{Offends}
+use Rattle.script_grammar.specs.declared.fault.ScriptReason.{ScriptReason}
+use Rattle.script_grammar.specs.declared.fault.ScriptReason.TheVariants as script
+use Rattle.script_grammar.specs.declared.sort.Sort.{Sort}
+use Rattle.script_grammar.specs.declared.sort.Sort.TheVariants as sort
 use Rattle.scenario_lines.specs.Judging.{is_no_name, lacks_name, ordered}
 use Rattle.scenario_lines.specs.Lines.{WordsAgainst}
 use Rattle.scenario_lines.specs.Reasons.{IsFirst, of_words, order_of}

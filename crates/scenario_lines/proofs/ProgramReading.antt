@@ -13,9 +13,9 @@ use Rattle.app_program.specs.Programs as programs
 use Rattle.app_program.specs.declared.program.ProgramLine.{ProgramLine}
 use Rattle.app_program.specs.declared.program.ProgramLine.TheVariants as program
 use Rattle.app_program.specs.declared.program.TheConstants.{MAX_LINES, MAX_STORES}
-use Rattle.script_words.specs.Lines.{AreSaid}
-use Rattle.script_words.specs.Sorts.{Meaning}
-use Rattle.script_words.specs.declared.sort.Sort.{Sort}
+use Rattle.script_grammar.specs.Lines.{AreSaid}
+use Rattle.script_grammar.specs.Sorts.{Meaning}
+use Rattle.script_grammar.specs.declared.sort.Sort.{Sort}
 use Rattle.scenario_lines.specs.Forms.{sorts_of}
 use Rattle.scenario_lines.specs.Lines.{FormSays, IsNoPlace, LineAgainst, LineSays, behind, in_words, no_form, no_place, place_in}
 use Rattle.scenario_lines.specs.Programs.{Each, ProgramAgainst, ProgramSays, SomeSay, ends_in_reply, in_line, is_reply, most_stores, no_reply, too_many_lines, too_many_stores}

@@ -2,10 +2,10 @@
 use Rattle.std.proofs.Common.{◌≡◌, true, false, [], ◌∷◌, codes, None, refl, arith, lit≤, lit<}
 use Rattle.mrpc_table.specs.declared.words.Decimal.TheVariants.{Small}
 use Rattle.app_program.specs.declared.program.ProgramLine.TheVariants as program
-use Rattle.script_words.specs.Lines.{miscounted}
-use Rattle.script_words.specs.Sorts.{number, unbounded}
-use Rattle.script_words.specs.Values.{plain}
-use Rattle.script_words.specs.declared.fault.ScriptReason.TheVariants as script
+use Rattle.script_grammar.specs.Lines.{miscounted}
+use Rattle.script_grammar.specs.Sorts.{number, unbounded}
+use Rattle.script_grammar.specs.Values.{plain}
+use Rattle.script_grammar.specs.declared.fault.ScriptReason.TheVariants as script
 use Rattle.scenario_lines.specs.Lines.{LineAgainst, LineSays, form_of, no_form, no_place, in_words}
 use Rattle.scenario_lines.specs.Programs.{ProgramAgainst, in_line, ends_in_reply}
 use Rattle.scenario_lines.specs.declared.form.LineForm.TheVariants as line

@@ -6,8 +6,8 @@ use Rattle.std.specs.Prelude.{is_some}
 use Rattle.std.specs.List.{onto_first}
 use Rattle.std.proofs.lemmas.List.{drop_all, drop_more}
 use Rattle.mrpc_table.specs.Lines.{words_of}
-use Rattle.script_words.specs.declared.sort.Sort.{Sort}
-use Rattle.script_words.specs.Rests.{words_in}
+use Rattle.script_grammar.specs.declared.sort.Sort.{Sort}
+use Rattle.script_grammar.specs.Rests.{words_in}
 use Rattle.scenario_lines.specs.Judging.{is_no_name, lacks_name}
 
 -- a line has at least one word

@@ -1,6 +1,6 @@
 -- The code's own: the numbers in the words of a form are in range.
 use Rattle.std.specs.Prelude.{◌≤◌, List}
-use Rattle.script_words.specs.Sorts.{Meaning, number_at}
+use Rattle.script_grammar.specs.Sorts.{Meaning, number_at}
 use Rattle.scenario_lines.specs.declared.form.LineForm.{LineForm}
 use Rattle.scenario_lines.specs.declared.form.LineForm.TheVariants as line
 

@@ -3,12 +3,12 @@ use Rattle.std.specs.Prelude.{ℕ, ◌/◌, ◌^◌, List, [], ◌∷◌, codes,
 use Rattle.std.specs.List.{find}
 use Rattle.std.specs.Str.{bytes_eq}
 use Rattle.app_program.specs.declared.program.TheConstants.{MAX_STORES}
-use Rattle.script_words.specs.Forms.{any, method}
-use Rattle.script_words.specs.Keywords.{spelling}
-use Rattle.script_words.specs.declared.keyword.Keyword.{Keyword}
-use Rattle.script_words.specs.declared.keyword.Keyword.TheVariants as keyword
-use Rattle.script_words.specs.declared.sort.Sort.{Sort}
-use Rattle.script_words.specs.declared.sort.Sort.TheVariants as sort
+use Rattle.script_grammar.specs.Forms.{any, method}
+use Rattle.script_grammar.specs.Keywords.{spelling}
+use Rattle.script_grammar.specs.declared.keyword.Keyword.{Keyword}
+use Rattle.script_grammar.specs.declared.keyword.Keyword.TheVariants as keyword
+use Rattle.script_grammar.specs.declared.sort.Sort.{Sort}
+use Rattle.script_grammar.specs.declared.sort.Sort.TheVariants as sort
 use Rattle.scenario_lines.specs.declared.form.LineForm.{LineForm}
 use Rattle.scenario_lines.specs.declared.form.LineForm.TheVariants as line
 use Rattle.scenario_lines.specs.declared.form.ProgramRole.{ProgramRole}

@@ -1,10 +1,10 @@
 -- The code's own: whether a word of a line is required to be a name, and isn't one.
 use Rattle.std.specs.Prelude.{ℕ, Bool, false, ◌&&◌, ◌||◌, not, if◌then◌else◌, List, [], ◌∷◌}
 use Rattle.mrpc_table.specs.Names.{is_name_form, is_short}
-use Rattle.script_words.specs.declared.fault.ScriptReason.{ScriptReason}
-use Rattle.script_words.specs.declared.fault.ScriptReason.TheVariants as script
-use Rattle.script_words.specs.declared.sort.Sort.{Sort}
-use Rattle.script_words.specs.declared.sort.Sort.TheVariants as sort
+use Rattle.script_grammar.specs.declared.fault.ScriptReason.{ScriptReason}
+use Rattle.script_grammar.specs.declared.fault.ScriptReason.TheVariants as script
+use Rattle.script_grammar.specs.declared.sort.Sort.{Sort}
+use Rattle.script_grammar.specs.declared.sort.Sort.TheVariants as sort
 use Rattle.scenario_lines.specs.declared.reason.LineReason.{LineReason}
 use Rattle.scenario_lines.specs.declared.reason.LineReason.TheVariants.{Number, Name, Word}
 

@@ -6,10 +6,10 @@ use Rattle.mrpc_table.specs.declared.words.Decimal.TheVariants.{Small, Large}
 use Rattle.app_program.specs.Programs.{IsPlace}
 use Rattle.app_program.specs.declared.program.ProgramLine.{ProgramLine}
 use Rattle.app_program.specs.declared.program.ProgramLine.TheVariants as program
-use Rattle.script_words.specs.Lines.{AreSaid, IsAgainst}
-use Rattle.script_words.specs.Sorts.{Meaning, number_at, unbounded_at}
-use Rattle.script_words.specs.declared.fault.ScriptReason.{ScriptReason}
-use Rattle.script_words.specs.declared.sort.Sort.{Sort}
+use Rattle.script_grammar.specs.Lines.{AreSaid, IsAgainst}
+use Rattle.script_grammar.specs.Sorts.{Meaning, number_at, unbounded_at}
+use Rattle.script_grammar.specs.declared.fault.ScriptReason.{ScriptReason}
+use Rattle.script_grammar.specs.declared.sort.Sort.{Sort}
 use Rattle.scenario_lines.specs.Forms.{line_form, sorts_of}
 use Rattle.scenario_lines.specs.Reasons.{of_words}
 use Rattle.scenario_lines.specs.declared.form.LineForm.{LineForm}

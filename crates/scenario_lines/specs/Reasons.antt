@@ -1,7 +1,7 @@
 -- The reasons of faults in lines: their order, and those of a line's words among them.
 use Rattle.std.specs.Prelude.{ℕ, ◌≤◌, Option, Some, None}
-use Rattle.script_words.specs.declared.fault.ScriptReason.{ScriptReason}
-use Rattle.script_words.specs.declared.fault.ScriptReason.TheVariants as script
+use Rattle.script_grammar.specs.declared.fault.ScriptReason.{ScriptReason}
+use Rattle.script_grammar.specs.declared.fault.ScriptReason.TheVariants as script
 use Rattle.scenario_lines.specs.declared.reason.LineReason.{LineReason}
 use Rattle.scenario_lines.specs.declared.reason.LineReason.TheVariants.{Number, Name, Word, Place}
 

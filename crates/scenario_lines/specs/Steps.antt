@@ -1,8 +1,8 @@
 -- What the lines of operators mean, and their faults (this project's own).
 use Rattle.std.specs.Prelude.{◌≡◌, ℕ, List, Option, Some, None}
 use Rattle.mrpc_table.specs.Lines.{words_of}
-use Rattle.script_words.specs.Lines.{AreSaid}
-use Rattle.script_words.specs.Sorts.{Meaning, name_at, number_at, unbounded_at}
+use Rattle.script_grammar.specs.Lines.{AreSaid}
+use Rattle.script_grammar.specs.Sorts.{Meaning, name_at, number_at, unbounded_at}
 use Rattle.scenario_lines.specs.Forms.{step_form, step_sorts}
 use Rattle.scenario_lines.specs.Lines.{WordsAgainst, behind, first_of}
 use Rattle.scenario_lines.specs.declared.form.StepForm.{StepForm}

@@ -4,7 +4,7 @@ ghost use Rattle.std.specs.Prelude.{◌≡◌, ◌≤◌, length};
 ghost use Rattle.scenario_lines.specs.Forms.{line_form, first_word, forms_of, sorts_of, step_form, step_sorts, step_word};
 
 use app_program::MAX_STORES;
-use script_words::{Keyword, Sort};
+use script_grammar::{Keyword, Sort};
 
 /// The role whose program a line belongs to.
 #[derive(Clone, Copy)]

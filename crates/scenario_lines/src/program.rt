@@ -12,7 +12,7 @@ use crate::program_line::read_line;
 use crate::reason::LineReason;
 use app_program::{MAX_LINES, MAX_REQUEST_STORES, MAX_STORES, Program, ProgramLine};
 use mrpc_table::{Memory, is_word};
-use script_words::{first_word, one_judgement};
+use script_grammar::{first_word, one_judgement};
 use std::alloc::Global;
 
 /// The state of reading a program: the lines without a fault, and the first reason of the others.

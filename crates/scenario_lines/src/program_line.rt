@@ -3,7 +3,7 @@
 ghost use Rattle.std.specs.Prelude.{◌≡◌, ◌≤◌, MatchOption, MatchResult, Some};
 ghost use Rattle.app_program.specs.Programs.{IsPlace};
 ghost use Rattle.mrpc_table.specs.declared.words.Decimal.TheVariants.{Small};
-ghost use Rattle.script_words.specs.Meanings.{meanings_of};
+ghost use Rattle.script_grammar.specs.Meanings.{meanings_of};
 ghost use Rattle.scenario_lines.specs.Deciding.{Fits};
 ghost use Rattle.scenario_lines.specs.Lines.{FormSays, IsNoPlace, LineAgainst, LineSays, place_in};
 ghost use Rattle.scenario_lines.specs.Reasons.{IsFirst};
@@ -13,7 +13,7 @@ use crate::reason::LineReason;
 use crate::words::judge_words;
 use app_program::ProgramLine;
 use mrpc_table::Decimal;
-use script_words::{Said, first_word, number_at, one_judgement, unbounded_at};
+use script_grammar::{Said, first_word, number_at, one_judgement, unbounded_at};
 
 // A place of a heap with this many words.
 fn place_in(heap: u32, place: Decimal) -> Option<u32>

@@ -1,7 +1,7 @@
 //! One line of an operator.
 
 ghost use Rattle.std.specs.Prelude.{◌≡◌, MatchResult};
-ghost use Rattle.script_words.specs.Meanings.{meanings_of};
+ghost use Rattle.script_grammar.specs.Meanings.{meanings_of};
 ghost use Rattle.scenario_lines.specs.Reasons.{IsFirst};
 ghost use Rattle.scenario_lines.specs.Steps.{FormTells, StepAgainst, StepSays};
 
@@ -9,7 +9,7 @@ use crate::form::StepForm;
 use crate::reason::LineReason;
 use crate::words::judge_words;
 use mrpc_table::Decimal;
-use script_words::{Said, first_word, name_at, number_at, unbounded_at};
+use script_grammar::{Said, first_word, name_at, number_at, unbounded_at};
 
 /// What a line of an operator means, with its names as in the text. A step is due once the connection has taken
 /// `count` calls.

@@ -2,15 +2,15 @@
 
 ghost use Rattle.std.specs.Prelude.{◌≡◌, ◌≤◌, length, false, MatchResult};
 ghost use Rattle.mrpc_table.specs.Lines.{words_of};
-ghost use Rattle.script_words.specs.Lines.{AreSaid};
-ghost use Rattle.script_words.specs.Meanings.{meanings_of};
+ghost use Rattle.script_grammar.specs.Lines.{AreSaid};
+ghost use Rattle.script_grammar.specs.Meanings.{meanings_of};
 ghost use Rattle.scenario_lines.specs.Judging.{is_no_name, lacks_name, ordered};
 ghost use Rattle.scenario_lines.specs.Lines.{WordsAgainst};
 ghost use Rattle.scenario_lines.specs.Reasons.{IsFirst};
 
 use crate::reason::LineReason;
 use mrpc_table::{is_name_form, is_short};
-use script_words::{Judged, ScriptReason, Sort, first_word, judge};
+use script_grammar::{Judged, ScriptReason, Sort, first_word, judge};
 
 // Whether a word is required to be a name, and isn't one.
 fn is_no_name(sort: Sort, word: &[u8]) -> bool

@@ -5,7 +5,7 @@ use Rattle.std.specs.List.{list_all}
 use Rattle.std.proofs.lemmas.Bool.{both_ways}
 use Rattle.engine_core.specs.Chains.{Refusal}
 use Rattle.engine_core.specs.Chains as chains
-use Rattle.policy_blocks.specs.declared.item.NamedPolicy.{NamedPolicy}
+use Rattle.policy_declarations.specs.declared.item.NamedPolicy.{NamedPolicy}
 use Rattle.toml.specs.Data.{Members}
 use Rattle.scenario.specs.Applications.{AppAgainst, program_of}
 use Rattle.scenario.specs.Applications as against
@@ -20,8 +20,8 @@ use Rattle.mrpc_table.specs.declared.policy_lines.RuleReason.TheVariants as rule
 use Rattle.scenario_lines.specs.declared.form.ProgramRole.{ProgramRole}
 use Rattle.scenario_lines.specs.declared.reason.LineReason.{LineReason}
 use Rattle.scenario_lines.specs.declared.reason.LineReason.TheVariants as line
-use Rattle.scenario_values.specs.Values.{is_within_at, number_in}
-use Rattle.scenario_policies.specs.Owning.{no_name, no_policy}
+use Rattle.scenario_toml.specs.Values.{is_within_at, number_in}
+use Rattle.scenario_entries.specs.Owning.{no_name, no_policy}
 use Rattle.scenario_reader.specs.Above.{IsPart}
 use Rattle.scenario_reader.specs.Joining.{EarlyFails, LateFails, ProgramFails, alone, other, reason_in, refused, too_much}
 use Rattle.scenario_reader.proofs.FirstReason.{alone_first, at_least}

@@ -2,8 +2,8 @@
 use Rattle.std.proofs.Common.{◌≡◌, ℕ, ◌+◌, List, [], ◌∷◌, length, Contains, Option, Some, None, refl, sym, ap, subst, inl, inr}
 use Rattle.std.specs.Prelude.{codes, option_to_list}
 use Rattle.std.proofs.lemmas.List.Elements.{Contains-append_left}
-use Rattle.policy_blocks.specs.Declarations.{Declared, policy_names, policy_place}
-use Rattle.policy_blocks.specs.declared.item.NamedPolicy.{NamedPolicy}
+use Rattle.policy_declarations.specs.Declarations.{Declared, policy_names, policy_place}
+use Rattle.policy_declarations.specs.declared.item.NamedPolicy.{NamedPolicy}
 use Rattle.run_plan.specs.declared.application.Application.{Application}
 use Rattle.toml.specs.Data.{Members}
 use Rattle.scenario.specs.Applications.{AppAgainst, app_tables, chain_of, names_in, operator_tables, policy_tables}
@@ -16,11 +16,11 @@ use Rattle.scenario.specs.Scenarios.{AppSays, StandsAt, place_of}
 use Rattle.scenario.specs.declared.fault.ScenarioReason.{ScenarioReason}
 use Rattle.scenario.specs.declared.fault.ScenarioReason.TheVariants.{Unknown}
 use Rattle.scenario_lines.specs.Programs.{Each}
-use Rattle.scenario_values.specs.Values.{text_at}
+use Rattle.scenario_toml.specs.Values.{text_at}
 use Rattle.scenario_entries.specs.Entries.{AreFree}
 use Rattle.scenario_entries.specs.Ports.{IsPortOf}
 use Rattle.scenario_entries.specs.declared.link.Port.{Port}
-use Rattle.scenario_policies.specs.Owning.{NamedFails}
+use Rattle.scenario_entries.specs.Owning.{NamedFails}
 use Rattle.scenario_reader.specs.Joining.{IsApp}
 use Rattle.scenario_reader.specs.Owning.{IsUsedIn}
 use Rattle.scenario_reader.proofs.Lists.{none_in, there_cases, there_first, there_more}

@@ -3,8 +3,8 @@
 use Rattle.std.proofs.Common.{◌≡◌, ℕ, List, Contains, Option, Some, None, Result, Ok, Err, refl, sym, ap, ◌∙◌, subst, inl, inr}
 use Rattle.std.specs.Prelude.{MatchResult, is_some}
 use Rattle.std.proofs.lemmas.Option.{same_Some}
-use Rattle.policy_blocks.specs.Declarations.{Declared, policy_names, policy_place}
-use Rattle.policy_blocks.specs.declared.item.NamedPolicy.{NamedPolicy}
+use Rattle.policy_declarations.specs.Declarations.{Declared, policy_names, policy_place}
+use Rattle.policy_declarations.specs.declared.item.NamedPolicy.{NamedPolicy}
 use Rattle.run_plan.specs.declared.application.OwnSchema.{OwnSchema}
 use Rattle.run_plan.specs.declared.application.Role.{Role}
 use Rattle.toml.specs.Data.{Members}
@@ -15,8 +15,8 @@ use Rattle.scenario.specs.Reasons.{IsSoFar, earlier}
 use Rattle.scenario.specs.declared.fault.ScenarioReason.{ScenarioReason}
 use Rattle.scenario.specs.declared.fault.ScenarioReason.TheVariants.{Unknown}
 use Rattle.scenario.specs.declared.form.RoleWord.{RoleWord}
-use Rattle.scenario_values.specs.Values.{number_in}
-use Rattle.scenario_policies.specs.Owning.{no_policy}
+use Rattle.scenario_toml.specs.Values.{number_in}
+use Rattle.scenario_entries.specs.Owning.{no_policy}
 use Rattle.scenario_reader.specs.Joining.{EarlyFails, AppHeadFails, IsEarlyRead, IsRoleRead, ProgramFails, RoleFails, SaysRole, reason_in}
 use Rattle.scenario_reader.specs.Owning.{IsOwnOf, IsOwnRead, AppOwnFails}
 use Rattle.scenario_reader.specs.declared.application.Early.{Early}

@@ -1,7 +1,7 @@
 -- The applications that were read, with one more at a time.
 use Rattle.std.proofs.Common.{◌≡◌, ℕ, ◌+◌, List, [], ◌∷◌, ◌++◌, length, sym, ap, ◌∙◌, subst}
 use Rattle.std.proofs.lemmas.List.{length-append}
-use Rattle.policy_blocks.specs.Declarations.{Declared}
+use Rattle.policy_declarations.specs.Declarations.{Declared}
 use Rattle.run_plan.specs.declared.application.Application.{Application}
 use Rattle.toml.specs.Data.{Members}
 use Rattle.scenario_lines.specs.Programs.{Each}

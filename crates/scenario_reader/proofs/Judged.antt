@@ -5,13 +5,13 @@ use Rattle.mrpc_table.specs.Valid.{AreDistinct}
 use Rattle.engine_core.specs.Chains.{Chain, IsChain}
 use Rattle.engine_core.specs.declared.op.Op.{Op}
 use Rattle.engine_core.specs.declared.op.Op.TheVariants as op
-use Rattle.policy_blocks.specs.Declarations.{Declared, policy_names}
+use Rattle.policy_declarations.specs.Declarations.{Declared, policy_names}
 use Rattle.run_plan.specs.Chains.{Changing, empty_chain}
 use Rattle.run_plan.specs.declared.operator.Operator.{Operator}
-use Rattle.script_words.specs.Lines.{AreSaid}
-use Rattle.script_words.specs.Sorts.{Meaning, Says, unbounded_at, unbounded_in}
-use Rattle.script_words.specs.Sorts as sorts
-use Rattle.script_words.specs.declared.sort.Sort.TheVariants as sort
+use Rattle.script_grammar.specs.Lines.{AreSaid}
+use Rattle.script_grammar.specs.Sorts.{Meaning, Says, unbounded_at, unbounded_in}
+use Rattle.script_grammar.specs.Sorts as sorts
+use Rattle.script_grammar.specs.declared.sort.Sort.TheVariants as sort
 use Rattle.toml.specs.Data.{Members}
 use Rattle.scenario.specs.Applications.{AreAttached, chain_of, conn_of}
 use Rattle.scenario.specs.Lines.{policy_in}
@@ -29,7 +29,7 @@ use Rattle.scenario_lines.specs.declared.step.StepText.{StepText}
 use Rattle.scenario_lines.specs.declared.step.StepText.TheVariants as text
 use Rattle.scenario_entries.specs.Linking.{IsKept}
 use Rattle.scenario_entries.specs.declared.chain.ChainEntry.{ChainEntry}
-use Rattle.policy_blocks.specs.Declarations.{policy_place}
+use Rattle.policy_declarations.specs.Declarations.{policy_place}
 use Rattle.scenario_reader.specs.Joining.{IsBegun}
 use Rattle.scenario_reader.specs.Operating.{IsOperatorOf, StepFails}
 use Rattle.scenario_reader.specs.Walking.{IsRefusedFor, IsWalkedTo}

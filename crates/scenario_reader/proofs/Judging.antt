@@ -9,8 +9,8 @@ use Rattle.mrpc_table.specs.Valid.{AreDistinct}
 use Rattle.mrpc_table.specs.declared.table.Table.{Table}
 use Rattle.engine_core.specs.declared.policy.Policy.{Policy}
 use Rattle.engine_core.specs.declared.policy.Policy.TheVariants as policy
-use Rattle.policy_blocks.specs.Declarations.{Declared, policy_names, policy_place}
-use Rattle.policy_blocks.specs.declared.item.NamedPolicy.{NamedPolicy}
+use Rattle.policy_declarations.specs.Declarations.{Declared, policy_names, policy_place}
+use Rattle.policy_declarations.specs.declared.item.NamedPolicy.{NamedPolicy}
 use Rattle.toml.specs.Data.{Members}
 use Rattle.scenario.specs.Applications.{conn_of, conns_of}
 use Rattle.scenario.specs.Keys.{kind_of}

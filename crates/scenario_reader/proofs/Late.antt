@@ -6,7 +6,7 @@ use Rattle.std.proofs.lemmas.List.Sums.{sum_by-cons}
 use Rattle.mrpc_table.specs.Valid.{AreDistinct}
 use Rattle.engine_core.specs.Chains.{Refusal}
 use Rattle.engine_core.specs.declared.op.Op.{Op}
-use Rattle.policy_blocks.specs.Declarations.{Declared, policy_names}
+use Rattle.policy_declarations.specs.Declarations.{Declared, policy_names}
 use Rattle.run_plan.specs.Chains.{empty_chain}
 use Rattle.run_plan.specs.declared.limits.TheConstants.{MAX_WORK}
 use Rattle.toml.specs.Data.{Members}
@@ -17,7 +17,7 @@ use Rattle.scenario.specs.Reasons.{IsFirstReason, of_refusal, order_of}
 use Rattle.scenario.specs.declared.fault.ScenarioReason.{ScenarioReason}
 use Rattle.scenario.specs.declared.fault.ScenarioReason.TheVariants.{OtherKind, Pair, Work}
 use Rattle.scenario.specs.declared.form.Kind.TheVariants as kind
-use Rattle.scenario_values.specs.Values.{number_in, text_at}
+use Rattle.scenario_toml.specs.Values.{number_in, text_at}
 use Rattle.scenario_entries.specs.declared.chain.ChainEntry.{ChainEntry}
 use Rattle.scenario_reader.specs.Joining.{LateFails, alone, other, refused, too_much}
 use Rattle.scenario_reader.specs.Walking.{AreOpsOf, IsRefusedFor, IsWalkedTo}

@@ -5,8 +5,8 @@ use Rattle.std.specs.Prelude.{is_some, position, slice_get}
 use Rattle.std.proofs.lemmas.Bool.{eq-eqb, eqb-true}
 use Rattle.std.proofs.lemmas.Option.{get_or_from_slice_get}
 use Rattle.mrpc_table.specs.Valid.{AreDistinct}
-use Rattle.policy_blocks.specs.Declarations.{Declared, policy_names, policy_place}
-use Rattle.policy_blocks.specs.declared.item.NamedPolicy.{NamedPolicy}
+use Rattle.policy_declarations.specs.Declarations.{Declared, policy_names, policy_place}
+use Rattle.policy_declarations.specs.declared.item.NamedPolicy.{NamedPolicy}
 use Rattle.run_plan.specs.declared.application.Application.{Application}
 use Rattle.run_plan.specs.declared.operator.Operator.{Operator}
 use Rattle.toml.specs.Data.{Members}
@@ -22,7 +22,7 @@ use Rattle.scenario_lines.specs.Programs.{Each}
 use Rattle.scenario_lines.specs.Steps.{StepAgainst, StepSays}
 use Rattle.scenario_lines.specs.declared.reason.LineReason.{LineReason}
 use Rattle.scenario_lines.specs.declared.step.StepText.{StepText}
-use Rattle.scenario_values.specs.Values.{has_keys, is_out}
+use Rattle.scenario_toml.specs.Values.{has_keys, is_out}
 use Rattle.scenario_entries.specs.Entries.{IsEntryRead}
 use Rattle.scenario_entries.specs.declared.chain.Chain.{Chain}
 use Rattle.scenario_entries.specs.declared.chain.ChainEntry.{ChainEntry}

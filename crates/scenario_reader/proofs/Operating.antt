@@ -7,8 +7,8 @@ use Rattle.std.specs.Prelude.{is_none}
 use Rattle.std.specs.List.{list_any}
 use Rattle.std.proofs.lemmas.Bool.{both_ways, lt-ltb, ltb-true, or_cases, or_left, or_right}
 use Rattle.mrpc_table.specs.Valid.{AreDistinct}
-use Rattle.policy_blocks.specs.Declarations.{Declared, policy_names, policy_place}
-use Rattle.policy_blocks.specs.declared.item.NamedPolicy.{NamedPolicy}
+use Rattle.policy_declarations.specs.Declarations.{Declared, policy_names, policy_place}
+use Rattle.policy_declarations.specs.declared.item.NamedPolicy.{NamedPolicy}
 use Rattle.run_plan.specs.declared.limits.TheConstants.{MAX_STEPS}
 use Rattle.run_plan.specs.declared.operator.Operator.{Operator}
 use Rattle.toml.specs.Data.{Members}
@@ -22,7 +22,7 @@ use Rattle.scenario.specs.Scenarios.{OperatorSays}
 use Rattle.scenario.specs.declared.fault.ScenarioReason.{ScenarioReason}
 use Rattle.scenario.specs.declared.fault.ScenarioReason.TheVariants.{Key, Known, Number, Unknown}
 use Rattle.scenario_lines.specs.Programs.{Each}
-use Rattle.scenario_values.specs.Values.{TheRange, has_keys, is_out}
+use Rattle.scenario_toml.specs.Values.{TheRange, has_keys, is_out}
 use Rattle.scenario_reader.specs.Operating.{OperatorHeadFails, OperatorOwnFails, StepFails, in_lines, is_known, is_operated, no_policy, too_many}
 use Rattle.scenario_reader.specs.Owning.{AreStepNames}
 use Rattle.scenario_reader.specs.Stepping.{LinesAgainst}

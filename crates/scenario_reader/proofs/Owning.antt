@@ -12,8 +12,8 @@ use Rattle.scenario.specs.Reasons.{IsFirstReason, order_of}
 use Rattle.scenario.specs.Scenarios.{IsUsed, OwnSchemaSays, by_app, by_step, place_of}
 use Rattle.scenario.specs.declared.fault.ScenarioReason.{ScenarioReason}
 use Rattle.scenario.specs.declared.fault.ScenarioReason.TheVariants.{Schema}
-use Rattle.scenario_values.specs.Values.{text_at}
-use Rattle.scenario_policies.specs.Owning.{AreOwn, NamedFails}
+use Rattle.scenario_toml.specs.Values.{text_at}
+use Rattle.scenario_entries.specs.Owning.{AreOwn, NamedFails}
 use Rattle.scenario_reader.specs.Owning.{IsOwn, IsUsedIn, AppOwnFails}
 
 pub fails_map : (all app : Members) (P Q : List ℕ → Type 0) → ((n : List ℕ) → P n → Q n) → (q : ScenarioReason) → NamedFails all app P q

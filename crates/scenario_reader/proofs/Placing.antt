@@ -5,7 +5,7 @@ use Rattle.std.specs.List.{cons_option}
 use Rattle.std.specs.Prelude.{filter_map, option_to_list}
 use Rattle.std.proofs.lemmas.List.{map-append, take_more}
 use Rattle.std.proofs.lemmas.List.Elements.{filter_map-append}
-use Rattle.policy_blocks.specs.Declarations.{Declared, policy_place}
+use Rattle.policy_declarations.specs.Declarations.{Declared, policy_place}
 
 pub places_more : (d : Declared) (names : List (Bor (List ℕ))) (i : ℕ) (x : Bor (List ℕ)) → i < length names → (places places' : List ℕ)
     → places ≡ filter_map (policy_place d) (map (λ n. n.now) (take i names))

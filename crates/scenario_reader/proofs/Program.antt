@@ -5,10 +5,10 @@ use Rattle.mrpc_table.specs.declared.words.Decimal.{Decimal}
 use Rattle.app_program.specs.Programs.{stores_of}
 use Rattle.app_program.specs.declared.program.ProgramLine.{ProgramLine}
 use Rattle.app_program.specs.declared.program.ProgramLine.TheVariants as program
-use Rattle.script_words.specs.Lines.{AreSaid, IsAgainst}
-use Rattle.script_words.specs.Sorts.{Meaning}
-use Rattle.script_words.specs.declared.fault.ScriptReason.{ScriptReason}
-use Rattle.script_words.specs.declared.sort.Sort.{Sort}
+use Rattle.script_grammar.specs.Lines.{AreSaid, IsAgainst}
+use Rattle.script_grammar.specs.Sorts.{Meaning}
+use Rattle.script_grammar.specs.declared.fault.ScriptReason.{ScriptReason}
+use Rattle.script_grammar.specs.declared.sort.Sort.{Sort}
 use Rattle.scenario.specs.Lines.{program_role}
 use Rattle.scenario.specs.Reasons.{IsFirstReason, of_line, order_of}
 use Rattle.scenario.specs.declared.fault.ScenarioReason.{ScenarioReason}

@@ -3,7 +3,7 @@ use Rattle.std.proofs.Common.{◌≡◌, true, false, List, [], ◌∷◌, Conta
 use Rattle.std.specs.List.{list_all}
 use Rattle.std.proofs.lemmas.Bool.{and_cases, and_parts, both_ways, cases_Bool, not-true, not_from_false}
 use Rattle.toml.specs.Data.{Members}
-use Rattle.scenario_values.specs.Values.{TheRange, is_out, is_within_at}
+use Rattle.scenario_toml.specs.Values.{TheRange, is_out, is_within_at}
 use Rattle.scenario_reader.proofs.Lists.{none_in, there_cases, there_first, there_more}
 
 pub all_within : (ms : Members) (ranges : List TheRange) → list_all (is_within_at ms) ranges ≡ true → (r : TheRange) → Contains ranges r

@@ -3,7 +3,7 @@ use Rattle.std.proofs.Common.{◌≡◌, ℕ, List, Contains, Some, None, Result
 use Rattle.std.specs.Prelude.{MatchResult}
 use Rattle.std.specs.Result.{result_err}
 use Rattle.mrpc_table.specs.declared.table.Table.{Table}
-use Rattle.policy_blocks.specs.Declarations.{Declared}
+use Rattle.policy_declarations.specs.Declarations.{Declared}
 use Rattle.run_plan.specs.declared.application.Application.{Application}
 use Rattle.run_plan.specs.declared.application.OwnPolicy.{OwnPolicy}
 use Rattle.run_plan.specs.declared.application.OwnSchema.{OwnSchema}
@@ -11,7 +11,7 @@ use Rattle.toml.specs.Data.{Members}
 use Rattle.scenario.specs.Operators.{NamesPolicy, steps_of}
 use Rattle.scenario.specs.Reasons.{IsFirstReason, IsSoFar}
 use Rattle.scenario.specs.declared.fault.ScenarioReason.{ScenarioReason}
-use Rattle.scenario_policies.specs.Owning.{AreOwn, NamedFails}
+use Rattle.scenario_entries.specs.Owning.{AreOwn, NamedFails}
 use Rattle.scenario_reader.specs.Joining.{IsApp}
 use Rattle.scenario_reader.specs.Operating.{OperatorOwnFails}
 use Rattle.scenario_reader.specs.Owning.{AreStepNames, IsOwn, IsOwnOf}

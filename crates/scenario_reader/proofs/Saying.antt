@@ -6,8 +6,8 @@ use Rattle.std.proofs.lemmas.Bool.{cases_Bool, ltb-false, ltb-true}
 use Rattle.mrpc_table.specs.Lines.{in_64_bits}
 use Rattle.engine_core.specs.Chains.{Chain, Changes, IsChain, is_past, no_place}
 use Rattle.engine_core.specs.declared.op.Op.{Op}
-use Rattle.policy_blocks.specs.Declarations.{Declared, policy_place}
-use Rattle.policy_blocks.specs.declared.item.NamedPolicy.{NamedPolicy}
+use Rattle.policy_declarations.specs.Declarations.{Declared, policy_place}
+use Rattle.policy_declarations.specs.declared.item.NamedPolicy.{NamedPolicy}
 use Rattle.run_plan.specs.Chains.{Changing}
 use Rattle.run_plan.specs.declared.application.Application.{Application}
 use Rattle.run_plan.specs.declared.application.OwnSchema.{OwnSchema}
@@ -26,8 +26,8 @@ use Rattle.scenario_lines.specs.Programs.{Each}
 use Rattle.scenario_lines.specs.Steps.{StepSays as LineTells}
 use Rattle.scenario_lines.specs.declared.step.StepText.{StepText}
 use Rattle.scenario_lines.specs.declared.step.StepText.TheVariants as text
-use Rattle.scenario_values.specs.Values.{number_in, text_at}
-use Rattle.scenario_policies.specs.Owning.{NamedFails}
+use Rattle.scenario_toml.specs.Values.{number_in, text_at}
+use Rattle.scenario_entries.specs.Owning.{NamedFails}
 use Rattle.scenario_reader.specs.Joining.{IsApp, SaysRole}
 use Rattle.scenario_reader.specs.Owning.{IsOwnOf, IsUsedIn}
 use Rattle.scenario_reader.specs.Walking.{IsLineOf, IsOpOf, IsStepOf, named_in}

@@ -6,10 +6,10 @@ use Rattle.std.proofs.lemmas.List.{append_assoc}
 use Rattle.std.proofs.lemmas.List.Elements.{Contains-append_left, Contains-push, Contains-push_cases}
 use Rattle.std.proofs.lemmas.Option.{same_Some}
 use Rattle.mrpc_table.specs.Lines.{words_of}
-use Rattle.script_words.specs.Lines.{AreSaid, IsAgainst}
-use Rattle.script_words.specs.Sorts.{Meaning, number_at}
-use Rattle.script_words.specs.declared.fault.ScriptReason.{ScriptReason}
-use Rattle.script_words.specs.declared.sort.Sort.{Sort}
+use Rattle.script_grammar.specs.Lines.{AreSaid, IsAgainst}
+use Rattle.script_grammar.specs.Sorts.{Meaning, number_at}
+use Rattle.script_grammar.specs.declared.fault.ScriptReason.{ScriptReason}
+use Rattle.script_grammar.specs.declared.sort.Sort.{Sort}
 use Rattle.scenario.specs.Lines.{Falls, count_in}
 use Rattle.scenario.specs.Reasons.{IsSoFar, earlier, of_line, order_of}
 use Rattle.scenario.specs.declared.fault.ScenarioReason.{ScenarioReason}

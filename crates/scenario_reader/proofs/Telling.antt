@@ -6,10 +6,10 @@ use Rattle.mrpc_table.specs.Lines.{words_of}
 use Rattle.mrpc_table.specs.Valid.{AreDistinct}
 use Rattle.engine_core.specs.declared.op.Op.{Op}
 use Rattle.engine_core.specs.declared.op.Op.TheVariants as op
-use Rattle.policy_blocks.specs.Declarations.{Declared, policy_names, policy_place}
-use Rattle.policy_blocks.specs.declared.item.NamedPolicy.{NamedPolicy}
-use Rattle.script_words.specs.Lines.{AreSaid}
-use Rattle.script_words.specs.Sorts.{Meaning}
+use Rattle.policy_declarations.specs.Declarations.{Declared, policy_names, policy_place}
+use Rattle.policy_declarations.specs.declared.item.NamedPolicy.{NamedPolicy}
+use Rattle.script_grammar.specs.Lines.{AreSaid}
+use Rattle.script_grammar.specs.Sorts.{Meaning}
 use Rattle.scenario.specs.Applications.{AreAttached}
 use Rattle.scenario.specs.Lines.{policy_in}
 use Rattle.scenario.specs.Operators.{IsAttach, IsDetach, IsUpgrade, NamesPolicy, Steps, attaches, detaches, upgrades}

@@ -14,7 +14,7 @@ use Rattle.scenario.specs.Scenarios as against
 use Rattle.scenario.specs.declared.fault.ScenarioFault.{ScenarioFault}
 use Rattle.scenario.specs.declared.fault.ScenarioReason.{ScenarioReason}
 use Rattle.scenario.specs.declared.fault.ScenarioReason.TheVariants.{Key, Name, Number, Schema}
-use Rattle.scenario_values.specs.Values.{has_keys, is_within_at, word_at}
+use Rattle.scenario_toml.specs.Values.{has_keys, is_within_at, word_at}
 use Rattle.scenario_reader.specs.Whole.{IsTopFault}
 use Rattle.scenario_reader.proofs.Ranges.{all_within, one_out}
 use Rattle.scenario_reader.proofs.FirstReason.{alone_first, at_least}

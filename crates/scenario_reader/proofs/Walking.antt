@@ -11,8 +11,8 @@ use Rattle.std.proofs.lemmas.List.{drop_more, length-map, length-take-le, map-ap
 use Rattle.engine_core.specs.Chains.{Chain, Changes, IsChain, Refusal, Refuses}
 use Rattle.engine_core.specs.declared.op.Op.{Op}
 use Rattle.engine_core.specs.declared.op.Op.TheVariants as op
-use Rattle.policy_blocks.specs.Declarations.{Declared}
-use Rattle.policy_blocks.specs.declared.item.NamedPolicy.{NamedPolicy}
+use Rattle.policy_declarations.specs.Declarations.{Declared}
+use Rattle.policy_declarations.specs.declared.item.NamedPolicy.{NamedPolicy}
 use Rattle.run_plan.specs.declared.operator.Step.{Step}
 use Rattle.run_plan.specs.Chains.{Changing, empty_chain}
 use Rattle.scenario.specs.Applications.{FirstRefused}

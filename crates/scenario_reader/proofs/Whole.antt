@@ -2,7 +2,7 @@
 use Rattle.std.proofs.Common.{◌≡◌, nat_lt, ℕ, ◌+◌, ◌<◌, List, [], ◌∷◌, ◌++◌, length, refl, sym, ap, ◌∙◌, subst, inl, inr, arith}
 use Rattle.std.proofs.lemmas.Bool.{cases_Bool, ltb-false, ltb-true}
 use Rattle.mrpc_table.specs.declared.table.Table.{Table}
-use Rattle.policy_blocks.specs.declared.item.NamedPolicy.{NamedPolicy}
+use Rattle.policy_declarations.specs.declared.item.NamedPolicy.{NamedPolicy}
 use Rattle.toml.specs.Data.{Members}
 use Rattle.scenario.specs.Applications.{AppAgainst, HasTable, LinkAgainst, app_tables, link_tables, operator_tables, policy_tables, tenant_tables}
 use Rattle.scenario.specs.Operators.{OperatorAgainst}

@@ -10,7 +10,7 @@ use Rattle.scenario.specs.Reasons.{IsFirstReason}
 use Rattle.scenario.specs.Scenarios.{schema_of}
 use Rattle.scenario.specs.declared.fault.ScenarioReason.{ScenarioReason}
 use Rattle.scenario_lines.specs.Programs.{Each}
-use Rattle.scenario_values.specs.Values.{number_in}
+use Rattle.scenario_toml.specs.Values.{number_in}
 use Rattle.scenario_entries.specs.Entries.{AreFree, views}
 use Rattle.scenario_reader.specs.declared.above.Above.{Above}
 

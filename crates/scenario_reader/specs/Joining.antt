@@ -5,8 +5,8 @@ use Rattle.engine_core.specs.Chains.{Refusal}
 use Rattle.engine_core.specs.declared.op.Op.{Op}
 use Rattle.engine_core.specs.declared.policy.Policy.{Policy}
 use Rattle.engine_core.specs.declared.policy.Policy.TheVariants as policy
-use Rattle.policy_blocks.specs.Declarations.{Declared, policy_place}
-use Rattle.policy_blocks.specs.declared.item.NamedPolicy.{NamedPolicy}
+use Rattle.policy_declarations.specs.Declarations.{Declared, policy_place}
+use Rattle.policy_declarations.specs.declared.item.NamedPolicy.{NamedPolicy}
 use Rattle.run_plan.specs.Chains.{empty_chain}
 use Rattle.run_plan.specs.declared.application.Application.{Application}
 use Rattle.run_plan.specs.declared.application.OwnSchema.{OwnSchema}
@@ -29,10 +29,10 @@ use Rattle.scenario_lines.specs.Programs.{Each, ProgramAgainst}
 use Rattle.scenario_lines.specs.declared.form.ProgramRole.{ProgramRole}
 use Rattle.scenario_lines.specs.declared.form.ProgramRole.TheVariants as program_of_role
 use Rattle.scenario_lines.specs.declared.reason.LineReason.{LineReason}
-use Rattle.scenario_values.specs.Values.{number_in, text_at}
+use Rattle.scenario_toml.specs.Values.{number_in, text_at}
 use Rattle.scenario_entries.specs.Ports.{IsPortOf}
 use Rattle.scenario_entries.specs.declared.chain.ChainEntry.{ChainEntry}
-use Rattle.scenario_policies.specs.Owning.{NamesAgainst}
+use Rattle.scenario_entries.specs.Owning.{NamesAgainst}
 use Rattle.scenario_reader.specs.Above.{IsPart}
 use Rattle.scenario_reader.specs.Owning.{IsOwnOf, AppOwnFails}
 use Rattle.scenario_reader.specs.Walking.{IsWalkedTo}

@@ -3,8 +3,8 @@ use Rattle.std.specs.Prelude.{◌≡◌, ℕ, ◌<◌, ◌==◌, Bool, List, len
 use Rattle.std.specs.List.{list_any}
 use Rattle.engine_core.specs.Chains.{Chain, IsChain, Refusal}
 use Rattle.engine_core.specs.declared.op.Op.{Op}
-use Rattle.policy_blocks.specs.Declarations.{Declared}
-use Rattle.policy_blocks.specs.declared.item.NamedPolicy.{NamedPolicy}
+use Rattle.policy_declarations.specs.Declarations.{Declared}
+use Rattle.policy_declarations.specs.declared.item.NamedPolicy.{NamedPolicy}
 use Rattle.run_plan.specs.Chains.{Changing, empty_chain}
 use Rattle.run_plan.specs.declared.limits.TheConstants.{MAX_STEPS}
 use Rattle.run_plan.specs.declared.operator.Operator.{Operator}
@@ -19,7 +19,7 @@ use Rattle.scenario_lines.specs.Programs.{Each}
 use Rattle.scenario_lines.specs.declared.step.StepText.{StepText}
 use Rattle.scenario_entries.specs.Linking.{IsKept}
 use Rattle.scenario_entries.specs.declared.chain.ChainEntry.{ChainEntry}
-use Rattle.scenario_policies.specs.Owning.{NamedFails}
+use Rattle.scenario_entries.specs.Owning.{NamedFails}
 use Rattle.scenario_reader.specs.Stepping.{LinesAgainst}
 use Rattle.scenario_reader.specs.Walking.{IsOpOf, IsStepOf, IsWalked}
 

@@ -11,8 +11,8 @@ use Rattle.scenario.specs.Operators.{NamesPolicy, steps_of}
 use Rattle.scenario.specs.Scenarios.{OwnSchemaSays}
 use Rattle.scenario.specs.declared.fault.ScenarioReason.{ScenarioReason}
 use Rattle.scenario.specs.declared.fault.ScenarioReason.TheVariants.{Schema}
-use Rattle.scenario_values.specs.Values.{text_at}
-use Rattle.scenario_policies.specs.Owning.{NamedFails}
+use Rattle.scenario_toml.specs.Values.{text_at}
+use Rattle.scenario_entries.specs.Owning.{NamedFails}
 use Rattle.scenario_reader.specs.Above.{IsPart}
 
 -- the names are those of the policies that the steps name

@@ -4,8 +4,8 @@ use Rattle.mrpc_table.specs.Lines.{in_64_bits}
 use Rattle.engine_core.specs.Chains.{Chain, IsChain, Refusal}
 use Rattle.engine_core.specs.declared.op.Op.{Op}
 use Rattle.engine_core.specs.declared.op.Op.TheVariants as op
-use Rattle.policy_blocks.specs.Declarations.{Declared, policy_place}
-use Rattle.policy_blocks.specs.declared.item.NamedPolicy.{NamedPolicy}
+use Rattle.policy_declarations.specs.Declarations.{Declared, policy_place}
+use Rattle.policy_declarations.specs.declared.item.NamedPolicy.{NamedPolicy}
 use Rattle.run_plan.specs.Chains.{Changing}
 use Rattle.run_plan.specs.declared.operator.Step.{Step}
 use Rattle.run_plan.specs.declared.operator.StepLine.{StepLine}

@@ -13,7 +13,7 @@ use Rattle.scenario.specs.declared.fault.ScenarioFault.TheVariants as fault
 use Rattle.scenario.specs.declared.fault.ScenarioReason.{ScenarioReason}
 use Rattle.scenario.specs.declared.fault.ScenarioReason.TheVariants.{Toml}
 use Rattle.scenario_lines.specs.Programs.{Each}
-use Rattle.scenario_values.specs.Values.{word_at}
+use Rattle.scenario_toml.specs.Values.{word_at}
 use Rattle.scenario_entries.specs.Entries.{AreFree, views}
 use Rattle.scenario_reader.specs.declared.reader.Below.{Below}
 use Rattle.scenario_reader.specs.declared.reader.Declared.{Declared}

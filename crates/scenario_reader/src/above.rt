@@ -1,7 +1,7 @@
 //! What the applications of a scenario depend on, and the results of those that were read.
 
 use mrpc_table::Sequence;
-use policy_blocks::Declarations;
+use policy_declarations::Declarations;
 use run_plan::Application;
 use scenario_entries::{Chain, Port};
 use toml::Table;

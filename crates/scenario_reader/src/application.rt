@@ -3,10 +3,10 @@
 ghost use Rattle.std.specs.Prelude.{◌≡◌, ◌≤◌, ◌<◌, ◌+◌, ◌*◌, ◌++◌, ◌∷◌, [], List, None, Some, Ok, true, All, IfOk, MatchOption, MatchResult, OnOk, filter_map, length, map, sum};
 ghost use Rattle.std.specs.List.{list_all};
 ghost use Rattle.mrpc_table.specs.declared.table.Table.{Table as TheTable};
-ghost use Rattle.policy_blocks.specs.Declarations.{policy_names, policy_place};
+ghost use Rattle.policy_declarations.specs.Declarations.{policy_names, policy_place};
 ghost use Rattle.toml.specs.Data.{Members};
 ghost use Rattle.toml.specs.View.{table_view};
-ghost use Rattle.scenario_values.specs.Values.{is_within_at, number_in};
+ghost use Rattle.scenario_toml.specs.Values.{is_within_at, number_in};
 ghost use Rattle.scenario.specs.Applications.{AppAgainst, chain_of, submissions};
 ghost use Rattle.scenario.specs.Keys as keys;
 ghost use Rattle.scenario.specs.Keys.{app_ranges, role_of};
@@ -26,17 +26,18 @@ use crate::names::{inbound_in, names_in, places_in};
 use crate::own::own_in;
 use engine_core::{Policy, one_change, stays_chain};
 use mrpc_table::{Memory, Sequence};
-use policy_blocks::Declarations;
+use policy_declarations::Declarations;
 use run_plan::{Application, MAX_WORK, OwnSchema, Role};
 use scenario::keys::{conn, has_app_keys, heap, receive, ring, role_of, weight};
 use scenario::{
     Entry, RoleWord, ScenarioFault, ScenarioReason, earlier, earliest, of_line, reason_if,
 };
-use scenario_entries::{Chain, Port, has_port, read_program, submissions};
+use scenario_entries::{
+    Chain, Port, has_port, names_reason, read_program, same_names, submissions,
+};
 use scenario_lines::ProgramRole;
-use scenario_policies::{names_reason, same_names};
-use scenario_values::{are_within, texts_at};
-use script_words::one_judgement;
+use scenario_toml::{are_within, texts_at};
+use script_grammar::one_judgement;
 use std::alloc::Global;
 use toml::Table;
 

@@ -8,7 +8,7 @@ ghost use Rattle.scenario_reader.specs.Walking.{AreOpsOf, IsRefusedFor, IsWalked
 use crate::walk::named_in;
 use engine_core::{one_change, stays_chain};
 use mrpc_table::{Decimal, Memory};
-use policy_blocks::Declarations;
+use policy_declarations::Declarations;
 use scenario::ScenarioReason;
 use scenario_entries::Chain;
 use std::alloc::Global;

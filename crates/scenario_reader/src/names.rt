@@ -1,14 +1,14 @@
 //! The policies that an application names.
 
 ghost use Rattle.std.specs.Prelude.{◌≡◌, IfOk, codes, filter_map, map, option_and_then};
-ghost use Rattle.policy_blocks.specs.Declarations.{policy_place};
+ghost use Rattle.policy_declarations.specs.Declarations.{policy_place};
 ghost use Rattle.toml.specs.View.{table_view};
 ghost use Rattle.scenario.specs.Applications.{names_in};
-ghost use Rattle.scenario_values.specs.Values.{text_at};
+ghost use Rattle.scenario_toml.specs.Values.{text_at};
 
 use mrpc_table::{Memory, Sequence};
-use policy_blocks::Declarations;
-use scenario_values::{text_at, texts_at};
+use policy_declarations::Declarations;
+use scenario_toml::{text_at, texts_at};
 use std::alloc::Global;
 use toml::Table;
 

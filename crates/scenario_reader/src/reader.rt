@@ -11,7 +11,7 @@ ghost use Rattle.scenario.specs.Keys.{top_ranges};
 ghost use Rattle.scenario.specs.Policies.{PolicyAgainst, PolicySays};
 ghost use Rattle.scenario.specs.Scenarios.{IsFaultOf, IsTextOf, Says, schema_of};
 ghost use Rattle.scenario_lines.specs.Programs.{Each};
-ghost use Rattle.scenario_values.specs.Values.{is_within_at};
+ghost use Rattle.scenario_toml.specs.Values.{is_within_at};
 ghost use Rattle.scenario_entries.specs.Entries.{AreFree, views};
 ghost use Rattle.scenario_reader.specs.Above.{IsAbove};
 ghost use Rattle.scenario_reader.specs.Whole.{FreeBelow, IsFirstOf, SaysBelow, SaysDeclared, SaysParts};
@@ -21,14 +21,15 @@ use crate::application::read_apps;
 use crate::operator::read_operators;
 use crate::top::{document_in, ends_of, read_top};
 use mrpc_table::{Name, Sequence, Table as Schema};
-use policy_blocks::Declarations;
+use policy_declarations::Declarations;
 use run_plan::{Application, Operator, Pair, Plan};
 use scenario::ScenarioFault;
 use scenario::keys::{loads, workers};
-use scenario_entries::read_links;
+use scenario_entries::{
+    one_declaration, one_table, read_links, read_policies, read_tenants, same_names,
+};
 use scenario_laws::a_said_plan_is_sound;
-use scenario_policies::{one_declaration, one_table, read_policies, read_tenants, same_names};
-use scenario_values::{flag_at, tables_at, word_at};
+use scenario_toml::{flag_at, tables_at, word_at};
 use std::alloc::Global;
 use toml::Table;
 

@@ -10,7 +10,7 @@ ghost use Rattle.scenario_reader.specs.Stepping.{HasTold};
 use mrpc_table::Memory;
 use scenario::{ScenarioReason, earlier, of_line};
 use scenario_lines::{StepText, read_step};
-use script_words::one_judgement;
+use script_grammar::one_judgement;
 use std::alloc::Global;
 
 // What the lines of an operator mean so far.

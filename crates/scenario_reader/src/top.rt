@@ -4,7 +4,7 @@ ghost use Rattle.std.specs.Prelude.{◌≡◌, Err, IfOk, MatchResult, OnOk, tru
 ghost use Rattle.std.specs.List.{list_all};
 ghost use Rattle.mrpc_table.specs.Valid.{IsValid};
 ghost use Rattle.toml.specs.View.{table_view};
-ghost use Rattle.scenario_values.specs.Values.{is_within_at};
+ghost use Rattle.scenario_toml.specs.Values.{is_within_at};
 ghost use Rattle.scenario.specs.Applications.{HasTable, all_ends};
 ghost use Rattle.scenario.specs.Keys.{top_ranges};
 ghost use Rattle.scenario.specs.Scenarios.{IsTableText, TopAgainst, schema_of};
@@ -17,7 +17,7 @@ ghost use Rattle.scenario_reader.specs.Whole.{IsNoTable, IsTopFault};
 use mrpc_table::{Memory, Table as Schema, is_full_name};
 use scenario::keys::{end_a, end_b, format, has_top_keys, loads, workers};
 use scenario::{Entry, ScenarioFault, ScenarioReason, table_in};
-use scenario_values::{are_within, word_at};
+use scenario_toml::{are_within, word_at};
 use std::alloc::Global;
 use toml::{Table, table_from_slice};
 

@@ -5,7 +5,7 @@ ghost use Rattle.std.specs.Option.{option_copied};
 ghost use Rattle.mrpc_table.specs.Lines.{in_64_bits};
 ghost use Rattle.engine_core.specs.Chains.{Chain as TheChain, IsChain};
 ghost use Rattle.engine_core.specs.declared.op.Op.{Op};
-ghost use Rattle.policy_blocks.specs.Declarations.{policy_place};
+ghost use Rattle.policy_declarations.specs.Declarations.{policy_place};
 ghost use Rattle.scenario_entries.specs.Linking.{IsChanged, IsKept};
 ghost use Rattle.scenario_lines.specs.Programs.{Each};
 ghost use Rattle.scenario_reader.specs.Walking.{IsLineOf, IsOpOf, IsStepOf, IsWalked, named_in};
@@ -13,7 +13,7 @@ ghost use Rattle.scenario_reader.specs.Walking.{IsLineOf, IsOpOf, IsStepOf, IsWa
 use crate::steps::count_in;
 use engine_core::{one_change, stays_chain};
 use mrpc_table::{Decimal, Memory, Name, Sequence};
-use policy_blocks::{Declarations, NamedPolicy};
+use policy_declarations::{Declarations, NamedPolicy};
 use run_plan::{Step, StepLine};
 use scenario::ScenarioReason;
 use scenario_entries::Chain;

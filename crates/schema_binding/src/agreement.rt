@@ -15,7 +15,7 @@ use crate::reach::Reached;
 use frame_transport::VERSION;
 use mrpc_table::{Name, Table};
 use std::alloc::Global;
-use table_lines::table_text;
+use table_text::table_text;
 
 /// The result of an agreement.
 #[derive(Clone, Copy)]

@@ -12,8 +12,7 @@ use crate::fault::HelloFault;
 use frame_transport::hello_frame;
 use mrpc_table::{Bytes, Memory, Name, Table, cut, is_full_name};
 use std::alloc::Global;
-use table_lines::table_text;
-use table_text::{TableFault, one_fault, read_table};
+use table_text::{TableFault, one_fault, read_table, table_text};
 
 /// The frame of a hello (this project's own), of kind 3 and version 2, from the sender's connection. Its payload is the
 /// service's full name, a line feed and the canonical text of the table. It has at most 255 + 1 + 65536 bytes, less

@@ -1,7 +1,7 @@
 -- The first fault of a set is in one of its files.
 use Rattle.std.proofs.Common.{◌≡◌, ℕ, ◌<◌, List, length, sym, ◌∙◌, subst, arith}
 use Rattle.std.proofs.lemmas.Option.{slice_get_within, same_Some}
-use Rattle.file_bundle.specs.Bundle.{File as PackedFile}
+use Rattle.proto_set.specs.Bundle.{File as PackedFile}
 use Rattle.schema_files.specs.Joined.{ReadsAs}
 use Rattle.schema_files.specs.Resolving.{HasFilesFault, unread, import_at_fault, unresolved}
 use Rattle.schema_files.specs.declared.fault.FilesReason.{FilesReason}

@@ -3,25 +3,25 @@ use Rattle.std.proofs.Common.{◌≡◌, ℕ, suc, ◌<◌, inl, inr, List, [], 
 use Rattle.std.specs.Prelude.{slice_get, Some}
 use Rattle.std.proofs.lemmas.Bool.{cases_lt}
 use Rattle.std.proofs.lemmas.Option.{slice_get_within, same_Some}
-use Rattle.file_bundle.specs.Bundle.{File as PackedFile}
-use Rattle.file_bundle.specs.Laws.{RefusedOnce, NeverRightAndRefused}
+use Rattle.proto_set.specs.Bundle.{File as PackedFile}
+use Rattle.proto_set.specs.Laws.{RefusedOnce, NeverRightAndRefused}
 use Rattle.mrpc_table.specs.declared.table.Table.{Table}
-use Rattle.proto_file.specs.Joined.{Joined}
-use Rattle.proto_file.specs.Together.{IsOrdered}
-use Rattle.proto_file.specs.declared.file.File.{File}
-use Rattle.proto_file.specs.declared.file.Span.{Span}
+use Rattle.proto_ast.specs.Joined.{Joined}
+use Rattle.proto_ast.specs.Together.{IsOrdered}
+use Rattle.proto_ast.specs.declared.file.File.{File}
+use Rattle.proto_ast.specs.declared.file.Span.{Span}
 use Rattle.proto_schema.specs.Faults.{IsTextOf, HasFault as HasTextFault}
-use Rattle.proto_parts.specs.declared.fault.ProtoReason.{ProtoReason}
-use Rattle.proto_imports.specs.Faults.{HasFault as HasImportFault}
-use Rattle.proto_imports.specs.Reaching.{IsReach}
-use Rattle.proto_imports.specs.declared.fault.ImportReason.{ImportReason}
-use Rattle.proto_imports.specs.declared.set.Member.{Member}
-use Rattle.proto_imports.specs.declared.set.Reach.{Reach}
-use Rattle.proto_join.specs.Joining.{joined, sizes_of, IsInText}
-use Rattle.proto_join.specs.Texts.{IsInTextOf}
-use Rattle.proto_join.specs.declared.part.Part.{Part}
-use Rattle.schema_offences.specs.Offences.{HasFirst}
-use Rattle.schema_offences.specs.declared.reason.ResolveReason.{ResolveReason}
+use Rattle.proto_grammar.specs.declared.fault.ProtoReason.{ProtoReason}
+use Rattle.proto_set.specs.ImportFaults.{HasFault as HasImportFault}
+use Rattle.proto_set.specs.Reaching.{IsReach}
+use Rattle.proto_set.specs.declared.import_fault.ImportReason.{ImportReason}
+use Rattle.proto_set.specs.declared.set.Member.{Member}
+use Rattle.proto_set.specs.declared.set.Reach.{Reach}
+use Rattle.proto_set.specs.Joining.{joined, sizes_of, IsInText}
+use Rattle.proto_set.specs.Texts.{IsInTextOf}
+use Rattle.proto_set.specs.declared.part.Part.{Part}
+use Rattle.schema_validation.specs.Offences.{HasFirst}
+use Rattle.schema_validation.specs.declared.reason.ResolveReason.{ResolveReason}
 use Rattle.schema_files.specs.Joined.{ReadsAs, ReadAs, StandsAt, IsPart, AreParts}
 use Rattle.schema_files.specs.Resolving.{AreJoined, FilesResolve, HasFilesFault, IsFirstFault, IsRead, unread, import_at_fault, unresolved}
 use Rattle.schema_files.specs.declared.fault.FilesReason.{FilesReason}

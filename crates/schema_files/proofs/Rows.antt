@@ -3,22 +3,22 @@ use Rattle.std.proofs.Common.{◌≡◌, ℕ, zero, suc, ◌<◌, false, List, [
 use Rattle.std.specs.Prelude.{codes, slice_get, Contains}
 use Rattle.std.proofs.lemmas.Option.{same_Some, none-some, slice_get_read}
 use Rattle.mrpc_table.specs.declared.table.Table.{Table}
-use Rattle.proto_file.specs.declared.file.Import.{Import}
-use Rattle.proto_file.specs.declared.file.File.{File}
+use Rattle.proto_ast.specs.declared.file.Import.{Import}
+use Rattle.proto_ast.specs.declared.file.File.{File}
 use Rattle.std.proofs.lemmas.List.Elements.{All-nil, All-cons}
-use Rattle.file_bundle.specs.Paths.{IsPath, HaveRightPaths, IsFirstRefused, second}
-use Rattle.file_bundle.specs.Bundle.{File as PackedFile}
+use Rattle.proto_set.specs.Paths.{IsPath, HaveRightPaths, IsFirstRefused, second}
+use Rattle.proto_set.specs.Bundle.{File as PackedFile}
 use Rattle.proto_schema.specs.Faults.{IsTextOf, HasFault as HasTextFault}
-use Rattle.proto_parts.specs.declared.fault.ProtoReason.{ProtoReason}
-use Rattle.proto_imports.specs.Leading.{HasImport, HasPath, Leads, Reaches, here, onward, Sees, itself, imported, publicly}
-use Rattle.proto_imports.specs.Faults.{IsFault, missing, twice, cycle, ComesFirst, by_reason, by_statement}
-use Rattle.proto_imports.specs.Reaching.{IsReach}
-use Rattle.proto_imports.specs.declared.set.Member.{Member}
-use Rattle.proto_imports.specs.declared.set.Reach.{Reach}
-use Rattle.proto_imports.specs.declared.fault.ImportReason.{ImportReason}
-use Rattle.proto_imports.specs.declared.fault.ImportReason.TheVariants.{Missing}
-use Rattle.proto_join.specs.Joining.{joined}
-use Rattle.proto_join.specs.declared.part.Part.{Part}
+use Rattle.proto_grammar.specs.declared.fault.ProtoReason.{ProtoReason}
+use Rattle.proto_set.specs.Leading.{HasImport, HasPath, Leads, Reaches, here, onward, Sees, itself, imported, publicly}
+use Rattle.proto_set.specs.ImportFaults.{IsFault, missing, twice, cycle, ComesFirst, by_reason, by_statement}
+use Rattle.proto_set.specs.Reaching.{IsReach}
+use Rattle.proto_set.specs.declared.set.Member.{Member}
+use Rattle.proto_set.specs.declared.set.Reach.{Reach}
+use Rattle.proto_set.specs.declared.import_fault.ImportReason.{ImportReason}
+use Rattle.proto_set.specs.declared.import_fault.ImportReason.TheVariants.{Missing}
+use Rattle.proto_set.specs.Joining.{joined}
+use Rattle.proto_set.specs.declared.part.Part.{Part}
 use Rattle.schema_resolve.specs.Resolving.{ResolvesTogether}
 use Rattle.schema_files.specs.Placing.{ArePlaces}
 use Rattle.schema_files.specs.Joined.{IsPart, AreParts}

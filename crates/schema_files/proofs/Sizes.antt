@@ -7,14 +7,14 @@ use Rattle.std.specs.Option.{option_map}
 use Rattle.std.proofs.lemmas.List.Sums.{sum_by-cons, sum_by-set, sum_by-take-le}
 use Rattle.std.proofs.lemmas.Option.{slice_get_within, get_or_from_slice_get, slice_get-map, same_Some}
 use Rattle.mrpc_table.specs.Valid.{AreDistinct}
-use Rattle.file_bundle.specs.Bundle.{File as PackedFile}
-use Rattle.file_bundle.specs.Packed.{files_of}
-use Rattle.file_bundle.specs.declared.packed.Packed.{Packed}
-use Rattle.proto_imports.specs.declared.set.Member.{Member}
-use Rattle.proto_imports.specs.declared.set.Reach.{Reach}
-use Rattle.proto_join.specs.declared.part.Part.{Part}
-use Rattle.proto_join.specs.Joining.{sizes_of}
-use Rattle.proto_join.specs.Texts.{IsInTextOf}
+use Rattle.proto_set.specs.Bundle.{File as PackedFile}
+use Rattle.proto_set.specs.Packed.{files_of}
+use Rattle.proto_set.specs.declared.packed.Packed.{Packed}
+use Rattle.proto_set.specs.declared.set.Member.{Member}
+use Rattle.proto_set.specs.declared.set.Reach.{Reach}
+use Rattle.proto_set.specs.declared.part.Part.{Part}
+use Rattle.proto_set.specs.Joining.{sizes_of}
+use Rattle.proto_set.specs.Texts.{IsInTextOf}
 use Rattle.schema_files.specs.Joined.{AreParts}
 use Rattle.schema_files.proofs.Lists.{get_set_other, held, some_at}
 

@@ -2,17 +2,17 @@
 use Rattle.std.proofs.Common.{◌≡◌, ℕ, ◌<◌, List, length, sym, subst, arith}
 use Rattle.std.specs.Prelude.{slice_get, Some, Contains}
 use Rattle.std.proofs.lemmas.Option.{slice_get_within}
-use Rattle.file_bundle.specs.Bundle.{File as PackedFile}
-use Rattle.proto_file.specs.Order.{IsFormed, IsOrdered}
-use Rattle.proto_file.specs.Within.{IsWithin}
-use Rattle.proto_file.specs.declared.file.File.{File}
+use Rattle.proto_set.specs.Bundle.{File as PackedFile}
+use Rattle.proto_ast.specs.Order.{IsFormed, IsOrdered}
+use Rattle.proto_ast.specs.Within.{IsWithin}
+use Rattle.proto_ast.specs.declared.file.File.{File}
 use Rattle.proto_schema.specs.Faults.{IsTextOf}
-use Rattle.proto_imports.specs.Leading.{itself}
-use Rattle.proto_imports.specs.Reaching.{IsReach}
-use Rattle.proto_imports.specs.declared.set.Member.{Member}
-use Rattle.proto_imports.specs.declared.set.Reach.{Reach}
-use Rattle.proto_join.specs.Sound.{IsSound, AreSound}
-use Rattle.proto_join.specs.declared.part.Part.{Part}
+use Rattle.proto_set.specs.Leading.{itself}
+use Rattle.proto_set.specs.Reaching.{IsReach}
+use Rattle.proto_set.specs.declared.set.Member.{Member}
+use Rattle.proto_set.specs.declared.set.Reach.{Reach}
+use Rattle.proto_set.specs.Sound.{IsSound, AreSound}
+use Rattle.proto_set.specs.declared.part.Part.{Part}
 use Rattle.schema_files.specs.Joined.{ReadsAs, ReadAs, StandsAt, AreParts}
 use Rattle.schema_files.proofs.Lists.{some_at, held, place_of, all_held, once, zip_at, zip_length}
 use Rattle.schema_files.proofs.Taken.{seen_at}

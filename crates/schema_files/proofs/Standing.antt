@@ -2,20 +2,20 @@
 use Rattle.std.proofs.Common.{◌≡◌, ℕ, ◌<◌, ◌≤◌, List, refl, sum, length, get_or, ap, ◌∙◌, subst, arith}
 use Rattle.std.proofs.lemmas.List.{length-map}
 use Rattle.std.proofs.lemmas.Option.{slice_get-get_or}
-use Rattle.file_bundle.specs.Bundle.{File as PackedFile}
+use Rattle.proto_set.specs.Bundle.{File as PackedFile}
 use Rattle.std.specs.Prelude.{slice_get, Option, Some, None, IsSome, IsNone, IfSome, ◌↔◌}
-use Rattle.proto_file.specs.Joined.{Joined}
-use Rattle.proto_file.specs.Order.{Part as Piece}
-use Rattle.proto_file.specs.Together.{Declaration, StandsAt, IsInFile, package_name, message, field, oneof, enum}
-use Rattle.proto_file.specs.Together.{value, service, rpc, its_package, in_message_of, in_field_of, in_oneof_of}
-use Rattle.proto_file.specs.Together.{in_enum_of, in_value_of, in_service_of, in_rpc_of}
-use Rattle.proto_file.specs.declared.file.Span.{Span}
-use Rattle.proto_join.specs.Joining.{joined, sizes_of, IsInText}
-use Rattle.proto_join.specs.Sound.{AreSound}
-use Rattle.proto_join.specs.declared.part.Part.{Part}
-use Rattle.schema_offences.specs.Offences.{Offends, HasFirst}
-use Rattle.schema_offences.specs.declared.reason.ResolveReason.{ResolveReason}
-use Rattle.proto_join.specs.Texts.{IsInTextOf}
+use Rattle.proto_ast.specs.Joined.{Joined}
+use Rattle.proto_ast.specs.Order.{Part as Piece}
+use Rattle.proto_ast.specs.Together.{Declaration, StandsAt, IsInFile, package_name, message, field, oneof, enum}
+use Rattle.proto_ast.specs.Together.{value, service, rpc, its_package, in_message_of, in_field_of, in_oneof_of}
+use Rattle.proto_ast.specs.Together.{in_enum_of, in_value_of, in_service_of, in_rpc_of}
+use Rattle.proto_ast.specs.declared.file.Span.{Span}
+use Rattle.proto_set.specs.Joining.{joined, sizes_of, IsInText}
+use Rattle.proto_set.specs.Sound.{AreSound}
+use Rattle.proto_set.specs.declared.part.Part.{Part}
+use Rattle.schema_validation.specs.Offences.{Offends, HasFirst}
+use Rattle.schema_validation.specs.declared.reason.ResolveReason.{ResolveReason}
+use Rattle.proto_set.specs.Texts.{IsInTextOf}
 use Rattle.schema_resolve.specs.Resolving.{IsFaultOfAll}
 use Rattle.schema_resolve.specs.declared.fault.ResolveFault.{ResolveFault}
 use Rattle.schema_resolve.specs.declared.fault.ResolveFault.TheVariants as fault

@@ -5,15 +5,15 @@ use Rattle.std.specs.Prelude.{slice_get, Option, Some, None, Contains, All, IsSo
 use Rattle.std.proofs.lemmas.List.{length_push, length-map}
 use Rattle.std.proofs.lemmas.Option.{slice_get_within, same_Some, slice_get-map, slice_get-get_or, slice_get_read}
 use Rattle.std.specs.Option.{option_map}
-use Rattle.file_bundle.specs.Bundle.{File as PackedFile}
-use Rattle.file_bundle.specs.Packed.{file_of, files_of}
-use Rattle.file_bundle.specs.declared.packed.Packed.{Packed}
-use Rattle.proto_file.specs.declared.file.File.{File}
-use Rattle.proto_imports.specs.Leading.{Reaches, here, onward, Sees, itself, imported, publicly}
-use Rattle.proto_imports.specs.Reaching.{IsReach, AreSeen}
-use Rattle.proto_imports.specs.declared.set.Member.{Member}
-use Rattle.proto_imports.specs.declared.set.Reach.{Reach}
-use Rattle.proto_join.specs.declared.part.Part.{Part}
+use Rattle.proto_set.specs.Bundle.{File as PackedFile}
+use Rattle.proto_set.specs.Packed.{file_of, files_of}
+use Rattle.proto_set.specs.declared.packed.Packed.{Packed}
+use Rattle.proto_ast.specs.declared.file.File.{File}
+use Rattle.proto_set.specs.Leading.{Reaches, here, onward, Sees, itself, imported, publicly}
+use Rattle.proto_set.specs.Reaching.{IsReach, AreSeen}
+use Rattle.proto_set.specs.declared.set.Member.{Member}
+use Rattle.proto_set.specs.declared.set.Reach.{Reach}
+use Rattle.proto_set.specs.declared.part.Part.{Part}
 use Rattle.schema_files.specs.Joined.{ReadsAs, ReadAs, StandsAt, IsPart}
 use Rattle.schema_files.specs.Placing.{ArePlaces, ArePlaced}
 use Rattle.schema_files.proofs.Lists.{get_push, get_set_other, held, place_of, all_held, once, zip_all, zip_at, zip_length}

@@ -4,14 +4,14 @@ use Rattle.std.specs.Prelude.{slice_get, Some}
 use Rattle.std.proofs.lemmas.List.{length_push}
 use Rattle.std.proofs.lemmas.List.{length-map}
 use Rattle.std.proofs.lemmas.Option.{same_Some}
-use Rattle.file_bundle.specs.Packed.{file_of, files_of}
-use Rattle.file_bundle.specs.declared.packed.Packed.{Packed}
-use Rattle.file_bundle.specs.Bundle.{File as PackedFile}
-use Rattle.proto_file.specs.declared.file.Span.{Span}
+use Rattle.proto_set.specs.Packed.{file_of, files_of}
+use Rattle.proto_set.specs.declared.packed.Packed.{Packed}
+use Rattle.proto_set.specs.Bundle.{File as PackedFile}
+use Rattle.proto_ast.specs.declared.file.Span.{Span}
 use Rattle.proto_schema.specs.Faults.{HasFault as HasTextFault}
-use Rattle.proto_parts.specs.declared.fault.ProtoReason.{ProtoReason}
+use Rattle.proto_grammar.specs.declared.fault.ProtoReason.{ProtoReason}
 use Rattle.schema_files.specs.declared.fault.FilesReason.TheVariants.{Proto}
-use Rattle.proto_imports.specs.declared.set.Member.{Member}
+use Rattle.proto_set.specs.declared.set.Member.{Member}
 use Rattle.schema_files.specs.Joined.{ReadsAs, ReadAs}
 use Rattle.schema_files.specs.Resolving.{IsRead, HasFilesFault, unread}
 use Rattle.schema_files.specs.Unread.{HasUnread, unread_text, IsUnread, IsFaultIn}

@@ -4,13 +4,13 @@ use Rattle.std.specs.Prelude.{IfOk, IfErr, Contains}
 use Rattle.std.specs.List.{AllPairs}
 use Rattle.mrpc_table.specs.Valid.{AreDistinct}
 use Rattle.mrpc_table.specs.declared.table.Table.{Table}
-use Rattle.file_bundle.specs.Bundle.{File as PackedFile, paths_of}
-use Rattle.file_bundle.specs.Paths.{HaveRightPaths}
-use Rattle.proto_imports.specs.Reaching.{HaveOwnPaths, IsReach}
-use Rattle.proto_imports.specs.declared.set.Member.{Member}
-use Rattle.proto_imports.specs.declared.set.Reach.{Reach}
-use Rattle.proto_join.specs.Joining.{joined}
-use Rattle.proto_join.specs.declared.part.Part.{Part}
+use Rattle.proto_set.specs.Bundle.{File as PackedFile, paths_of}
+use Rattle.proto_set.specs.Paths.{HaveRightPaths}
+use Rattle.proto_set.specs.Reaching.{HaveOwnPaths, IsReach}
+use Rattle.proto_set.specs.declared.set.Member.{Member}
+use Rattle.proto_set.specs.declared.set.Reach.{Reach}
+use Rattle.proto_set.specs.Joining.{joined}
+use Rattle.proto_set.specs.declared.part.Part.{Part}
 use Rattle.schema_resolve.specs.Resolving.{ResolvesTogether}
 use Rattle.schema_files.specs.Joined.{ReadAs, AreParts}
 use Rattle.schema_files.specs.Resolving.{AreJoined, FilesResolve, IsFirstFault, IsFaultOf}

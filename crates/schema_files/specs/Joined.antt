@@ -1,11 +1,11 @@
 -- The contents of the files of a set, and the files that its first one reaches, as they are joined.
 use Rattle.std.specs.Prelude.{◌≡◌, ℕ, List, length, Some, slice_get}
 use Rattle.std.specs.List.{AllZip}
-use Rattle.file_bundle.specs.Bundle.{File as PackedFile}
+use Rattle.proto_set.specs.Bundle.{File as PackedFile}
 use Rattle.proto_schema.specs.Faults.{IsTextOf}
-use Rattle.proto_imports.specs.declared.set.Member.{Member}
-use Rattle.proto_imports.specs.declared.set.Reach.{Reach}
-use Rattle.proto_join.specs.declared.part.Part.{Part}
+use Rattle.proto_set.specs.declared.set.Member.{Member}
+use Rattle.proto_set.specs.declared.set.Reach.{Reach}
+use Rattle.proto_set.specs.declared.part.Part.{Part}
 
 -- the text of a file reads as the contents of a member of the set
 pub record ReadsAs (f : PackedFile) (m : Member) : Type 0 where

@@ -1,8 +1,8 @@
 -- The words for reasons in the text of faults.
 use Rattle.std.specs.Prelude.{ℕ, List}
-use Rattle.proto_imports.specs.Reason.{import_word}
-use Rattle.proto_parts.specs.Reason.{proto_word}
-use Rattle.schema_offences.specs.Reason.{resolve_word}
+use Rattle.proto_set.specs.Reason.{import_word}
+use Rattle.proto_grammar.specs.Reason.{proto_word}
+use Rattle.schema_validation.specs.Reason.{resolve_word}
 use Rattle.schema_files.specs.declared.fault.FilesReason.{FilesReason}
 use Rattle.schema_files.specs.declared.fault.FilesReason.TheVariants.{Proto, Import, Resolve}
 

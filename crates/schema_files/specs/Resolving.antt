@@ -2,21 +2,21 @@
 -- reaches are resolved together, as if their texts were concatenated.
 use Rattle.std.specs.Prelude.{◌≡◌, ℕ, ◌<◌, List, Some, slice_get}
 use Rattle.mrpc_table.specs.declared.table.Table.{Table}
-use Rattle.file_bundle.specs.Bundle.{File as PackedFile}
-use Rattle.file_bundle.specs.Paths.{HaveRightPaths, IsFirstRefused}
-use Rattle.proto_file.specs.declared.file.Span.{Span}
-use Rattle.proto_file.specs.declared.file.File.{File}
+use Rattle.proto_set.specs.Bundle.{File as PackedFile}
+use Rattle.proto_set.specs.Paths.{HaveRightPaths, IsFirstRefused}
+use Rattle.proto_ast.specs.declared.file.Span.{Span}
+use Rattle.proto_ast.specs.declared.file.File.{File}
 use Rattle.proto_schema.specs.Faults.{IsTextOf, HasFault as HasTextFault}
-use Rattle.proto_parts.specs.declared.fault.ProtoReason.{ProtoReason}
-use Rattle.proto_imports.specs.Faults.{HasFault as HasImportFault}
-use Rattle.proto_imports.specs.Reaching.{IsReach}
-use Rattle.proto_imports.specs.declared.fault.ImportReason.{ImportReason}
-use Rattle.proto_imports.specs.declared.set.Member.{Member}
-use Rattle.proto_imports.specs.declared.set.Reach.{Reach}
-use Rattle.proto_join.specs.Joining.{joined, IsInText}
-use Rattle.proto_join.specs.declared.part.Part.{Part}
-use Rattle.schema_offences.specs.Offences.{HasFirst}
-use Rattle.schema_offences.specs.declared.reason.ResolveReason.{ResolveReason}
+use Rattle.proto_grammar.specs.declared.fault.ProtoReason.{ProtoReason}
+use Rattle.proto_set.specs.ImportFaults.{HasFault as HasImportFault}
+use Rattle.proto_set.specs.Reaching.{IsReach}
+use Rattle.proto_set.specs.declared.import_fault.ImportReason.{ImportReason}
+use Rattle.proto_set.specs.declared.set.Member.{Member}
+use Rattle.proto_set.specs.declared.set.Reach.{Reach}
+use Rattle.proto_set.specs.Joining.{joined, IsInText}
+use Rattle.proto_set.specs.declared.part.Part.{Part}
+use Rattle.schema_validation.specs.Offences.{HasFirst}
+use Rattle.schema_validation.specs.declared.reason.ResolveReason.{ResolveReason}
 use Rattle.schema_resolve.specs.Resolving.{ResolvesTogether}
 use Rattle.schema_files.specs.Joined.{ReadAs, AreParts}
 use Rattle.schema_files.specs.declared.fault.FilesReason.{FilesReason}

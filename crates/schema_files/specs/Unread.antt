@@ -1,9 +1,9 @@
 -- The code's own: what a fault means for one text of a set, and for the contents of a set.
 use Rattle.std.specs.Prelude.{◌≡◌, ℕ, List}
-use Rattle.file_bundle.specs.Bundle.{File as PackedFile}
-use Rattle.proto_file.specs.declared.file.Span.{Span}
+use Rattle.proto_set.specs.Bundle.{File as PackedFile}
+use Rattle.proto_ast.specs.declared.file.Span.{Span}
 use Rattle.proto_schema.specs.Faults.{HasFault as HasTextFault}
-use Rattle.proto_parts.specs.declared.fault.ProtoReason.{ProtoReason}
+use Rattle.proto_grammar.specs.declared.fault.ProtoReason.{ProtoReason}
 use Rattle.schema_files.specs.Resolving.{HasFilesFault}
 use Rattle.schema_files.specs.declared.fault.FilesReason.{FilesReason}
 use Rattle.schema_files.specs.declared.fault.FilesReason.TheVariants.{Proto}

@@ -5,9 +5,9 @@ ghost use Rattle.schema_files.specs.Reason.{files_word};
 ghost use Rattle.schema_files.specs.declared.fault.FilesFault.TheVariants.{Memory as NoMemory};
 
 use mrpc_table::Memory;
-use proto_imports::ImportReason;
-use proto_parts::ProtoReason;
-use schema_offences::ResolveReason;
+use proto_grammar::ProtoReason;
+use proto_set::ImportReason;
+use schema_validation::ResolveReason;
 use std::alloc::{AllocError, AllocFailed};
 use std::fmt;
 use thiserror::Error;

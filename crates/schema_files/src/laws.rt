@@ -2,21 +2,22 @@
 
 ghost use Rattle.std.specs.Prelude.{◌≡◌, ℕ, ◌<◌, List, length};
 ghost use Rattle.mrpc_table.specs.declared.table.Table.{Table};
-ghost use Rattle.file_bundle.specs.Bundle.{File as PackedFile};
-ghost use Rattle.proto_join.specs.Sound.{AreSound};
-ghost use Rattle.proto_join.specs.declared.part.Part.{Part};
+ghost use Rattle.proto_set.specs.Bundle.{File as PackedFile};
+ghost use Rattle.proto_set.specs.Sound.{AreSound};
+ghost use Rattle.proto_set.specs.declared.part.Part.{Part};
 ghost use Rattle.schema_files.specs.Resolving.{AreJoined, FilesResolve, HasFilesFault, IsFirstFault};
 ghost use Rattle.schema_files.specs.declared.fault.FilesFault.{FilesFault};
 ghost use Rattle.schema_files.specs.declared.fault.FilesReason.{FilesReason};
 
-use file_bundle::one_refused;
-use proto_imports::{one_fault as one_import_fault, one_reach, reach_or_fault};
-use proto_join::{joined_is_ordered, places_apart};
 use proto_schema::{
     file_is_ordered, file_is_within, file_or_fault, one_fault as one_text_fault, one_file,
 };
-use schema_offences::{offences_stand, one_offence};
+use proto_set::{
+    joined_is_ordered, one_fault as one_import_fault, one_reach, one_refused, places_apart,
+    reach_or_fault,
+};
 use schema_resolve::{one_table, table_or_offence};
+use schema_validation::{offences_stand, one_offence};
 
 /// The files of a set are joined to at most one list of linked files.
 pub fn one_join()

@@ -1,17 +1,15 @@
 //! The files that the first one of a set reaches, ready to be joined.
 
 ghost use Rattle.std.specs.Prelude.{◌≡◌, ◌<◌, ℕ, List, Some, None, All, IfOk, length, map, slice_get, slice_set};
-ghost use Rattle.file_bundle.specs.Packed.{files_of};
-ghost use Rattle.proto_imports.specs.Reaching.{IsReach};
+ghost use Rattle.proto_set.specs.Packed.{files_of};
+ghost use Rattle.proto_set.specs.Reaching.{IsReach};
 ghost use Rattle.mrpc_table.specs.Valid.{AreDistinct};
 ghost use Rattle.schema_files.specs.Joined.{ReadAs, AreParts};
 ghost use Rattle.schema_files.specs.Placing.{ArePlaces, ArePlaced};
 
-use file_bundle::Packed;
 use mrpc_table::Memory;
-use proto_file::{File, Places};
-use proto_imports::{Member, Reach};
-use proto_join::Part;
+use proto_ast::{File, Places};
+use proto_set::{Member, Packed, Part, Reach};
 use std::alloc::Global;
 
 // The contents of the files of a set.

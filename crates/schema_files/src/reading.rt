@@ -1,16 +1,15 @@
 //! Reads the texts of a set of files.
 
 ghost use Rattle.std.specs.Prelude.{◌≡◌, IfOk, IfErr};
-ghost use Rattle.file_bundle.specs.Packed.{file_of, files_of};
+ghost use Rattle.proto_set.specs.Packed.{file_of, files_of};
 ghost use Rattle.schema_files.specs.Joined.{ReadsAs, ReadAs};
 ghost use Rattle.schema_files.specs.Unread.{IsUnread, IsFaultIn};
 
 use crate::fault::{FilesFault, FilesReason};
-use file_bundle::Packed;
 use mrpc_table::Name;
-use proto_imports::Member;
-use proto_parts::ProtoFault;
+use proto_grammar::ProtoFault;
 use proto_schema::read_proto;
+use proto_set::{Member, Packed};
 use std::alloc::Global;
 
 // Texts of at least this size in bytes can't be read: memory can't hold their tokens.

@@ -3,12 +3,12 @@
 ghost use Rattle.std.specs.Prelude.{◌≡◌, ◌<◌, ◌≤◌, ◌^◌, List, length, sum, map, sum_by, IfOk, IfErr, MatchResult};
 ghost use Rattle.mrpc_table.specs.Valid.{IsValid};
 ghost use Rattle.mrpc_table.specs.declared.table.Table.{Table};
-ghost use Rattle.file_bundle.specs.Packed.{files_of};
-ghost use Rattle.file_bundle.specs.Bundle.{File as PackedFile};
-ghost use Rattle.file_bundle.specs.Paths.{HaveRightPaths};
-ghost use Rattle.proto_imports.specs.Reaching.{HaveOwnPaths, IsReach};
-ghost use Rattle.proto_join.specs.Joining.{joined, sizes_of};
-ghost use Rattle.proto_join.specs.Sound.{AreSound};
+ghost use Rattle.proto_set.specs.Packed.{files_of};
+ghost use Rattle.proto_set.specs.Bundle.{File as PackedFile};
+ghost use Rattle.proto_set.specs.Paths.{HaveRightPaths};
+ghost use Rattle.proto_set.specs.Reaching.{HaveOwnPaths, IsReach};
+ghost use Rattle.proto_set.specs.Joining.{joined, sizes_of};
+ghost use Rattle.proto_set.specs.Sound.{AreSound};
 ghost use Rattle.schema_resolve.specs.Resolving.{ResolvesTogether};
 ghost use Rattle.schema_files.specs.Joined.{ReadAs};
 ghost use Rattle.schema_files.specs.Resolving.{AreJoined, FilesResolve, IsFaultOf};
@@ -19,12 +19,13 @@ use crate::fault::{FilesFault, FilesReason};
 use crate::laws::{joined_is_sound, one_join, table_or_files_fault};
 use crate::parts::parts_of;
 use crate::reading::members;
-use file_bundle::{Packed, first_refused, one_refused};
 use mrpc_table::{MAX_FILES, Memory, Table};
-use proto_imports::{ImportFault, Member, Reach, reach};
-use proto_join::{Part, file_at, join, joined_is_ordered, places_apart};
-use schema_offences::offences_stand;
+use proto_set::{
+    ImportFault, Member, Packed, Part, Reach, file_at, first_refused, join, joined_is_ordered,
+    one_refused, places_apart, reach,
+};
 use schema_resolve::{ResolveFault, resolve_together};
+use schema_validation::offences_stand;
 use std::alloc::Global;
 
 // The files that the first one of a set reaches.

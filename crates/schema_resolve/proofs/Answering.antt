@@ -1,15 +1,15 @@
 -- What resolving returns.
 use Rattle.std.proofs.Common.{◌≡◌, ◌∙◌, List, length, ap}
 use Rattle.std.proofs.lemmas.List.Elements.{All-contains}
-use Rattle.proto_file.specs.Order.{IsPlaceBelow}
-use Rattle.proto_file.specs.Together.{IsFormed}
-use Rattle.proto_file.specs.declared.file.MessageDecl.{MessageDecl}
-use Rattle.proto_file.specs.declared.file.EnumDecl.{EnumDecl}
-use Rattle.proto_file.specs.declared.file.ServiceDecl.{ServiceDecl}
-use Rattle.proto_file.specs.declared.joined.Head.{Head}
-use Rattle.proto_file.specs.declared.file.File.{File}
-use Rattle.proto_file.specs.Joined.{Joined, alone}
-use Rattle.schema_names.specs.Numbers.{StandBehind}
+use Rattle.proto_ast.specs.Order.{IsPlaceBelow}
+use Rattle.proto_ast.specs.Together.{IsFormed}
+use Rattle.proto_ast.specs.declared.file.MessageDecl.{MessageDecl}
+use Rattle.proto_ast.specs.declared.file.EnumDecl.{EnumDecl}
+use Rattle.proto_ast.specs.declared.file.ServiceDecl.{ServiceDecl}
+use Rattle.proto_ast.specs.declared.joined.Head.{Head}
+use Rattle.proto_ast.specs.declared.file.File.{File}
+use Rattle.proto_ast.specs.Joined.{Joined, alone}
+use Rattle.schema_symbols.specs.Numbers.{StandBehind}
 use Rattle.schema_resolve.proofs.CleanFiles.{parent_below}
 
 pub stands_behind : (F : Joined) → IsFormed F → StandBehind F

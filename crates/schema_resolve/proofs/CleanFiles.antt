@@ -8,22 +8,22 @@ use Rattle.std.proofs.lemmas.List.{length-append}
 use Rattle.std.proofs.lemmas.List.Elements.{All-contains}
 use Rattle.mrpc_table.specs.Valid.{AreDistinct}
 use Rattle.mrpc_table.specs.declared.limits.TheConstants.{MAX_MESSAGES, MAX_ENUMS}
-use Rattle.proto_file.specs.Order
-use Rattle.proto_file.specs.Order.{IsPlaceBelow, its_name}
-use Rattle.proto_file.specs.Together.{Declaration, IsFormed, IsOrdered, StandsAt, enum_decl, message_decl}
-use Rattle.proto_file.specs.declared.file.Span.{Span}
-use Rattle.proto_file.specs.declared.file.MessageDecl.{MessageDecl}
-use Rattle.proto_file.specs.declared.file.EnumDecl.{EnumDecl}
-use Rattle.proto_file.specs.Joined.{Joined, home_in, home_of, enum_home_of, package_parts, package_in, package_at}
-use Rattle.proto_file.specs.declared.joined.Home.TheVariants as home
-use Rattle.proto_file.specs.Together
-use Rattle.proto_file.specs.declared.joined.Head.{Head}
-use Rattle.proto_file.specs.declared.joined.Home.{Home}
-use Rattle.schema_names.specs.Scopes
-use Rattle.schema_names.specs.Scopes.{Sort, a_message, an_enum, Declares, text_of, IsScope, of_file, of_message}
-use Rattle.schema_offences.specs.Members.{too_many_messages, too_many_enums}
-use Rattle.schema_offences.specs.Offences
-use Rattle.schema_offences.specs.declared.reason.ResolveReason.TheVariants.{DuplicateName, Limit}
+use Rattle.proto_ast.specs.Order
+use Rattle.proto_ast.specs.Order.{IsPlaceBelow, its_name}
+use Rattle.proto_ast.specs.Together.{Declaration, IsFormed, IsOrdered, StandsAt, enum_decl, message_decl}
+use Rattle.proto_ast.specs.declared.file.Span.{Span}
+use Rattle.proto_ast.specs.declared.file.MessageDecl.{MessageDecl}
+use Rattle.proto_ast.specs.declared.file.EnumDecl.{EnumDecl}
+use Rattle.proto_ast.specs.Joined.{Joined, home_in, home_of, enum_home_of, package_parts, package_in, package_at}
+use Rattle.proto_ast.specs.declared.joined.Home.TheVariants as home
+use Rattle.proto_ast.specs.Together
+use Rattle.proto_ast.specs.declared.joined.Head.{Head}
+use Rattle.proto_ast.specs.declared.joined.Home.{Home}
+use Rattle.schema_symbols.specs.Scopes
+use Rattle.schema_symbols.specs.Scopes.{Sort, a_message, an_enum, Declares, text_of, IsScope, of_file, of_message}
+use Rattle.schema_validation.specs.Members.{too_many_messages, too_many_enums}
+use Rattle.schema_validation.specs.Offences
+use Rattle.schema_validation.specs.declared.reason.ResolveReason.TheVariants.{DuplicateName, Limit}
 use Rattle.schema_resolve.specs.Resolving.{IsClean}
 use Rattle.schema_resolve.specs.Placing.{behind, name_at, front_of, AreFronts, IsPlaceAmong, AreMessageNames, AreEnumNames}
 use Rattle.schema_resolve.proofs.FullNames.{AreNames, same_text, scope_names, names_more, behind_text, message_formed}

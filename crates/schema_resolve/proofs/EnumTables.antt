@@ -23,24 +23,24 @@ use Rattle.mrpc_table.specs.Names.{is_short, is_short_full, is_name_form, parts_
 use Rattle.mrpc_table.specs.Valid.{AreDistinct, IsValueBelow}
 use Rattle.mrpc_table.specs.declared.limits.TheConstants.{MAX_VALUES, MAX_NAME, MAX_FULL_NAME}
 use Rattle.mrpc_table.specs.declared.table.Choices.{Choices}
-use Rattle.proto_file.specs.Order
-use Rattle.proto_file.specs.Order.{HasName, IsFormedEnum}
-use Rattle.proto_file.specs.Together.{IsFormed, IsOrdered, value_decl}
-use Rattle.proto_file.specs.declared.file.Span.{Span}
-use Rattle.proto_file.specs.declared.file.Word.{Word}
-use Rattle.proto_file.specs.declared.file.ValueDecl.{ValueDecl}
-use Rattle.proto_file.specs.declared.file.EnumDecl.{EnumDecl}
-use Rattle.proto_file.specs.Joined.{Joined, enum_home_of, package_parts, package_in}
-use Rattle.proto_file.specs.Together
-use Rattle.proto_file.specs.declared.joined.Head.{Head}
-use Rattle.proto_file.specs.declared.joined.Home.{Home}
-use Rattle.schema_names.specs.Scopes
-use Rattle.schema_names.specs.Scopes.{Sort, is_type, no_type, an_enum, Declares, text_of, IsScope, of_file, of_message}
-use Rattle.schema_offences.specs.Types.{value_of}
-use Rattle.schema_offences.specs.Members
-use Rattle.schema_offences.specs.Members.{of_value, of_value_name, value_out_of_range, first_not_zero, name_too_many, name_long, long_message}
-use Rattle.schema_offences.specs.Offences
-use Rattle.schema_offences.specs.declared.reason.ResolveReason.TheVariants.{NumberRange, FirstEnum, Limit}
+use Rattle.proto_ast.specs.Order
+use Rattle.proto_ast.specs.Order.{HasName, IsFormedEnum}
+use Rattle.proto_ast.specs.Together.{IsFormed, IsOrdered, value_decl}
+use Rattle.proto_ast.specs.declared.file.Span.{Span}
+use Rattle.proto_ast.specs.declared.file.Word.{Word}
+use Rattle.proto_ast.specs.declared.file.ValueDecl.{ValueDecl}
+use Rattle.proto_ast.specs.declared.file.EnumDecl.{EnumDecl}
+use Rattle.proto_ast.specs.Joined.{Joined, enum_home_of, package_parts, package_in}
+use Rattle.proto_ast.specs.Together
+use Rattle.proto_ast.specs.declared.joined.Head.{Head}
+use Rattle.proto_ast.specs.declared.joined.Home.{Home}
+use Rattle.schema_symbols.specs.Scopes
+use Rattle.schema_symbols.specs.Scopes.{Sort, is_type, no_type, an_enum, Declares, text_of, IsScope, of_file, of_message}
+use Rattle.schema_validation.specs.Types.{value_of}
+use Rattle.schema_validation.specs.Members
+use Rattle.schema_validation.specs.Members.{of_value, of_value_name, value_out_of_range, first_not_zero, name_too_many, name_long, long_message}
+use Rattle.schema_validation.specs.Offences
+use Rattle.schema_validation.specs.declared.reason.ResolveReason.TheVariants.{NumberRange, FirstEnum, Limit}
 use Rattle.schema_resolve.specs.Tables.{IsEnumOf}
 use Rattle.schema_resolve.specs.Resolving.{IsClean}
 use Rattle.schema_resolve.specs.Placing.{name_at, IsPlan}

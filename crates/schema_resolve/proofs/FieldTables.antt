@@ -13,30 +13,30 @@ use Rattle.std.proofs.lemmas.List.Sorted.{IsPermutation-map, IsPermutation-sym, 
 use Rattle.mrpc_table.specs.Words.{is_key, is_numeric}
 use Rattle.mrpc_table.specs.declared.table.Kind.{Kind}
 use Rattle.mrpc_table.specs.declared.table.Label.{Label}
-use Rattle.proto_file.specs.Order
-use Rattle.proto_file.specs.Order.{IsFormedField}
-use Rattle.proto_file.specs.Together.{IsFormed, IsOrdered, field_decl}
-use Rattle.proto_file.specs.declared.file.Span.{Span}
-use Rattle.proto_file.specs.declared.file.Word.{Word}
-use Rattle.proto_file.specs.declared.file.FieldLabel.{FieldLabel}
-use Rattle.proto_file.specs.declared.file.FieldLabel.TheVariants.{Plain, Optional, Repeated}
-use Rattle.proto_file.specs.declared.file.FieldType.{FieldType}
-use Rattle.proto_file.specs.declared.file.FieldType.TheVariants.{Named, Map, NestedMap}
-use Rattle.proto_file.specs.declared.file.FieldDecl.{FieldDecl}
-use Rattle.proto_file.specs.declared.file.MessageDecl.{MessageDecl}
-use Rattle.proto_file.specs.Joined.{Joined, home_of}
-use Rattle.proto_file.specs.declared.joined.Home.TheVariants as home
-use Rattle.proto_file.specs.Together
-use Rattle.schema_names.specs.Scopes
-use Rattle.schema_names.specs.Scopes.{Sort, a_message, an_enum, no_type, Names, Finds, text_of, IsScope, of_message}
-use Rattle.schema_offences.specs.Types.{value_of, IsScalar, IsNoScalar, HasType, scalar, message, enum, HasForm, single, a_map}
-use Rattle.schema_names.specs.Finding.{NamesNothing}
-use Rattle.schema_offences.specs.Members.{unknown_key, scalar_key, type_key, nested, labelled, in_oneof}
-use Rattle.schema_offences.specs.Members.{TypeOffends, unknown_type, bad_key, unknown_value, misplaced}
-use Rattle.schema_offences.specs.Members.{IsFieldNumberOf, of_type, of_number, number_out_of_range, number_met_before}
-use Rattle.schema_offences.specs.Offences
-use Rattle.schema_offences.specs.declared.reason.ResolveReason.{ResolveReason}
-use Rattle.schema_offences.specs.declared.reason.ResolveReason.TheVariants.{UnknownName, NumberRange, DuplicateNumber, MapKey, MapPlace}
+use Rattle.proto_ast.specs.Order
+use Rattle.proto_ast.specs.Order.{IsFormedField}
+use Rattle.proto_ast.specs.Together.{IsFormed, IsOrdered, field_decl}
+use Rattle.proto_ast.specs.declared.file.Span.{Span}
+use Rattle.proto_ast.specs.declared.file.Word.{Word}
+use Rattle.proto_ast.specs.declared.file.FieldLabel.{FieldLabel}
+use Rattle.proto_ast.specs.declared.file.FieldLabel.TheVariants.{Plain, Optional, Repeated}
+use Rattle.proto_ast.specs.declared.file.FieldType.{FieldType}
+use Rattle.proto_ast.specs.declared.file.FieldType.TheVariants.{Named, Map, NestedMap}
+use Rattle.proto_ast.specs.declared.file.FieldDecl.{FieldDecl}
+use Rattle.proto_ast.specs.declared.file.MessageDecl.{MessageDecl}
+use Rattle.proto_ast.specs.Joined.{Joined, home_of}
+use Rattle.proto_ast.specs.declared.joined.Home.TheVariants as home
+use Rattle.proto_ast.specs.Together
+use Rattle.schema_symbols.specs.Scopes
+use Rattle.schema_symbols.specs.Scopes.{Sort, a_message, an_enum, no_type, Names, Finds, text_of, IsScope, of_message}
+use Rattle.schema_validation.specs.Types.{value_of, IsScalar, IsNoScalar, HasType, scalar, message, enum, HasForm, single, a_map}
+use Rattle.schema_symbols.specs.Finding.{NamesNothing}
+use Rattle.schema_validation.specs.Members.{unknown_key, scalar_key, type_key, nested, labelled, in_oneof}
+use Rattle.schema_validation.specs.Members.{TypeOffends, unknown_type, bad_key, unknown_value, misplaced}
+use Rattle.schema_validation.specs.Members.{IsFieldNumberOf, of_type, of_number, number_out_of_range, number_met_before}
+use Rattle.schema_validation.specs.Offences
+use Rattle.schema_validation.specs.declared.reason.ResolveReason.{ResolveReason}
+use Rattle.schema_validation.specs.declared.reason.ResolveReason.TheVariants.{UnknownName, NumberRange, DuplicateNumber, MapKey, MapPlace}
 use Rattle.schema_resolve.specs.Resolving.{IsClean}
 use Rattle.schema_resolve.specs.Judged.{IsJudged, AreJudgedInOrder, AreJudged}
 use Rattle.schema_resolve.specs.declared.field_table.Judged.{Judged}

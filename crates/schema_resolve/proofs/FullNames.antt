@@ -9,15 +9,15 @@ use Rattle.std.proofs.lemmas.List.Folds.{list_all-append}
 use Rattle.std.proofs.lemmas.List.Splits.{join_with_byte-slice_split}
 use Rattle.std.proofs.lemmas.Option.{slice_get_within, get_or_from_slice_get}
 use Rattle.mrpc_table.specs.Names.{is_name_start, is_name_byte, is_name_form, parts_of}
-use Rattle.proto_file.specs.Dot.{dot}
-use Rattle.proto_file.specs.Order.{HasFullName, IsFormedMessage}
-use Rattle.proto_file.specs.Together.{IsFormed}
-use Rattle.proto_file.specs.declared.file.Word.{Word}
-use Rattle.proto_file.specs.declared.file.MessageDecl.{MessageDecl}
-use Rattle.proto_file.specs.Joined.{Joined, package_parts, package_in, package_at}
-use Rattle.proto_file.specs.declared.joined.Head.{Head}
-use Rattle.proto_file.specs.declared.joined.Home.{Home}
-use Rattle.schema_names.specs.Scopes.{text_of, IsScope, of_file, of_message}
+use Rattle.proto_ast.specs.Dot.{dot}
+use Rattle.proto_ast.specs.Order.{HasFullName, IsFormedMessage}
+use Rattle.proto_ast.specs.Together.{IsFormed}
+use Rattle.proto_ast.specs.declared.file.Word.{Word}
+use Rattle.proto_ast.specs.declared.file.MessageDecl.{MessageDecl}
+use Rattle.proto_ast.specs.Joined.{Joined, package_parts, package_in, package_at}
+use Rattle.proto_ast.specs.declared.joined.Head.{Head}
+use Rattle.proto_ast.specs.declared.joined.Home.{Home}
+use Rattle.schema_symbols.specs.Scopes.{text_of, IsScope, of_file, of_message}
 use Rattle.schema_resolve.specs.Placing.{behind}
 
 -- ---- names without dots

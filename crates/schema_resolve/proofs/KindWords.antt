@@ -17,23 +17,23 @@ use Rattle.mrpc_table.specs.declared.table.Label.TheVariants as labels
 use Rattle.mrpc_table.specs.declared.table.Choices.{Choices}
 use Rattle.mrpc_table.specs.declared.table.Table.{Table}
 use Rattle.std.proofs.lemmas.List.Elements.{All-contains}
-use Rattle.proto_file.specs.Order.{IsFormedEnum}
-use Rattle.proto_file.specs.Together.{IsFormed}
-use Rattle.proto_file.specs.declared.file.Span.{Span}
-use Rattle.proto_file.specs.declared.file.Word.{Word}
-use Rattle.proto_file.specs.declared.file.FieldLabel.{FieldLabel}
-use Rattle.proto_file.specs.declared.file.FieldLabel.TheVariants.{Plain, Optional, Repeated}
-use Rattle.proto_file.specs.declared.file.FieldDecl.{FieldDecl}
-use Rattle.proto_file.specs.Joined.{Joined}
-use Rattle.schema_names.specs.Scopes
-use Rattle.schema_names.specs.Scopes.{Sort, is_type, Declares, Finds, text_of}
-use Rattle.schema_names.specs.Numbers
-use Rattle.schema_names.specs.Numbers.{StandsAt}
-use Rattle.schema_names.specs.declared.named.Named.TheVariants as named
-use Rattle.schema_offences.specs.Types.{is_scalar, IsScalar, isnt_false, single_label, label_in, HasType, scalar, message, enum, HasForm, single, a_map}
-use Rattle.schema_offences.specs.Forms.{IsWordOf}
-use Rattle.schema_offences.specs.declared.types.TypeOf.{TypeOf}
-use Rattle.schema_offences.specs.declared.types.TypeOf.TheVariants.{Scalar, Named}
+use Rattle.proto_ast.specs.Order.{IsFormedEnum}
+use Rattle.proto_ast.specs.Together.{IsFormed}
+use Rattle.proto_ast.specs.declared.file.Span.{Span}
+use Rattle.proto_ast.specs.declared.file.Word.{Word}
+use Rattle.proto_ast.specs.declared.file.FieldLabel.{FieldLabel}
+use Rattle.proto_ast.specs.declared.file.FieldLabel.TheVariants.{Plain, Optional, Repeated}
+use Rattle.proto_ast.specs.declared.file.FieldDecl.{FieldDecl}
+use Rattle.proto_ast.specs.Joined.{Joined}
+use Rattle.schema_symbols.specs.Scopes
+use Rattle.schema_symbols.specs.Scopes.{Sort, is_type, Declares, Finds, text_of}
+use Rattle.schema_symbols.specs.Numbers
+use Rattle.schema_symbols.specs.Numbers.{StandsAt}
+use Rattle.schema_symbols.specs.declared.named.Named.TheVariants as named
+use Rattle.schema_validation.specs.Types.{is_scalar, IsScalar, isnt_false, single_label, label_in, HasType, scalar, message, enum, HasForm, single, a_map}
+use Rattle.schema_validation.specs.Forms.{IsWordOf}
+use Rattle.schema_validation.specs.declared.types.TypeOf.{TypeOf}
+use Rattle.schema_validation.specs.declared.types.TypeOf.TheVariants.{Scalar, Named}
 use Rattle.schema_resolve.specs.Placing.{IsPlan, HasNames}
 use Rattle.schema_resolve.specs.Joining.{kind_in, IsInPlan}
 use Rattle.schema_resolve.specs.declared.plan.Plan.{Plan}

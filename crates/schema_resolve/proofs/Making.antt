@@ -2,8 +2,8 @@
 use Rattle.std.proofs.Common.{◌≡◌, ℕ, ◌+◌, ◌<◌, ◌≤◌, List, [], ◌∷◌, ◌++◌, length, get_or, take, sym, ap, subst, arith}
 use Rattle.std.proofs.lemmas.List.{take_more, take_all}
 use Rattle.std.proofs.lemmas.List.Elements.{All-get_or}
-use Rattle.proto_file.specs.Joined.{Joined}
-use Rattle.schema_offences.specs.Those.{AreThoseInOrder, none}
+use Rattle.proto_ast.specs.Joined.{Joined}
+use Rattle.schema_validation.specs.Those.{AreThoseInOrder, none}
 use Rattle.schema_resolve.specs.Placing.{IsPlan}
 use Rattle.schema_resolve.specs.declared.plan.Plan.{Plan}
 use Rattle.schema_resolve.proofs.MethodTables.{in_order_push}

@@ -13,24 +13,24 @@ use Rattle.mrpc_table.specs.declared.table.Label.{Label}
 use Rattle.mrpc_table.specs.declared.table.Label.TheVariants.{Member}
 use Rattle.mrpc_table.specs.declared.table.Field.{Field}
 use Rattle.mrpc_table.specs.declared.table.Message.{Message}
-use Rattle.proto_file.specs.Order.{IsPlaceBelow}
-use Rattle.proto_file.specs.Together.{IsFormed, IsOrdered}
-use Rattle.proto_file.specs.declared.file.Word.{Word}
-use Rattle.proto_file.specs.declared.file.FieldDecl.{FieldDecl}
-use Rattle.proto_file.specs.declared.file.MessageDecl.{MessageDecl}
-use Rattle.proto_file.specs.Joined.{Joined}
-use Rattle.proto_file.specs.declared.file.Span.{Span}
-use Rattle.schema_names.specs.Scopes
-use Rattle.schema_names.specs.Scopes.{Declares, Finds, a_message, an_enum}
-use Rattle.schema_names.specs.Numbers
-use Rattle.schema_names.specs.Numbers.{StandsAt, IsOfFile}
-use Rattle.schema_names.specs.declared.named.Named.TheVariants as named
-use Rattle.schema_offences.specs.Those.{AreThoseInOrder}
-use Rattle.schema_offences.specs.Types.{HasType, scalar, message, enum, HasForm, single, a_map}
-use Rattle.schema_offences.specs.Forms.{IsWordOf, IsForm}
-use Rattle.schema_offences.specs.declared.types.TypeOf.{TypeOf}
-use Rattle.schema_offences.specs.declared.types.TypeOf.TheVariants.{Scalar, Named}
-use Rattle.schema_offences.specs.declared.types.Form.{Form}
+use Rattle.proto_ast.specs.Order.{IsPlaceBelow}
+use Rattle.proto_ast.specs.Together.{IsFormed, IsOrdered}
+use Rattle.proto_ast.specs.declared.file.Word.{Word}
+use Rattle.proto_ast.specs.declared.file.FieldDecl.{FieldDecl}
+use Rattle.proto_ast.specs.declared.file.MessageDecl.{MessageDecl}
+use Rattle.proto_ast.specs.Joined.{Joined}
+use Rattle.proto_ast.specs.declared.file.Span.{Span}
+use Rattle.schema_symbols.specs.Scopes
+use Rattle.schema_symbols.specs.Scopes.{Declares, Finds, a_message, an_enum}
+use Rattle.schema_symbols.specs.Numbers
+use Rattle.schema_symbols.specs.Numbers.{StandsAt, IsOfFile}
+use Rattle.schema_symbols.specs.declared.named.Named.TheVariants as named
+use Rattle.schema_validation.specs.Those.{AreThoseInOrder}
+use Rattle.schema_validation.specs.Types.{HasType, scalar, message, enum, HasForm, single, a_map}
+use Rattle.schema_validation.specs.Forms.{IsWordOf, IsForm}
+use Rattle.schema_validation.specs.declared.types.TypeOf.{TypeOf}
+use Rattle.schema_validation.specs.declared.types.TypeOf.TheVariants.{Scalar, Named}
+use Rattle.schema_validation.specs.declared.types.Form.{Form}
 use Rattle.schema_resolve.specs.Resolving.{IsClean}
 use Rattle.schema_resolve.specs.Placing.{name_at, IsPlan}
 use Rattle.schema_resolve.specs.Judged.{IsJudged, AreJudgedInOrder, AreJudged}

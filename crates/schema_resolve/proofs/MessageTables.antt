@@ -17,21 +17,21 @@ use Rattle.mrpc_table.specs.declared.table.Label.TheVariants.{Plain, Optional, R
 use Rattle.mrpc_table.specs.declared.table.Field.{Field}
 use Rattle.mrpc_table.specs.declared.table.Message.{Message}
 use Rattle.mrpc_table.specs.declared.table.Table.{Table}
-use Rattle.proto_file.specs.Order.{HasName, IsFormedField, IsPlaceBelow}
-use Rattle.proto_file.specs.Together.{IsFormed, IsOrdered, oneof_decl}
-use Rattle.proto_file.specs.declared.file.Word.{Word}
-use Rattle.proto_file.specs.declared.file.FieldDecl.{FieldDecl}
-use Rattle.proto_file.specs.declared.file.MessageDecl.{MessageDecl}
-use Rattle.proto_file.specs.Joined.{Joined, home_of}
-use Rattle.proto_file.specs.declared.joined.Home.TheVariants as home
-use Rattle.proto_file.specs.Together
-use Rattle.schema_names.specs.Scopes
-use Rattle.schema_names.specs.Scopes.{a_message, no_type, text_of, IsScope, of_message}
-use Rattle.schema_offences.specs.Those.{AreThoseInOrder, none, next}
-use Rattle.schema_offences.specs.Types.{single_label, label_in, HasForm, single, a_map}
-use Rattle.schema_offences.specs.Members.{long_message, of_name, of_oneof, name_long, name_too_many}
-use Rattle.schema_offences.specs.Offences
-use Rattle.schema_offences.specs.declared.reason.ResolveReason.TheVariants.{Limit}
+use Rattle.proto_ast.specs.Order.{HasName, IsFormedField, IsPlaceBelow}
+use Rattle.proto_ast.specs.Together.{IsFormed, IsOrdered, oneof_decl}
+use Rattle.proto_ast.specs.declared.file.Word.{Word}
+use Rattle.proto_ast.specs.declared.file.FieldDecl.{FieldDecl}
+use Rattle.proto_ast.specs.declared.file.MessageDecl.{MessageDecl}
+use Rattle.proto_ast.specs.Joined.{Joined, home_of}
+use Rattle.proto_ast.specs.declared.joined.Home.TheVariants as home
+use Rattle.proto_ast.specs.Together
+use Rattle.schema_symbols.specs.Scopes
+use Rattle.schema_symbols.specs.Scopes.{a_message, no_type, text_of, IsScope, of_message}
+use Rattle.schema_validation.specs.Those.{AreThoseInOrder, none, next}
+use Rattle.schema_validation.specs.Types.{single_label, label_in, HasForm, single, a_map}
+use Rattle.schema_validation.specs.Members.{long_message, of_name, of_oneof, name_long, name_too_many}
+use Rattle.schema_validation.specs.Offences
+use Rattle.schema_validation.specs.declared.reason.ResolveReason.TheVariants.{Limit}
 use Rattle.schema_resolve.specs.Tables.{IsFieldOf, IsMessageOf}
 use Rattle.schema_resolve.specs.Resolving.{IsClean}
 use Rattle.schema_resolve.specs.Placing.{name_at, IsPlan, HasNames}

@@ -11,22 +11,22 @@ use Rattle.mrpc_table.specs.Text.{message_name}
 use Rattle.mrpc_table.specs.declared.table.Message.{Message}
 use Rattle.mrpc_table.specs.declared.table.Method.{Method}
 use Rattle.mrpc_table.specs.declared.table.Table.{Table}
-use Rattle.proto_file.specs.Order.{IsFormedRpc, IsFormedService}
-use Rattle.proto_file.specs.Together.{IsFormed}
-use Rattle.proto_file.specs.declared.file.Span.{Span}
-use Rattle.proto_file.specs.declared.file.RpcDecl.{RpcDecl}
-use Rattle.proto_file.specs.declared.file.ServiceDecl.{ServiceDecl}
-use Rattle.proto_file.specs.Joined.{Joined, package_at}
-use Rattle.proto_file.specs.declared.joined.Home.TheVariants as home
-use Rattle.schema_names.specs.Scopes.{Names, a_message, text_of, IsScope, of_file, of_message}
-use Rattle.schema_names.specs.Numbers
-use Rattle.schema_names.specs.Numbers.{StandsAt, IsFirstAt}
-use Rattle.schema_names.specs.declared.named.Named.TheVariants as named
-use Rattle.schema_offences.specs.Methods.{rpcs_of, service_rpcs}
-use Rattle.schema_offences.specs.Those.{AreThoseInOrder, none, next}
-use Rattle.schema_offences.specs.Members.{IsNoMessage, no_input, no_output, long_method}
-use Rattle.schema_offences.specs.Offences
-use Rattle.schema_offences.specs.declared.reason.ResolveReason.TheVariants.{UnknownName, Limit}
+use Rattle.proto_ast.specs.Order.{IsFormedRpc, IsFormedService}
+use Rattle.proto_ast.specs.Together.{IsFormed}
+use Rattle.proto_ast.specs.declared.file.Span.{Span}
+use Rattle.proto_ast.specs.declared.file.RpcDecl.{RpcDecl}
+use Rattle.proto_ast.specs.declared.file.ServiceDecl.{ServiceDecl}
+use Rattle.proto_ast.specs.Joined.{Joined, package_at}
+use Rattle.proto_ast.specs.declared.joined.Home.TheVariants as home
+use Rattle.schema_symbols.specs.Scopes.{Names, a_message, text_of, IsScope, of_file, of_message}
+use Rattle.schema_symbols.specs.Numbers
+use Rattle.schema_symbols.specs.Numbers.{StandsAt, IsFirstAt}
+use Rattle.schema_symbols.specs.declared.named.Named.TheVariants as named
+use Rattle.schema_validation.specs.Methods.{rpcs_of, service_rpcs}
+use Rattle.schema_validation.specs.Those.{AreThoseInOrder, none, next}
+use Rattle.schema_validation.specs.Members.{IsNoMessage, no_input, no_output, long_method}
+use Rattle.schema_validation.specs.Offences
+use Rattle.schema_validation.specs.declared.reason.ResolveReason.TheVariants.{UnknownName, Limit}
 use Rattle.schema_resolve.specs.Resolving.{IsClean}
 use Rattle.schema_resolve.specs.Placing.{behind, name_at, IsPlan, IsPlaced, HasNames, names_in_order}
 use Rattle.schema_resolve.specs.InOrder.{IsPlaceNamed, IsMethodIn, AreMethods}

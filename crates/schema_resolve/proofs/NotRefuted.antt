@@ -1,7 +1,7 @@
 -- Statements that are not refuted, and choices along a list.
 use Rattle.std.proofs.Common.{suc, List, [], ◌∷◌, refl, arith}
 use Rattle.std.specs.Prelude.{Contains}
-use Rattle.schema_offences.specs.Those.{AreThoseInOrder, none, next}
+use Rattle.schema_validation.specs.Those.{AreThoseInOrder, none, next}
 
 abbrev pub IsNotRefuted : Type 0 → Type 0
 IsNotRefuted A = (A → ⊥) → ⊥

@@ -1,21 +1,21 @@
 -- A file alone has at most one first violation.
 use Rattle.std.proofs.Common.{◌≡◌, ℕ, ◌≤◌, inl, inr, List, sym, ap, ◌∙◌, subst, arith}
 use Rattle.std.proofs.lemmas.Option.{same_Some}
-use Rattle.proto_file.specs.Joined.{Joined, alone}
-use Rattle.proto_file.specs.declared.file.Span.{Span}
-use Rattle.proto_file.specs.declared.file.Import.{Import}
-use Rattle.proto_file.specs.declared.file.FieldDecl.{FieldDecl}
-use Rattle.proto_file.specs.declared.file.MessageDecl.{MessageDecl}
-use Rattle.proto_file.specs.declared.file.EnumDecl.{EnumDecl}
-use Rattle.proto_file.specs.declared.file.RpcDecl.{RpcDecl}
-use Rattle.proto_file.specs.declared.file.Word.{Word}
-use Rattle.proto_file.specs.declared.file.File.{File}
-use Rattle.schema_offences.specs.Members
-use Rattle.schema_offences.specs.Members.{Is, KeyOffends, TypeOffends, NumberOffends, ValueOffends, NameOffends, MessageOffends, EnumOffends, MethodOffends}
-use Rattle.schema_offences.specs.Offences
-use Rattle.schema_offences.specs.Offences.{Offends, IsOffence, offends, has_import, rank_of, ComesFirst, HasOffence, HasFirst}
-use Rattle.schema_offences.specs.declared.reason.ResolveReason.{ResolveReason}
-use Rattle.schema_offences.specs.declared.reason.ResolveReason.TheVariants.{UnknownName, NumberRange, DuplicateNumber, DuplicateName, Reserved, FirstEnum, MapKey, MapPlace, Limit}
+use Rattle.proto_ast.specs.Joined.{Joined, alone}
+use Rattle.proto_ast.specs.declared.file.Span.{Span}
+use Rattle.proto_ast.specs.declared.file.Import.{Import}
+use Rattle.proto_ast.specs.declared.file.FieldDecl.{FieldDecl}
+use Rattle.proto_ast.specs.declared.file.MessageDecl.{MessageDecl}
+use Rattle.proto_ast.specs.declared.file.EnumDecl.{EnumDecl}
+use Rattle.proto_ast.specs.declared.file.RpcDecl.{RpcDecl}
+use Rattle.proto_ast.specs.declared.file.Word.{Word}
+use Rattle.proto_ast.specs.declared.file.File.{File}
+use Rattle.schema_validation.specs.Members
+use Rattle.schema_validation.specs.Members.{Is, KeyOffends, TypeOffends, NumberOffends, ValueOffends, NameOffends, MessageOffends, EnumOffends, MethodOffends}
+use Rattle.schema_validation.specs.Offences
+use Rattle.schema_validation.specs.Offences.{Offends, IsOffence, offends, has_import, rank_of, ComesFirst, HasOffence, HasFirst}
+use Rattle.schema_validation.specs.declared.reason.ResolveReason.{ResolveReason}
+use Rattle.schema_validation.specs.declared.reason.ResolveReason.TheVariants.{UnknownName, NumberRange, DuplicateNumber, DuplicateName, Reserved, FirstEnum, MapKey, MapPlace, Limit}
 
 -- ---- no violation of files that are resolved together is an import
 

@@ -19,26 +19,26 @@ use Rattle.mrpc_table.specs.declared.table.Message.{Message}
 use Rattle.mrpc_table.specs.declared.table.Choices.{Choices}
 use Rattle.mrpc_table.specs.declared.table.Method.{Method}
 use Rattle.mrpc_table.specs.declared.table.Table.{Table}
-use Rattle.proto_file.specs.Order.{its_name}
-use Rattle.proto_file.specs.Together.{IsOrdered, enum_decl, message_decl}
-use Rattle.proto_file.specs.declared.file.Span.{Span}
-use Rattle.proto_file.specs.declared.file.Word.{Word}
-use Rattle.proto_file.specs.declared.file.FieldType.TheVariants.{Named, Map}
-use Rattle.proto_file.specs.declared.file.FieldDecl.{FieldDecl}
-use Rattle.proto_file.specs.declared.file.MessageDecl.{MessageDecl}
-use Rattle.proto_file.specs.declared.file.EnumDecl.{EnumDecl}
-use Rattle.proto_file.specs.declared.file.RpcDecl.{RpcDecl}
-use Rattle.proto_file.specs.declared.file.ServiceDecl.{ServiceDecl}
-use Rattle.proto_file.specs.Joined.{Joined, package_at}
-use Rattle.proto_file.specs.Together
-use Rattle.schema_names.specs.Scopes.{Sort, a_message, an_enum, text_of, Names}
-use Rattle.schema_names.specs.Numbers
-use Rattle.schema_names.specs.Numbers.{StandsAt, StartApart}
-use Rattle.schema_names.specs.declared.named.Named as names
-use Rattle.schema_names.specs.declared.named.Named.TheVariants as named
-use Rattle.schema_offences.specs.Methods.{rpcs_of}
-use Rattle.schema_offences.specs.Those.{AreThoseInOrder, none, next}
-use Rattle.schema_offences.specs.Types.{single_label, label_in, HasType, scalar, message, enum, HasForm, single, a_map}
+use Rattle.proto_ast.specs.Order.{its_name}
+use Rattle.proto_ast.specs.Together.{IsOrdered, enum_decl, message_decl}
+use Rattle.proto_ast.specs.declared.file.Span.{Span}
+use Rattle.proto_ast.specs.declared.file.Word.{Word}
+use Rattle.proto_ast.specs.declared.file.FieldType.TheVariants.{Named, Map}
+use Rattle.proto_ast.specs.declared.file.FieldDecl.{FieldDecl}
+use Rattle.proto_ast.specs.declared.file.MessageDecl.{MessageDecl}
+use Rattle.proto_ast.specs.declared.file.EnumDecl.{EnumDecl}
+use Rattle.proto_ast.specs.declared.file.RpcDecl.{RpcDecl}
+use Rattle.proto_ast.specs.declared.file.ServiceDecl.{ServiceDecl}
+use Rattle.proto_ast.specs.Joined.{Joined, package_at}
+use Rattle.proto_ast.specs.Together
+use Rattle.schema_symbols.specs.Scopes.{Sort, a_message, an_enum, text_of, Names}
+use Rattle.schema_symbols.specs.Numbers
+use Rattle.schema_symbols.specs.Numbers.{StandsAt, StartApart}
+use Rattle.schema_symbols.specs.declared.named.Named as names
+use Rattle.schema_symbols.specs.declared.named.Named.TheVariants as named
+use Rattle.schema_validation.specs.Methods.{rpcs_of}
+use Rattle.schema_validation.specs.Those.{AreThoseInOrder, none, next}
+use Rattle.schema_validation.specs.Types.{single_label, label_in, HasType, scalar, message, enum, HasForm, single, a_map}
 use Rattle.schema_resolve.specs.Tables.{IsFieldOf, IsMessageOf, IsEnumOf, IsMethodOf, IsTableOf}
 use Rattle.schema_resolve.proofs.Orders.{ascends_past, ascends_rest, below_trans, below_strict}
 use Rattle.schema_resolve.proofs.CleanFiles.{one_scope}

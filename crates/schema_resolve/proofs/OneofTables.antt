@@ -5,7 +5,7 @@ use Rattle.std.specs.Prelude.{slice_get}
 use Rattle.std.proofs.lemmas.Bool.{cases_lt, cases_eq}
 use Rattle.std.proofs.lemmas.Option.{slice_get_within, same_Some}
 use Rattle.std.proofs.lemmas.List.{length-append}
-use Rattle.proto_file.specs.declared.file.Word.{Word}
+use Rattle.proto_ast.specs.declared.file.Word.{Word}
 use Rattle.schema_resolve.specs.Joining.{AreUnplaced, IsPlacedOneof, KeepsOneofs}
 use Rattle.schema_resolve.specs.declared.oneof_table.Oneofs.{Oneofs}
 use Rattle.schema_resolve.proofs.CleanFiles.{push_old, push_new}

@@ -7,9 +7,9 @@ use Rattle.std.specs.Ordering.{nat_cmp}
 use Rattle.std.proofs.lemmas.Cmp.{nat_cmp_total, nat_list_cmp_total}
 use Rattle.std.proofs.lemmas.List.{get_or_default, length-append}
 use Rattle.mrpc_table.specs.Valid.{AreDistinct}
-use Rattle.proto_file.specs.Together.{IsFormed, IsOrdered}
-use Rattle.proto_file.specs.Joined.{Joined, home_of, enum_home_of, package_parts}
-use Rattle.schema_names.specs.Scopes.{text_of}
+use Rattle.proto_ast.specs.Together.{IsFormed, IsOrdered}
+use Rattle.proto_ast.specs.Joined.{Joined, home_of, enum_home_of, package_parts}
+use Rattle.schema_symbols.specs.Scopes.{text_of}
 use Rattle.schema_resolve.specs.Resolving.{IsClean}
 use Rattle.schema_resolve.specs.Placing.{behind, front_of, name_at, AreFronts, IsOrder, AreAll, IsPlaced, AreMessageNames, AreEnumNames, IsPlan}
 use Rattle.schema_resolve.specs.declared.placed.PlacedNames.{PlacedNames}

@@ -17,21 +17,21 @@ use Rattle.mrpc_table.specs.declared.table.Field.{Field}
 use Rattle.mrpc_table.specs.declared.table.Message.{Message}
 use Rattle.mrpc_table.specs.declared.table.Method.{Method}
 use Rattle.mrpc_table.specs.declared.table.Table.{Table}
-use Rattle.proto_file.specs.Joined.{Joined, Sees, home_of, package_at}
-use Rattle.proto_file.specs.declared.file.Span.{Span}
-use Rattle.proto_file.specs.declared.file.Word.{Word}
-use Rattle.proto_file.specs.declared.file.FieldLabel.TheVariants.{Plain}
-use Rattle.proto_file.specs.declared.file.FieldType.TheVariants.{Named}
-use Rattle.proto_file.specs.declared.file.FieldDecl.{FieldDecl}
-use Rattle.proto_file.specs.declared.file.MessageDecl.{MessageDecl}
-use Rattle.proto_file.specs.declared.file.RpcDecl.{RpcDecl}
-use Rattle.proto_file.specs.declared.file.ServiceDecl.{ServiceDecl}
-use Rattle.proto_file.specs.declared.joined.Head.{Head}
-use Rattle.proto_file.specs.declared.joined.Home.TheVariants as home
-use Rattle.schema_names.specs.Scopes
-use Rattle.schema_names.specs.Scopes.{IsScope, of_file, Sort, a_message, is_type, Declares, IsThere, a_type, a_package, here, outward, relative, Names}
-use Rattle.schema_offences.specs.Types.{IsNoScalar, message, single}
-use Rattle.schema_offences.specs.Those.{AreThose, AreThoseInOrder, none, next}
+use Rattle.proto_ast.specs.Joined.{Joined, Sees, home_of, package_at}
+use Rattle.proto_ast.specs.declared.file.Span.{Span}
+use Rattle.proto_ast.specs.declared.file.Word.{Word}
+use Rattle.proto_ast.specs.declared.file.FieldLabel.TheVariants.{Plain}
+use Rattle.proto_ast.specs.declared.file.FieldType.TheVariants.{Named}
+use Rattle.proto_ast.specs.declared.file.FieldDecl.{FieldDecl}
+use Rattle.proto_ast.specs.declared.file.MessageDecl.{MessageDecl}
+use Rattle.proto_ast.specs.declared.file.RpcDecl.{RpcDecl}
+use Rattle.proto_ast.specs.declared.file.ServiceDecl.{ServiceDecl}
+use Rattle.proto_ast.specs.declared.joined.Head.{Head}
+use Rattle.proto_ast.specs.declared.joined.Home.TheVariants as home
+use Rattle.schema_symbols.specs.Scopes
+use Rattle.schema_symbols.specs.Scopes.{IsScope, of_file, Sort, a_message, is_type, Declares, IsThere, a_type, a_package, here, outward, relative, Names}
+use Rattle.schema_validation.specs.Types.{IsNoScalar, message, single}
+use Rattle.schema_validation.specs.Those.{AreThose, AreThoseInOrder, none, next}
 use Rattle.schema_resolve.specs.Tables.{IsFieldOf, IsMessageOf, IsEnumOf, IsMethodOf, IsTableOf}
 use Rattle.schema_resolve.proofs.CleanFiles.{in_list, at_in, scope_of_file}
 use Rattle.schema_resolve.proofs.KindWords.{scalar_known}

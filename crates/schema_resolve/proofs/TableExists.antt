@@ -12,26 +12,26 @@ use Rattle.std.proofs.lemmas.List.Elements.{All-contains}
 use Rattle.mrpc_table.specs.declared.table.Choices.{Choices}
 use Rattle.mrpc_table.specs.declared.table.Method.{Method}
 use Rattle.mrpc_table.specs.declared.table.Table.{Table}
-use Rattle.proto_file.specs.Together.{IsFormed, IsOrdered}
-use Rattle.proto_file.specs.Joined.{Joined, package_at}
-use Rattle.proto_file.specs.declared.file.Span.{Span}
-use Rattle.proto_file.specs.declared.file.MessageDecl.{MessageDecl}
-use Rattle.proto_file.specs.declared.file.ValueDecl.{ValueDecl}
-use Rattle.proto_file.specs.declared.file.EnumDecl.{EnumDecl}
-use Rattle.proto_file.specs.declared.file.RpcDecl.{RpcDecl}
-use Rattle.proto_file.specs.declared.file.ServiceDecl.{ServiceDecl}
-use Rattle.proto_file.specs.declared.file.File.{File}
-use Rattle.schema_names.specs.Scopes
-use Rattle.schema_names.specs.Scopes.{Declares, Finds, Names, a_message, an_enum, is_type, text_of}
-use Rattle.schema_names.specs.Numbers
-use Rattle.schema_names.specs.Numbers.{StandsAt, IsOfFile, IsFirstAt, sort_of}
-use Rattle.schema_names.specs.declared.named.Named.{Named}
-use Rattle.schema_names.specs.declared.named.Named.TheVariants as named
-use Rattle.schema_offences.specs.Methods.{rpcs_of}
-use Rattle.schema_offences.specs.Types.{value_of}
-use Rattle.schema_offences.specs.Offences.{Offends, HasFirst, IsOffence, HasOffence, ComesFirst, rank_of}
-use Rattle.schema_offences.specs.declared.reason.ResolveReason.{ResolveReason}
-use Rattle.schema_offences.specs.declared.reason.ResolveReason.TheVariants.{UnknownName, NumberRange, DuplicateNumber, DuplicateName, Reserved, FirstEnum, MapKey, MapPlace, Limit, Import}
+use Rattle.proto_ast.specs.Together.{IsFormed, IsOrdered}
+use Rattle.proto_ast.specs.Joined.{Joined, package_at}
+use Rattle.proto_ast.specs.declared.file.Span.{Span}
+use Rattle.proto_ast.specs.declared.file.MessageDecl.{MessageDecl}
+use Rattle.proto_ast.specs.declared.file.ValueDecl.{ValueDecl}
+use Rattle.proto_ast.specs.declared.file.EnumDecl.{EnumDecl}
+use Rattle.proto_ast.specs.declared.file.RpcDecl.{RpcDecl}
+use Rattle.proto_ast.specs.declared.file.ServiceDecl.{ServiceDecl}
+use Rattle.proto_ast.specs.declared.file.File.{File}
+use Rattle.schema_symbols.specs.Scopes
+use Rattle.schema_symbols.specs.Scopes.{Declares, Finds, Names, a_message, an_enum, is_type, text_of}
+use Rattle.schema_symbols.specs.Numbers
+use Rattle.schema_symbols.specs.Numbers.{StandsAt, IsOfFile, IsFirstAt, sort_of}
+use Rattle.schema_symbols.specs.declared.named.Named.{Named}
+use Rattle.schema_symbols.specs.declared.named.Named.TheVariants as named
+use Rattle.schema_validation.specs.Methods.{rpcs_of}
+use Rattle.schema_validation.specs.Types.{value_of}
+use Rattle.schema_validation.specs.Offences.{Offends, HasFirst, IsOffence, HasOffence, ComesFirst, rank_of}
+use Rattle.schema_validation.specs.declared.reason.ResolveReason.{ResolveReason}
+use Rattle.schema_validation.specs.declared.reason.ResolveReason.TheVariants.{UnknownName, NumberRange, DuplicateNumber, DuplicateName, Reserved, FirstEnum, MapKey, MapPlace, Limit, Import}
 use Rattle.schema_resolve.specs.Resolving.{IsClean, ResolvesTogether}
 use Rattle.schema_resolve.specs.Placing.{name_at, IsPlan, HasNames}
 use Rattle.schema_resolve.specs.InOrder.{value_pair, AreValues, IsPlaceNamed, IsMethodIn, IsEnumAt}

@@ -14,20 +14,20 @@ use Rattle.mrpc_table.specs.declared.table.Message.{Message}
 use Rattle.mrpc_table.specs.declared.table.Choices.{Choices}
 use Rattle.mrpc_table.specs.declared.table.Method.{Method}
 use Rattle.mrpc_table.specs.declared.table.Table.{Table}
-use Rattle.proto_file.specs.Order
-use Rattle.proto_file.specs.Order.{IsFormedService, its_name}
-use Rattle.proto_file.specs.Together.{IsFormed, IsOrdered, enum_decl, message_decl, service_decl, rpc_decl}
-use Rattle.proto_file.specs.declared.file.RpcDecl.{RpcDecl}
-use Rattle.proto_file.specs.declared.file.ServiceDecl.{ServiceDecl}
-use Rattle.proto_file.specs.Joined.{Joined, package_at}
-use Rattle.proto_file.specs.Together
-use Rattle.schema_names.specs.Scopes
-use Rattle.schema_names.specs.Scopes.{a_message, an_enum, no_type, text_of}
-use Rattle.schema_offences.specs.Methods.{rpcs_of, service_rpcs}
-use Rattle.schema_offences.specs.Those.{AreThoseInOrder, none, next}
-use Rattle.schema_offences.specs.Members.{too_many_methods}
-use Rattle.schema_offences.specs.Offences
-use Rattle.schema_offences.specs.declared.reason.ResolveReason.TheVariants.{DuplicateName, Limit}
+use Rattle.proto_ast.specs.Order
+use Rattle.proto_ast.specs.Order.{IsFormedService, its_name}
+use Rattle.proto_ast.specs.Together.{IsFormed, IsOrdered, enum_decl, message_decl, service_decl, rpc_decl}
+use Rattle.proto_ast.specs.declared.file.RpcDecl.{RpcDecl}
+use Rattle.proto_ast.specs.declared.file.ServiceDecl.{ServiceDecl}
+use Rattle.proto_ast.specs.Joined.{Joined, package_at}
+use Rattle.proto_ast.specs.Together
+use Rattle.schema_symbols.specs.Scopes
+use Rattle.schema_symbols.specs.Scopes.{a_message, an_enum, no_type, text_of}
+use Rattle.schema_validation.specs.Methods.{rpcs_of, service_rpcs}
+use Rattle.schema_validation.specs.Those.{AreThoseInOrder, none, next}
+use Rattle.schema_validation.specs.Members.{too_many_methods}
+use Rattle.schema_validation.specs.Offences
+use Rattle.schema_validation.specs.declared.reason.ResolveReason.TheVariants.{DuplicateName, Limit}
 use Rattle.schema_resolve.specs.Tables.{IsMethodOf, IsTableOf}
 use Rattle.schema_resolve.specs.Resolving.{IsClean}
 use Rattle.schema_resolve.specs.Placing.{name_at, IsPlan, HasNames}

@@ -9,13 +9,13 @@ use Rattle.std.proofs.lemmas.List.{length-append, append_assoc}
 use Rattle.std.proofs.lemmas.List.Elements.{All-from_recursion}
 use Rattle.mrpc_table.specs.Valid.{Ascends}
 use Rattle.mrpc_table.specs.declared.limits.TheConstants.{MAX_TEXT}
-use Rattle.proto_file.specs.Order.{its_name}
-use Rattle.proto_file.specs.Together.{Declaration, IsOrdered, StandsAt}
-use Rattle.proto_file.specs.declared.file.Span.{Span}
-use Rattle.proto_file.specs.Joined.{Joined}
-use Rattle.schema_offences.specs.Lines.{HasLine, PassesAt}
-use Rattle.schema_offences.specs.Offences
-use Rattle.schema_offences.specs.declared.reason.ResolveReason.TheVariants.{Limit}
+use Rattle.proto_ast.specs.Order.{its_name}
+use Rattle.proto_ast.specs.Together.{Declaration, IsOrdered, StandsAt}
+use Rattle.proto_ast.specs.declared.file.Span.{Span}
+use Rattle.proto_ast.specs.Joined.{Joined}
+use Rattle.schema_validation.specs.Lines.{HasLine, PassesAt}
+use Rattle.schema_validation.specs.Offences
+use Rattle.schema_validation.specs.declared.reason.ResolveReason.TheVariants.{Limit}
 use Rattle.schema_resolve.specs.Resolving.{IsClean}
 
 -- ---- lines by their starts

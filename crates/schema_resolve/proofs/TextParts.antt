@@ -18,26 +18,26 @@ use Rattle.mrpc_table.specs.declared.table.Message.{Message}
 use Rattle.mrpc_table.specs.declared.table.Choices.{Choices}
 use Rattle.mrpc_table.specs.declared.table.Method.{Method}
 use Rattle.mrpc_table.specs.declared.table.Table.{Table}
-use Rattle.proto_file.specs.Order
-use Rattle.proto_file.specs.Together.{Declaration, IsOrdered, enum_decl, field_decl, message_decl, rpc_decl, value_decl}
-use Rattle.proto_file.specs.declared.file.Span.{Span}
-use Rattle.proto_file.specs.declared.file.FieldLabel.{FieldLabel}
-use Rattle.proto_file.specs.declared.file.FieldLabel.TheVariants.{Plain, Optional, Repeated}
-use Rattle.proto_file.specs.declared.file.FieldDecl.{FieldDecl}
-use Rattle.proto_file.specs.declared.file.MessageDecl.{MessageDecl}
-use Rattle.proto_file.specs.declared.file.ValueDecl.{ValueDecl}
-use Rattle.proto_file.specs.declared.file.EnumDecl.{EnumDecl}
-use Rattle.proto_file.specs.declared.file.RpcDecl.{RpcDecl}
-use Rattle.proto_file.specs.declared.file.ServiceDecl.{ServiceDecl}
-use Rattle.proto_file.specs.Joined.{Joined, package_at}
-use Rattle.proto_file.specs.declared.joined.Home.TheVariants as home
-use Rattle.proto_file.specs.Together
-use Rattle.schema_names.specs.Scopes.{text_of, IsScope, of_message}
-use Rattle.schema_offences.specs.Methods.{rpcs_of, service_rpcs}
-use Rattle.schema_offences.specs.Those.{AreThoseInOrder, none, next}
-use Rattle.schema_offences.specs.Types.{value_of, isnt_false, single_label, label_in, HasForm, single, a_map}
-use Rattle.schema_offences.specs.Lines
-use Rattle.schema_offences.specs.Lines.{HasLine}
+use Rattle.proto_ast.specs.Order
+use Rattle.proto_ast.specs.Together.{Declaration, IsOrdered, enum_decl, field_decl, message_decl, rpc_decl, value_decl}
+use Rattle.proto_ast.specs.declared.file.Span.{Span}
+use Rattle.proto_ast.specs.declared.file.FieldLabel.{FieldLabel}
+use Rattle.proto_ast.specs.declared.file.FieldLabel.TheVariants.{Plain, Optional, Repeated}
+use Rattle.proto_ast.specs.declared.file.FieldDecl.{FieldDecl}
+use Rattle.proto_ast.specs.declared.file.MessageDecl.{MessageDecl}
+use Rattle.proto_ast.specs.declared.file.ValueDecl.{ValueDecl}
+use Rattle.proto_ast.specs.declared.file.EnumDecl.{EnumDecl}
+use Rattle.proto_ast.specs.declared.file.RpcDecl.{RpcDecl}
+use Rattle.proto_ast.specs.declared.file.ServiceDecl.{ServiceDecl}
+use Rattle.proto_ast.specs.Joined.{Joined, package_at}
+use Rattle.proto_ast.specs.declared.joined.Home.TheVariants as home
+use Rattle.proto_ast.specs.Together
+use Rattle.schema_symbols.specs.Scopes.{text_of, IsScope, of_message}
+use Rattle.schema_validation.specs.Methods.{rpcs_of, service_rpcs}
+use Rattle.schema_validation.specs.Those.{AreThoseInOrder, none, next}
+use Rattle.schema_validation.specs.Types.{value_of, isnt_false, single_label, label_in, HasForm, single, a_map}
+use Rattle.schema_validation.specs.Lines
+use Rattle.schema_validation.specs.Lines.{HasLine}
 use Rattle.schema_resolve.specs.Tables.{IsFieldOf, IsValueOf}
 use Rattle.schema_resolve.specs.Resolving.{IsClean}
 use Rattle.schema_resolve.specs.Placing.{IsOrder, HasNames}

@@ -6,14 +6,14 @@ use Rattle.mrpc_table.specs.Text.{message_name}
 use Rattle.mrpc_table.specs.declared.table.Choices.{Choices}
 use Rattle.mrpc_table.specs.declared.table.Method.{Method}
 use Rattle.mrpc_table.specs.declared.table.Table.{Table}
-use Rattle.proto_file.specs.declared.file.ValueDecl.{ValueDecl}
-use Rattle.proto_file.specs.declared.file.EnumDecl.{EnumDecl}
-use Rattle.proto_file.specs.declared.file.RpcDecl.{RpcDecl}
-use Rattle.proto_file.specs.declared.file.ServiceDecl.{ServiceDecl}
-use Rattle.proto_file.specs.Joined.{Joined, package_at}
-use Rattle.schema_names.specs.Scopes.{Names, a_message, text_of}
-use Rattle.schema_offences.specs.Types.{value_of}
-use Rattle.schema_offences.specs.Those.{AreThose, AreThoseInOrder}
+use Rattle.proto_ast.specs.declared.file.ValueDecl.{ValueDecl}
+use Rattle.proto_ast.specs.declared.file.EnumDecl.{EnumDecl}
+use Rattle.proto_ast.specs.declared.file.RpcDecl.{RpcDecl}
+use Rattle.proto_ast.specs.declared.file.ServiceDecl.{ServiceDecl}
+use Rattle.proto_ast.specs.Joined.{Joined, package_at}
+use Rattle.schema_symbols.specs.Scopes.{Names, a_message, text_of}
+use Rattle.schema_validation.specs.Types.{value_of}
+use Rattle.schema_validation.specs.Those.{AreThose, AreThoseInOrder}
 use Rattle.schema_resolve.specs.Tables.{IsValueOf, IsEnumOf, IsMethodOf}
 use Rattle.schema_resolve.specs.Placing.{name_at, HasNames}
 use Rattle.schema_resolve.specs.declared.plan.Plan.{Plan}

@@ -8,13 +8,13 @@ use Rattle.mrpc_table.specs.declared.table.Label.TheVariants.{Member}
 use Rattle.mrpc_table.specs.declared.table.Field.{Field}
 use Rattle.mrpc_table.specs.declared.table.Message.{Message}
 use Rattle.mrpc_table.specs.declared.table.Table.{Table}
-use Rattle.proto_file.specs.declared.file.Word.{Word}
-use Rattle.proto_file.specs.declared.file.MessageDecl.{MessageDecl}
-use Rattle.proto_file.specs.Joined.{Joined}
-use Rattle.schema_names.specs.declared.named.Named.TheVariants as named
-use Rattle.schema_offences.specs.Those.{AreThoseInOrder}
-use Rattle.schema_offences.specs.declared.types.TypeOf.{TypeOf}
-use Rattle.schema_offences.specs.declared.types.TypeOf.TheVariants.{Scalar, Named}
+use Rattle.proto_ast.specs.declared.file.Word.{Word}
+use Rattle.proto_ast.specs.declared.file.MessageDecl.{MessageDecl}
+use Rattle.proto_ast.specs.Joined.{Joined}
+use Rattle.schema_symbols.specs.declared.named.Named.TheVariants as named
+use Rattle.schema_validation.specs.Those.{AreThoseInOrder}
+use Rattle.schema_validation.specs.declared.types.TypeOf.{TypeOf}
+use Rattle.schema_validation.specs.declared.types.TypeOf.TheVariants.{Scalar, Named}
 use Rattle.schema_resolve.specs.Tables.{IsMessageOf}
 use Rattle.schema_resolve.specs.Placing.{name_at, HasNames}
 use Rattle.schema_resolve.specs.declared.plan.Plan.{Plan}

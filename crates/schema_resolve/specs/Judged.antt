@@ -1,13 +1,13 @@
 -- The code's own: the fields of a message with their numbers and shapes.
 use Rattle.std.specs.Prelude.{◌≡◌, ℕ, pos, ◌<◌, List, length, map, slice_get, Some, Contains}
 use Rattle.mrpc_table.specs.Valid.{Ascends, AreDistinct, IsFieldNumber}
-use Rattle.proto_file.specs.declared.file.FieldDecl.{FieldDecl}
-use Rattle.proto_file.specs.declared.file.MessageDecl.{MessageDecl}
-use Rattle.proto_file.specs.Joined.{Joined}
-use Rattle.proto_file.specs.declared.joined.Home.TheVariants as home
-use Rattle.schema_names.specs.Scopes.{IsScope}
-use Rattle.schema_offences.specs.Types.{value_of}
-use Rattle.schema_offences.specs.Forms.{IsForm}
+use Rattle.proto_ast.specs.declared.file.FieldDecl.{FieldDecl}
+use Rattle.proto_ast.specs.declared.file.MessageDecl.{MessageDecl}
+use Rattle.proto_ast.specs.Joined.{Joined}
+use Rattle.proto_ast.specs.declared.joined.Home.TheVariants as home
+use Rattle.schema_symbols.specs.Scopes.{IsScope}
+use Rattle.schema_validation.specs.Types.{value_of}
+use Rattle.schema_validation.specs.Forms.{IsForm}
 use Rattle.schema_resolve.specs.declared.field_table.Judged.{Judged}
 
 -- a field of the message with an index, which is in this file

@@ -1,8 +1,8 @@
 -- The code's own: a table as it is made of files, by the indices of names.
 use Rattle.mrpc_table.specs.declared.table.Table.{Table}
-use Rattle.proto_file.specs.Joined.{Joined}
-use Rattle.schema_offences.specs.Methods.{rpcs_of}
-use Rattle.schema_offences.specs.Those.{AreThoseInOrder}
+use Rattle.proto_ast.specs.Joined.{Joined}
+use Rattle.schema_validation.specs.Methods.{rpcs_of}
+use Rattle.schema_validation.specs.Those.{AreThoseInOrder}
 use Rattle.schema_resolve.specs.Placing.{IsPlan}
 use Rattle.schema_resolve.specs.InOrder.{IsEnumAt, AreMethods}
 use Rattle.schema_resolve.specs.Joining.{IsMessageAt}

@@ -2,12 +2,12 @@
 use Rattle.std.specs.Prelude.{◌≡◌, ℕ, ◌<◌, List, [], ◌∷◌, ◌++◌, length, map, slice_get, slice_index_or, Some, All, Contains}
 use Rattle.mrpc_table.specs.Valid.{Ascends, IsBelow}
 use Rattle.mrpc_table.specs.declared.table.Table.{Table}
-use Rattle.proto_file.specs.Dot.{dot}
-use Rattle.proto_file.specs.declared.file.EnumDecl.{EnumDecl}
-use Rattle.proto_file.specs.Joined.{Joined, enum_home_of, package_at}
-use Rattle.proto_file.specs.declared.joined.Home.{Home}
-use Rattle.proto_file.specs.declared.joined.Home.TheVariants as home
-use Rattle.schema_names.specs.Scopes.{IsScope, text_of}
+use Rattle.proto_ast.specs.Dot.{dot}
+use Rattle.proto_ast.specs.declared.file.EnumDecl.{EnumDecl}
+use Rattle.proto_ast.specs.Joined.{Joined, enum_home_of, package_at}
+use Rattle.proto_ast.specs.declared.joined.Home.{Home}
+use Rattle.proto_ast.specs.declared.joined.Home.TheVariants as home
+use Rattle.schema_symbols.specs.Scopes.{IsScope, text_of}
 use Rattle.schema_resolve.specs.declared.placed.PlacedNames.{PlacedNames}
 use Rattle.schema_resolve.specs.declared.plan.Plan.{Plan}
 

@@ -1,10 +1,10 @@
 -- What files resolve to: their table if they have no violation, and else their first violation.
 use Rattle.mrpc_table.specs.declared.table.Table.{Table}
-use Rattle.proto_file.specs.Joined.{Joined, alone}
-use Rattle.proto_file.specs.declared.file.Span.{Span}
-use Rattle.proto_file.specs.declared.file.File.{File}
-use Rattle.schema_offences.specs.Offences.{Offends, HasFirst, IsOffence, HasOffence}
-use Rattle.schema_offences.specs.declared.reason.ResolveReason.{ResolveReason}
+use Rattle.proto_ast.specs.Joined.{Joined, alone}
+use Rattle.proto_ast.specs.declared.file.Span.{Span}
+use Rattle.proto_ast.specs.declared.file.File.{File}
+use Rattle.schema_validation.specs.Offences.{Offends, HasFirst, IsOffence, HasOffence}
+use Rattle.schema_validation.specs.declared.reason.ResolveReason.{ResolveReason}
 use Rattle.schema_resolve.specs.Tables.{IsTableOf}
 use Rattle.schema_resolve.specs.declared.fault.ResolveFault.{ResolveFault}
 use Rattle.schema_resolve.specs.declared.fault.ResolveFault.TheVariants as fault

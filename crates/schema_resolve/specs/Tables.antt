@@ -9,18 +9,18 @@ use Rattle.mrpc_table.specs.declared.table.Message.{Message}
 use Rattle.mrpc_table.specs.declared.table.Choices.{Choices}
 use Rattle.mrpc_table.specs.declared.table.Method.{Method}
 use Rattle.mrpc_table.specs.declared.table.Table.{Table}
-use Rattle.proto_file.specs.declared.file.Word.{Word}
-use Rattle.proto_file.specs.declared.file.ValueDecl.{ValueDecl}
-use Rattle.proto_file.specs.declared.file.FieldDecl.{FieldDecl}
-use Rattle.proto_file.specs.declared.file.MessageDecl.{MessageDecl}
-use Rattle.proto_file.specs.declared.file.EnumDecl.{EnumDecl}
-use Rattle.proto_file.specs.declared.file.RpcDecl.{RpcDecl}
-use Rattle.proto_file.specs.declared.file.ServiceDecl.{ServiceDecl}
-use Rattle.proto_file.specs.Joined.{Joined, home_of, enum_home_of, package_at}
-use Rattle.schema_names.specs.Scopes.{IsScope, Names, a_message, text_of}
-use Rattle.schema_offences.specs.Methods.{rpcs_of}
-use Rattle.schema_offences.specs.Types.{HasForm, value_of}
-use Rattle.schema_offences.specs.Those.{AreThose, AreThoseInOrder}
+use Rattle.proto_ast.specs.declared.file.Word.{Word}
+use Rattle.proto_ast.specs.declared.file.ValueDecl.{ValueDecl}
+use Rattle.proto_ast.specs.declared.file.FieldDecl.{FieldDecl}
+use Rattle.proto_ast.specs.declared.file.MessageDecl.{MessageDecl}
+use Rattle.proto_ast.specs.declared.file.EnumDecl.{EnumDecl}
+use Rattle.proto_ast.specs.declared.file.RpcDecl.{RpcDecl}
+use Rattle.proto_ast.specs.declared.file.ServiceDecl.{ServiceDecl}
+use Rattle.proto_ast.specs.Joined.{Joined, home_of, enum_home_of, package_at}
+use Rattle.schema_symbols.specs.Scopes.{IsScope, Names, a_message, text_of}
+use Rattle.schema_validation.specs.Methods.{rpcs_of}
+use Rattle.schema_validation.specs.Types.{HasForm, value_of}
+use Rattle.schema_validation.specs.Those.{AreThose, AreThoseInOrder}
 
 -- a field of a message of a file corresponds to a field of a message of the table
 pub record IsFieldOf (T : Table) (F : Joined) (scope : List (List ℕ)) (m : MessageDecl) (t : Message)

@@ -3,16 +3,16 @@
 ghost use Rattle.std.specs.Prelude.{◌≡◌, ◌<◌, length, map, IfOk, All, FitsSigned};
 ghost use Rattle.std.specs.Int.{w32};
 ghost use Rattle.mrpc_table.specs.Valid.{AreDistinct};
-ghost use Rattle.proto_file.specs.Together.{IsFormed, IsOrdered};
-ghost use Rattle.schema_offences.specs.Types.{value_of};
+ghost use Rattle.proto_ast.specs.Together.{IsFormed, IsOrdered};
+ghost use Rattle.schema_validation.specs.Types.{value_of};
 ghost use Rattle.schema_resolve.specs.Resolving.{IsClean};
 ghost use Rattle.schema_resolve.specs.Placing.{IsPlan};
 ghost use Rattle.schema_resolve.specs.InOrder.{value_in, value_pair, AreValues, IsEnumAt};
 
 use crate::plan::Plan;
 use mrpc_table::{ChoiceValues, Choices, Memory, Name, Sequence};
-use proto_file::{Joined, ValueDecl};
-use schema_offences::enum_number;
+use proto_ast::{Joined, ValueDecl};
+use schema_validation::enum_number;
 use std::alloc::Global;
 
 // The number of a value, which fits 32 bits.

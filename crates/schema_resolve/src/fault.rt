@@ -4,7 +4,7 @@ ghost use Rattle.std.specs.Prelude.{◌≡◌};
 ghost use Rattle.schema_resolve.specs.declared.fault.ResolveFault.TheVariants.{At, Memory as NoMemory};
 
 use mrpc_table::Memory;
-use schema_offences::{Offence, ResolveReason};
+use schema_validation::{Offence, ResolveReason};
 use std::alloc::{AllocError, AllocFailed};
 use thiserror::Error;
 

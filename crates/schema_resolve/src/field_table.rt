@@ -1,14 +1,14 @@
 //! The fields of messages with their numbers and shapes, by ascending number.
 
 ghost use Rattle.std.specs.Prelude.{◌≡◌, IfOk, slice_get, Some};
-ghost use Rattle.proto_file.specs.Together.{IsFormed, IsOrdered};
+ghost use Rattle.proto_ast.specs.Together.{IsFormed, IsOrdered};
 ghost use Rattle.schema_resolve.specs.Resolving.{IsClean};
 ghost use Rattle.schema_resolve.specs.Judged.{StandsIn, IsJudged, AreJudgedInOrder, AreJudged};
 
 use mrpc_table::Memory;
-use proto_file::{FieldDecl, MessageDecl};
-use schema_names::Scopes;
-use schema_offences::{Form, field_number, form_of};
+use proto_ast::{FieldDecl, MessageDecl};
+use schema_symbols::Scopes;
+use schema_validation::{Form, field_number, form_of};
 use std::alloc::Global;
 
 // A field with its number and its shape.

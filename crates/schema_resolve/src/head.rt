@@ -1,10 +1,10 @@
 //! The head of a file alone.
 
 ghost use Rattle.std.specs.Prelude.{◌≡◌, IfOk};
-ghost use Rattle.proto_file.specs.Joined.{alone};
+ghost use Rattle.proto_ast.specs.Joined.{alone};
 
 use mrpc_table::{Memory, Sequence};
-use proto_file::{File, Head, Heads, Word};
+use proto_ast::{File, Head, Heads, Word};
 use std::alloc::Global;
 
 fn package_of(alloc: Global, file: &File) -> Result<Option<Word>, Memory>

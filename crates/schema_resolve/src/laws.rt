@@ -2,14 +2,14 @@
 
 ghost use Rattle.std.specs.Prelude.{◌≡◌};
 ghost use Rattle.mrpc_table.specs.declared.table.Table.{Table};
-ghost use Rattle.proto_file.specs.Joined.{Joined, alone};
-ghost use Rattle.proto_file.specs.Together.{IsFormed, IsOrdered};
-ghost use Rattle.proto_file.specs.declared.file.Span.{Span};
-ghost use Rattle.proto_file.specs.declared.file.File.{File};
-ghost use Rattle.schema_offences.specs.Offences.{HasOffence, HasFirst};
+ghost use Rattle.proto_ast.specs.Joined.{Joined, alone};
+ghost use Rattle.proto_ast.specs.Together.{IsFormed, IsOrdered};
+ghost use Rattle.proto_ast.specs.declared.file.Span.{Span};
+ghost use Rattle.proto_ast.specs.declared.file.File.{File};
+ghost use Rattle.schema_validation.specs.Offences.{HasOffence, HasFirst};
 ghost use Rattle.schema_resolve.specs.Tables.{IsTableOf};
 ghost use Rattle.schema_resolve.specs.Resolving.{Resolves, ResolvesTogether};
-ghost use Rattle.schema_offences.specs.declared.reason.ResolveReason.{ResolveReason};
+ghost use Rattle.schema_validation.specs.declared.reason.ResolveReason.{ResolveReason};
 
 use crate::same_text::one_table_text;
 use table_text::one_text;
@@ -27,7 +27,7 @@ pub fn one_offence()
     ensures { (F : File) (q r : ResolveReason) (s t : Span) → IsOrdered (alone F) → HasOffence F q s
         → HasOffence F r t → (q ≡ r) × (s ≡ t) }
 {
-    schema_offences::one_offence();
+    schema_validation::one_offence();
 }
 
 /// A valid file in order has a table or a first violation, and so have such files that are resolved together. None

@@ -1,8 +1,8 @@
 //! The table of messages, enums and methods of proto files (Protocol Buffers, proto3 language guide), in this
 //! project's profile.
 //!
-//! [`resolve`] takes a file as `proto_schema` reads it; `schema_offences` defines its violations. `specs/Tables.antt`
-//! defines the table of files. The crate uses `schema_offences`, `schema_names`, `proto_file`, `table_text`,
+//! [`resolve`] takes a file as `proto_schema` reads it; `schema_validation` defines its violations. `specs/Tables.antt`
+//! defines the table of files. The crate uses `schema_validation`, `schema_symbols`, `proto_ast`, `table_text`,
 //! `mrpc_table` and `thiserror`. The layer above relies on the contracts of [`resolve`], for a file alone, and of
 //! [`resolve_together`]. A table that they return is that of the file or files, and a violation that they return is
 //! the first one. Valid files in order, such as all files that were read, have exactly one of the two

@@ -1,8 +1,8 @@
 //! The messages of a table.
 
 ghost use Rattle.std.specs.Prelude.{◌≡◌, ◌<◌, ◌^◌, length, IfOk};
-ghost use Rattle.proto_file.specs.Order.{IsPlaceBelow};
-ghost use Rattle.proto_file.specs.Together.{IsFormed, IsOrdered};
+ghost use Rattle.proto_ast.specs.Order.{IsPlaceBelow};
+ghost use Rattle.proto_ast.specs.Together.{IsFormed, IsOrdered};
 ghost use Rattle.schema_resolve.specs.Resolving.{IsClean};
 ghost use Rattle.schema_resolve.specs.Placing.{IsPlan};
 ghost use Rattle.schema_resolve.specs.Joining.{KeepsOneofs, IsLabelled, kind_in, IsInPlan, IsNextField, IsMessageAt};
@@ -11,9 +11,9 @@ use crate::field_table::{Judged, by_number};
 use crate::oneof_table::Oneofs;
 use crate::plan::Plan;
 use mrpc_table::{Field, Kind, Label, Memory, Message, Sequence};
-use proto_file::{Joined, Word};
-use schema_names::{Named, Scopes};
-use schema_offences::TypeOf;
+use proto_ast::{Joined, Word};
+use schema_symbols::{Named, Scopes};
+use schema_validation::TypeOf;
 use std::alloc::Global;
 
 fn kind_in(plan: &Plan, type_of: TypeOf) -> Kind

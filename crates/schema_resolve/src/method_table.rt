@@ -2,21 +2,21 @@
 
 ghost use Rattle.std.specs.Prelude.{◌≡◌, ◌<◌, List, ◌++◌, length, IfOk, OnOk, Contains};
 ghost use Rattle.mrpc_table.specs.declared.table.Table.{Table};
-ghost use Rattle.proto_file.specs.declared.file.ServiceDecl.{ServiceDecl};
-ghost use Rattle.proto_file.specs.declared.file.RpcDecl.{RpcDecl};
-ghost use Rattle.proto_file.specs.Together.{IsFormed, IsOrdered};
-ghost use Rattle.proto_file.specs.Joined.{package_at};
-ghost use Rattle.schema_offences.specs.Methods.{rpcs_of, service_rpcs};
-ghost use Rattle.schema_offences.specs.Members.{IsNoMessage};
+ghost use Rattle.proto_ast.specs.declared.file.ServiceDecl.{ServiceDecl};
+ghost use Rattle.proto_ast.specs.declared.file.RpcDecl.{RpcDecl};
+ghost use Rattle.proto_ast.specs.Together.{IsFormed, IsOrdered};
+ghost use Rattle.proto_ast.specs.Joined.{package_at};
+ghost use Rattle.schema_validation.specs.Methods.{rpcs_of, service_rpcs};
+ghost use Rattle.schema_validation.specs.Members.{IsNoMessage};
 ghost use Rattle.schema_resolve.specs.Resolving.{IsClean};
 ghost use Rattle.schema_resolve.specs.Placing.{AreFronts, IsPlan, HasNames};
 ghost use Rattle.schema_resolve.specs.InOrder.{IsPlaceNamed, IsMethodIn, AreMethods};
 
 use crate::plan::{Plan, behind};
 use mrpc_table::{Memory, Method, Methods, Sequence};
-use proto_file::{Joined, RpcDecl, ServiceDecl, Word};
-use schema_names::Scopes;
-use schema_offences::message_of;
+use proto_ast::{Joined, RpcDecl, ServiceDecl, Word};
+use schema_symbols::Scopes;
+use schema_validation::message_of;
 use std::alloc::Global;
 
 // The index of the message that the type of a file's rpc names.

@@ -4,7 +4,7 @@ ghost use Rattle.std.specs.Prelude.{◌≡◌, ◌<◌, ◌^◌, [], length, IfO
 ghost use Rattle.schema_resolve.specs.Joining.{AreUnplaced, KeepsOneofs, HasPlace, IsPlacedOneof};
 
 use mrpc_table::{Memory, Names};
-use proto_file::Word;
+use proto_ast::Word;
 use std::alloc::Global;
 
 // The oneofs of a message in the order in which its fields need them, and their indices by those in the file's

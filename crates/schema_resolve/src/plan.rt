@@ -1,15 +1,15 @@
 //! The full names of messages and enums, and their indices in the table.
 
 ghost use Rattle.std.specs.Prelude.{◌≡◌, length, IfOk};
-ghost use Rattle.proto_file.specs.Joined.{package_parts};
-ghost use Rattle.proto_file.specs.Together.{IsFormed, IsOrdered};
-ghost use Rattle.schema_names.specs.Scopes.{text_of};
+ghost use Rattle.proto_ast.specs.Joined.{package_parts};
+ghost use Rattle.proto_ast.specs.Together.{IsFormed, IsOrdered};
+ghost use Rattle.schema_symbols.specs.Scopes.{text_of};
 ghost use Rattle.schema_resolve.specs.Resolving.{IsClean};
 ghost use Rattle.schema_resolve.specs.Placing.{behind, front_of, AreFronts, IsPlaceAmong, AreMessageNames, AreEnumNames, IsPlan};
 
 use crate::placed::PlacedNames;
 use mrpc_table::{Memory, Name};
-use proto_file::{Head, Home, Joined, Word};
+use proto_ast::{Head, Home, Joined, Word};
 use std::alloc::Global;
 
 // The full names of messages and enums, and their indices in the table.

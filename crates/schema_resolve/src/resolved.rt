@@ -3,7 +3,7 @@
 ghost use Rattle.std.specs.Prelude.{◌≡◌, IfOk, IfErr, MatchResult};
 ghost use Rattle.mrpc_table.specs.declared.table.Table.{Table};
 ghost use Rattle.mrpc_table.specs.Valid.{IsValid};
-ghost use Rattle.proto_file.specs.Together.{IsFormed, IsOrdered};
+ghost use Rattle.proto_ast.specs.Together.{IsFormed, IsOrdered};
 ghost use Rattle.schema_resolve.specs.Resolving.{ResolvesTogether, IsFaultOfAll};
 ghost use Rattle.schema_resolve.specs.declared.fault.ResolveFault.TheVariants as faults;
 
@@ -11,9 +11,9 @@ use crate::fault::{ResolveFault, fault_of};
 use crate::laws::one_table;
 use crate::table::table_of;
 use mrpc_table::Table;
-use proto_file::Joined;
-use schema_names::Scopes;
-use schema_offences::first_offence;
+use proto_ast::Joined;
+use schema_symbols::Scopes;
+use schema_validation::first_offence;
 use std::alloc::Global;
 
 /// Returns the table of files that are resolved together, or the first violation: the one that starts first, and
@@ -23,7 +23,7 @@ use std::alloc::Global;
 /// The methods have indices from 0, in the order of the files. An `optional` message is plain. A repeated field of
 /// numbers, bools or enums is packed unless it has the option `packed = false`.
 ///
-/// [`ResolveReason`]: schema_offences::ResolveReason
+/// [`ResolveReason`]: schema_validation::ResolveReason
 pub fn resolve_together(alloc: Global, files: &Joined<'_>) -> Result<Table, ResolveFault>
     requires formed { IsFormed files.now }
     requires ordered { IsOrdered files.now }

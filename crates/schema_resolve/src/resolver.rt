@@ -3,8 +3,8 @@
 ghost use Rattle.std.specs.Prelude.{◌≡◌, IfOk, IfErr, MatchResult};
 ghost use Rattle.mrpc_table.specs.declared.table.Table.{Table};
 ghost use Rattle.mrpc_table.specs.Valid.{IsValid};
-ghost use Rattle.proto_file.specs.Joined.{alone};
-ghost use Rattle.proto_file.specs.Together.{IsFormed, IsOrdered};
+ghost use Rattle.proto_ast.specs.Joined.{alone};
+ghost use Rattle.proto_ast.specs.Together.{IsFormed, IsOrdered};
 ghost use Rattle.schema_resolve.specs.Resolving.{Resolves, IsFaultOf};
 ghost use Rattle.schema_resolve.specs.declared.fault.ResolveFault.TheVariants as faults;
 
@@ -13,9 +13,9 @@ use crate::head::head_of;
 use crate::laws::one_table;
 use crate::table::table_of;
 use mrpc_table::Table;
-use proto_file::{File, Joined};
-use schema_names::Scopes;
-use schema_offences::{first_offence, with_import};
+use proto_ast::{File, Joined};
+use schema_symbols::Scopes;
+use schema_validation::{first_offence, with_import};
 use std::alloc::Global;
 
 /// Returns the table of a valid file in order, such as any file that was read, or its first violation: the one that
@@ -25,7 +25,7 @@ use std::alloc::Global;
 /// The methods have indices from 0, in the order of the file. An `optional` message is plain. A repeated field of
 /// numbers, bools or enums is packed unless it has the option `packed = false`.
 ///
-/// [`ResolveReason`]: schema_offences::ResolveReason
+/// [`ResolveReason`]: schema_validation::ResolveReason
 pub fn resolve(alloc: Global, file: &File) -> Result<Table, ResolveFault>
     requires formed { IsFormed (alone file.now) }
     requires ordered { IsOrdered (alone file.now) }

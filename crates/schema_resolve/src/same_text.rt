@@ -3,11 +3,11 @@
 ghost use Rattle.std.specs.Prelude.{◌≡◌};
 ghost use Rattle.mrpc_table.specs.Text.{table_text};
 ghost use Rattle.mrpc_table.specs.declared.table.Table.{Table};
-ghost use Rattle.proto_file.specs.Joined.{Joined};
-ghost use Rattle.proto_file.specs.Together.{IsOrdered};
+ghost use Rattle.proto_ast.specs.Joined.{Joined};
+ghost use Rattle.proto_ast.specs.Together.{IsOrdered};
 ghost use Rattle.schema_resolve.specs.Tables.{IsTableOf};
 
-use schema_names::one_name;
+use schema_symbols::one_name;
 
 // Two tables of the same files have the same text.
 pub(crate) fn one_table_text()

@@ -1,8 +1,8 @@
 //! The table of files without a violation.
 
 ghost use Rattle.std.specs.Prelude.{◌≡◌, IfOk};
-ghost use Rattle.proto_file.specs.Together.{IsFormed, IsOrdered};
-ghost use Rattle.schema_offences.specs.Those.{AreThoseInOrder};
+ghost use Rattle.proto_ast.specs.Together.{IsFormed, IsOrdered};
+ghost use Rattle.schema_validation.specs.Those.{AreThoseInOrder};
 ghost use Rattle.schema_resolve.specs.Tables.{IsTableOf};
 ghost use Rattle.schema_resolve.specs.Resolving.{IsClean};
 ghost use Rattle.schema_resolve.specs.Placing.{IsPlan};
@@ -15,8 +15,8 @@ use crate::message_table::message_in;
 use crate::method_table::methods_in;
 use crate::plan::{Plan, plan_of};
 use mrpc_table::{Enums, Memory, Messages, Sequence, Table};
-use proto_file::Joined;
-use schema_names::Scopes;
+use proto_ast::Joined;
+use schema_symbols::Scopes;
 use std::alloc::Global;
 
 // The messages by ascending name.

@@ -10,15 +10,15 @@ use Rattle.graph_form.specs.declared.placed.Placed.{Placed}
 use Rattle.frame_transport.specs.Frames.{Splits}
 use Rattle.frame_transport.specs.Standing.{StandsAt}
 use Rattle.frame_transport.specs.declared.format.Frame.{Frame}
-use Rattle.frame_reading.specs.Contents.{IsMessageOf}
+use Rattle.frame_view.specs.Contents.{IsMessageOf}
 use Rattle.frame_transport.specs.Messages.{message_in}
-use Rattle.frame_reading.specs.Faults.{OnFault}
-use Rattle.frame_reading.specs.Input.{Holds}
-use Rattle.frame_reading.specs.Walks.{Stands}
-use Rattle.frame_reading.specs.declared.fault.ReadFault.{ReadFault}
-use Rattle.frame_reading.specs.declared.fault.ReadFault.TheVariants.{At, Memory}
+use Rattle.frame_view.specs.Faults.{OnFault}
+use Rattle.frame_view.specs.Input.{Holds}
+use Rattle.frame_view.specs.FrameWalks.{Stands}
+use Rattle.frame_view.specs.declared.fault.ReadFault.{ReadFault}
+use Rattle.frame_view.specs.declared.fault.ReadFault.TheVariants.{At, Memory}
 use Rattle.script_view.specs.Scripts.{FitsReplay, IsScriptOf, nothing_made, script_text}
-use Rattle.script_text.specs.declared.limits.TheConstants.{MAX_CONNECTIONS}
+use Rattle.replay_script.specs.declared.limits.TheConstants.{MAX_CONNECTIONS}
 use Rattle.script_view.specs.Playing.{IsNumbered}
 use Rattle.script_view.specs.Unplayable.{Made, IsConn, IsLaidOut, IsMadeBy, IsUnplayable, last_of, too_large, hello_too_large}
 use Rattle.script_view.specs.Walks.{PlaysFrame, plays_hello, plays_call, PlaysFrames, Plays}

@@ -1,4 +1,4 @@
--- The lines of a replay script that send a frame (this project's own format; `script_text` reads it).
+-- The lines of a replay script that send a frame (this project's own format; `replay_script` reads it).
 use Rattle.std.specs.Prelude.{◌≡◌, ℕ, zero, suc, ◌+◌, ◌<◌, ◌==◌, List, [], ◌∷◌, ◌++◌, codes, if◌then◌else◌}
 use Rattle.std.specs.Fmt.{decimal}
 use Rattle.std.specs.List.{flat_map}

@@ -5,8 +5,8 @@ use Rattle.mrpc_table.specs.Text.{line, table_text}
 use Rattle.mrpc_table.specs.declared.table.Table.{Table}
 use Rattle.frame_transport.specs.Frames.{Splits}
 use Rattle.frame_transport.specs.declared.format.Frame.{Frame}
-use Rattle.frame_reading.specs.Input.{Holds, IsTextFault}
-use Rattle.script_text.specs.declared.limits.TheConstants.{MAX_WORK}
+use Rattle.frame_view.specs.Input.{Holds, IsTextFault}
+use Rattle.replay_script.specs.declared.limits.TheConstants.{MAX_WORK}
 use Rattle.script_view.specs.Unplayable.{Made}
 use Rattle.script_view.specs.Walks.{PlaysFrames, StopsAt}
 use Rattle.script_view.specs.declared.limits.TheConstants.{MAX_BODY}

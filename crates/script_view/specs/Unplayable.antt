@@ -8,9 +8,9 @@ use Rattle.graph_place.specs.Size.{tree_words}
 use Rattle.graph_place.specs.Stored.{StandsIn}
 use Rattle.frame_transport.specs.declared.format.Frame.{Frame}
 use Rattle.frame_transport.specs.declared.format.TheConstants.{HEADER_LEN, HELLO}
-use Rattle.frame_reading.specs.Contents.{IsMessageOf}
+use Rattle.frame_view.specs.Contents.{IsMessageOf}
 use Rattle.frame_transport.specs.Messages.{message_in}
-use Rattle.script_text.specs.declared.limits.TheConstants.{MAX_CONNECTIONS, MAX_WORK}
+use Rattle.replay_script.specs.declared.limits.TheConstants.{MAX_CONNECTIONS, MAX_WORK}
 use Rattle.script_view.specs.Playing.{IsNumbered, call_lines, hello_line}
 use Rattle.script_view.specs.declared.limits.TheConstants.{FIRST_PLACE, MAX_REPLAY_WORDS, MAX_BODY}
 

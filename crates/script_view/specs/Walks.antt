@@ -5,8 +5,8 @@ use Rattle.graph_form.specs.declared.placed.Placed.{Placed}
 use Rattle.frame_transport.specs.Standing.{StandsAt}
 use Rattle.frame_transport.specs.declared.format.Frame.{Frame}
 use Rattle.frame_transport.specs.declared.format.TheConstants.{HELLO}
-use Rattle.frame_reading.specs.Faults.{IsFaultHere}
-use Rattle.frame_reading.specs.Walks.{Stands}
+use Rattle.frame_view.specs.Faults.{IsFaultHere}
+use Rattle.frame_view.specs.FrameWalks.{Stands}
 use Rattle.script_view.specs.Playing.{hello_line, call_lines}
 use Rattle.script_view.specs.Unplayable.{Made, last_of, IsMadeBy, IsUnplayable}
 use Rattle.script_view.specs.declared.calls.Calls.{Calls}

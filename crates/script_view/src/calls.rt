@@ -2,9 +2,9 @@
 //! take.
 
 ghost use Rattle.std.specs.Prelude.{◌≡◌, ◌≤◌, ◌<◌, ◌+◌, ◌*◌, ◌^◌, max, replicate, slice_index, slice_set, IsTrue, ◌↔◌, ℕ};
-ghost use Rattle.script_text.specs.declared.limits.TheConstants.{MAX_CONNECTIONS, MAX_WORK};
+ghost use Rattle.replay_script.specs.declared.limits.TheConstants.{MAX_CONNECTIONS, MAX_WORK};
 
-use script_text::{MAX_CONNECTIONS, MAX_WORK};
+use replay_script::{MAX_CONNECTIONS, MAX_WORK};
 
 // The calls of a script so far.
 #[derive(Drop)]

@@ -6,7 +6,7 @@
 //! number, submissions without a message, which are refused at once, precede it. Hellos aren't replayed.
 //! `specs/Playing.antt` defines the lines of each frame, and `specs/Scripts.antt` the whole script. A frame
 //! that no replay can send is a fault at an offset of the frame, with one of the reasons `Conn`, `Number`,
-//! `Words`, `Loads`, `Work` and `Size` (`specs/Unplayable.antt`). The crate uses `frame_reading` and
+//! `Words`, `Loads`, `Work` and `Size` (`specs/Unplayable.antt`). The crate uses `frame_view` and
 //! `graph_place`. Its one contract for the layer above: frame by frame, the script stores the words of each
 //! message as a reader loads them, submits the message and sends it.
 #![tactic(auto)]

@@ -3,12 +3,12 @@
 ghost use Rattle.std.specs.Prelude.{◌≡◌, ◌<◌, ◌≤◌, ◌^◌, ◌++◌, ◌+◌, ◌==◌, ℕ, List, [], length, if◌then◌else◌, IfOk, IfErr, IfSome, IfNone, OnOk};
 ghost use Rattle.mrpc_table.specs.Valid.{IsValid};
 ghost use Rattle.frame_transport.specs.Standing.{frame_of};
-ghost use Rattle.frame_reading.specs.Contents.{IsContentOf, IsMessageOf};
+ghost use Rattle.frame_view.specs.Contents.{IsContentOf, IsMessageOf};
 ghost use Rattle.frame_transport.specs.Messages.{message_in};
-ghost use Rattle.frame_reading.specs.Faults.{OnFault};
+ghost use Rattle.frame_view.specs.Faults.{OnFault};
 ghost use Rattle.script_view.specs.Playing.{IsNumbered, call_lines, conn_line};
 ghost use Rattle.mrpc_table.specs.declared.table.Table.{Table};
-ghost use Rattle.script_text.specs.declared.limits.TheConstants.{MAX_CONNECTIONS};
+ghost use Rattle.replay_script.specs.declared.limits.TheConstants.{MAX_CONNECTIONS};
 ghost use Rattle.script_view.specs.Unplayable.{IsLaidOut, IsMadeBy, IsUnplayable, Made, last_of};
 ghost use Rattle.script_view.specs.declared.limits.TheConstants.{MAX_BODY};
 ghost use Rattle.script_view.specs.Walks.{Plays, PlaysFrame, StopsAt, StopsHere, made_by};
@@ -16,13 +16,13 @@ ghost use Rattle.script_view.specs.Walks.{Plays, PlaysFrame, StopsAt, StopsHere,
 use crate::calls::{Calls, is_conn};
 use crate::limits::{FIRST_PLACE, MAX_BODY, MAX_REPLAY_WORDS};
 use crate::lines::{put_blanks, put_conn, put_hello, put_send, put_stores, put_submit};
-use frame_reading::{Content, ReadFault, content_of, frame_here, frames_follow};
 use frame_transport::{FrameRef, HEADER_LEN, REQUEST};
+use frame_view::{Content, ReadFault, content_of, frame_here, frames_follow};
 use graph_form::Placed;
 use graph_place::{layout, place_words};
 use mrpc_table::{Bytes, MAX_LOADS, Memory, Table, Tree};
-use spare_trees::Spare;
 use std::alloc::Global;
+use wire_decode::Spare;
 
 // The offset of the sender's connection in a header, and that of the number.
 const CONN_PLACE: u64 = 8;

@@ -3,7 +3,7 @@
 ghost use Rattle.std.specs.Prelude.{◌≡◌, ◌<◌, ◌≤◌, ◌^◌, ◌++◌, ℕ, List, codes, length, IfOk, IfErr, OnOk};
 ghost use Rattle.mrpc_table.specs.Text.{table_text};
 ghost use Rattle.mrpc_table.specs.Valid.{IsValid};
-ghost use Rattle.frame_reading.specs.Faults.{OnFault};
+ghost use Rattle.frame_view.specs.Faults.{OnFault};
 ghost use Rattle.script_view.specs.Scripts.{FitsReplay, IsScriptOf, HasStop, nothing_made, script_text};
 ghost use Rattle.script_view.specs.Unplayable.{Made};
 ghost use Rattle.script_view.specs.Walks.{Plays, StopsAt};
@@ -11,11 +11,11 @@ ghost use Rattle.script_view.specs.Walks.{Plays, StopsAt};
 use crate::calls::Calls;
 use crate::lines::{put_line, put_parts};
 use crate::playing::put_stream;
-use frame_reading::{ReadFault, frames_follow, read_head};
+use frame_view::{ReadFault, frames_follow, read_head};
 use mrpc_table::{Bytes, Memory, Table};
-use spare_trees::Spare;
 use std::alloc::Global;
-use table_lines::table_text;
+use table_text::table_text;
+use wire_decode::Spare;
 
 /// The script that stores, submits and sends the message of each frame of an input except hellos.
 pub fn script_of(alloc: Global, text: &[u8]) -> Result<Bytes, ReadFault>

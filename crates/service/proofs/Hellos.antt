@@ -7,11 +7,11 @@ use Rattle.std.specs.Option.{option_copied}
 use Rattle.mrpc_base.specs.Faults.{HasCause, Rose}
 use Rattle.mrpc_base.specs.declared.link.Link.{Ghosts as LinkMembers}
 use Rattle.mrpc_table.specs.declared.table.Table.{Table}
-use Rattle.deliveries.specs.declared.arrivals.Arrivals.{Arrivals}
-use Rattle.deliveries.specs.declared.arrivals.Stream.{Stream}
-use Rattle.deliveries.specs.declared.arrivals.Stream.TheVariants.{Failed}
-use Rattle.link_greeting.specs.Greeting.{HasBound, IsBound, IsUnbound, failed}
-use Rattle.link_greeting.specs.declared.unbound.Unbound.{Unbound}
+use Rattle.message_delivery.specs.declared.arrivals.Arrivals.{Arrivals}
+use Rattle.message_delivery.specs.declared.arrivals.Stream.{Stream}
+use Rattle.message_delivery.specs.declared.arrivals.Stream.TheVariants.{Failed}
+use Rattle.link_handshake.specs.Greeting.{HasBound, IsBound, IsUnbound, failed}
+use Rattle.link_handshake.specs.declared.unbound.Unbound.{Unbound}
 use Rattle.run_plan.specs.Chains.{inbound_of, table_of}
 use Rattle.run_plan.specs.declared.application.Application.{Application}
 use Rattle.run_plan.specs.declared.plan.Plan.{Plan}

@@ -8,7 +8,7 @@ use Rattle.std.proofs.lemmas.List.Elements.{All-map, All-weaker}
 use Rattle.std.proofs.lemmas.Option.{same_Some}
 use Rattle.mrpc_base.specs.declared.link.Link.{Ghosts as LinkMembers}
 use Rattle.tenant_quota.specs.Drawing.{Drawing, WasSplit, all_shares, kept_half, new_half}
-use Rattle.link_greeting.specs.declared.unbound.Unbound.{Unbound as Cause}
+use Rattle.link_handshake.specs.declared.unbound.Unbound.{Unbound as Cause}
 use Rattle.link_queue.specs.declared.writer.QueueWriter.{QueueWriter}
 use Rattle.receive_core.specs.Life.{fed, greeted, no_life}
 use Rattle.run_plan.specs.declared.application.Application.{Application}
@@ -17,8 +17,8 @@ use Rattle.service_loop.specs.declared.due_step.DueStep.{DueStep}
 use Rattle.service_wiring.specs.Stepping.{IsStepsOf}
 use Rattle.service_wiring.specs.Wired.{Beginning, IsWired}
 use Rattle.service_wiring.specs.declared.applications.Job.{Job}
-use Rattle.service_run.specs.Closings.{AreWired, Item, Opening}
-use Rattle.service_run.specs.Joining.{SplitInto}
+use Rattle.service_threads.specs.Closings.{AreWired, Item, Opening}
+use Rattle.service_threads.specs.Joining.{SplitInto}
 use Rattle.service.specs.Ends.{Opened}
 use Rattle.service.specs.Greeted.{Heard, WasGreeted, WasHeard}
 use Rattle.service.specs.Prepared.{HasSteps}

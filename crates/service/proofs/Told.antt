@@ -12,10 +12,10 @@ use Rattle.call_history.specs.Tickets.{tickets_behind}
 use Rattle.conn_core.specs.Connections.{behind}
 use Rattle.tenant_quota.specs.Drawing.{AllOnce, AreLater, Drawing, EachOnce, QuotaId, all_shares, drawn_by, kept_half, new_half, quotas_of, told_in, tickets_in}
 use Rattle.run_plan.specs.declared.plan.Plan.{Plan}
-use Rattle.service_run.specs.Closings.{Opening}
-use Rattle.service_run.specs.Joining.{SplitInto, all_told}
-use Rattle.service_run.specs.Served.{HasServed}
-use Rattle.service_run.specs.declared.meeting.Met.{Met}
+use Rattle.service_threads.specs.Closings.{Opening}
+use Rattle.service_threads.specs.Joining.{SplitInto, all_told}
+use Rattle.service_threads.specs.Served.{HasServed}
+use Rattle.service_threads.specs.declared.meeting.Met.{Met}
 use Rattle.service.specs.Concluding.{WasServedAt, left_of, outcomes_of}
 use Rattle.service.specs.Ends.{Opened}
 use Rattle.service.specs.Served.{all_tickets}

@@ -6,10 +6,10 @@ use Rattle.mrpc_base.specs.declared.clock.Clock.{Ghosts as ClockMembers}
 use Rattle.mrpc_base.specs.declared.link.Link.{Ghosts as LinkMembers}
 use Rattle.tenant_quota.specs.Drawing.{Drawing, all_shares}
 use Rattle.run_plan.specs.declared.plan.Plan.{Plan}
-use Rattle.service_run.specs.Closings.{Opening}
-use Rattle.service_run.specs.Joining.{SplitInto}
-use Rattle.service_run.specs.Served.{HasServed}
-use Rattle.service_run.specs.declared.meeting.Met.{Met}
+use Rattle.service_threads.specs.Closings.{Opening}
+use Rattle.service_threads.specs.Joining.{SplitInto}
+use Rattle.service_threads.specs.Served.{HasServed}
+use Rattle.service_threads.specs.declared.meeting.Met.{Met}
 use Rattle.service.specs.Ends.{Opened}
 use Rattle.service.specs.Served.{WasServed}
 use Rattle.service.specs.Standing.{AreStanding}

@@ -9,13 +9,13 @@ use Rattle.mrpc_table.specs.declared.table.Table.{Table}
 use Rattle.frame_transport.specs.declared.fault.FeedFault.{FeedFault}
 use Rattle.frame_transport.specs.declared.format.Frame.{Frame}
 use Rattle.receive_core.specs.Life.{fed, greeted, no_life}
-use Rattle.deliveries.specs.Arriving.{HaveLived}
-use Rattle.deliveries.specs.declared.arrivals.Arrivals.{Arrivals}
-use Rattle.deliveries.specs.declared.arrivals.Stream.{Stream}
-use Rattle.deliveries.specs.declared.arrivals.Stream.TheVariants.{Ended, Failed}
-use Rattle.link_greeting.specs.Greeting.{IsBound, IsUnbound, SaysWhy}
-use Rattle.link_greeting.specs.declared.unbound.Unbound.{Unbound}
-use Rattle.link_greeting.specs.declared.unbound.Unbound.TheVariants.{Transport}
+use Rattle.message_delivery.specs.Arriving.{HaveLived}
+use Rattle.message_delivery.specs.declared.arrivals.Arrivals.{Arrivals}
+use Rattle.message_delivery.specs.declared.arrivals.Stream.{Stream}
+use Rattle.message_delivery.specs.declared.arrivals.Stream.TheVariants.{Ended, Failed}
+use Rattle.link_handshake.specs.Greeting.{IsBound, IsUnbound, SaysWhy}
+use Rattle.link_handshake.specs.declared.unbound.Unbound.{Unbound}
+use Rattle.link_handshake.specs.declared.unbound.Unbound.TheVariants.{Transport}
 use Rattle.run_plan.specs.Chains.{inbound_of, table_of}
 use Rattle.run_plan.specs.Ports.{application_in}
 use Rattle.run_plan.specs.declared.application.Application.{Application}

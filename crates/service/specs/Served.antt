@@ -13,19 +13,19 @@ use Rattle.tenant_quota.specs.Drawing.{Drawing}
 use Rattle.call_history.specs.Tickets.{tickets_behind}
 use Rattle.conn_core.specs.Connections.{behind}
 use Rattle.receive_core.specs.Life.{fed, greeted, no_life}
-use Rattle.deliveries.specs.declared.arrivals.Stream.{Stream}
-use Rattle.deliveries.specs.declared.arrivals.Stream.TheVariants.{Ended, Failed}
-use Rattle.link_greeting.specs.Greeting.{IsBound, IsUnbound, SaysWhy, hello_of}
-use Rattle.link_greeting.specs.declared.unbound.Unbound.{Unbound as Cause}
-use Rattle.link_greeting.specs.declared.unbound.Unbound.TheVariants.{Transport}
+use Rattle.message_delivery.specs.declared.arrivals.Stream.{Stream}
+use Rattle.message_delivery.specs.declared.arrivals.Stream.TheVariants.{Ended, Failed}
+use Rattle.link_handshake.specs.Greeting.{IsBound, IsUnbound, SaysWhy, hello_of}
+use Rattle.link_handshake.specs.declared.unbound.Unbound.{Unbound as Cause}
+use Rattle.link_handshake.specs.declared.unbound.Unbound.TheVariants.{Transport}
 use Rattle.run_plan.specs.Chains.{inbound_of, table_of}
 use Rattle.run_plan.specs.Ports.{application_in}
 use Rattle.run_plan.specs.declared.application.Application.{Application}
 use Rattle.run_plan.specs.declared.plan.Plan.{Plan}
 use Rattle.service_wiring.specs.Stepping.{IsStepsOf}
-use Rattle.service_run.specs.Closings.{Opening}
-use Rattle.service_run.specs.Served.{HasServed}
-use Rattle.service_run.specs.declared.served.BoundConn.{BoundConn}
+use Rattle.service_threads.specs.Closings.{Opening}
+use Rattle.service_threads.specs.Served.{HasServed}
+use Rattle.service_threads.specs.declared.served.BoundConn.{BoundConn}
 use Rattle.service.specs.declared.served.Outcome.{Outcome}
 use Rattle.service.specs.declared.served.Outcome.TheVariants.{Unbound, Bound}
 use Rattle.service.specs.declared.served.ServedConn.{ServedConn}

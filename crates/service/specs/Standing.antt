@@ -4,7 +4,7 @@ use Rattle.std.specs.Global.{Vec}
 use Rattle.std.specs.List.{AllZip}
 use Rattle.mrpc_base.specs.declared.link.Link.{Ghosts as LinkMembers}
 use Rattle.tenant_quota.specs.Drawing.{Drawing, WasSplit, all_shares, kept_half}
-use Rattle.link_greeting.specs.declared.unbound.Unbound.{Unbound as Cause}
+use Rattle.link_handshake.specs.declared.unbound.Unbound.{Unbound as Cause}
 use Rattle.link_queue.specs.declared.writer.QueueWriter.{QueueWriter}
 use Rattle.run_plan.specs.Ports.{application_in}
 use Rattle.run_plan.specs.declared.application.Application.{Application}
@@ -12,8 +12,8 @@ use Rattle.run_plan.specs.declared.plan.Plan.{Plan}
 use Rattle.service_loop.specs.declared.due_step.DueStep.{DueStep}
 use Rattle.service_wiring.specs.Wired.{Beginning, IsWired}
 use Rattle.service_wiring.specs.declared.applications.Job.{Job}
-use Rattle.service_run.specs.Closings.{AreWired, Item, Opening}
-use Rattle.service_run.specs.Joining.{SplitInto}
+use Rattle.service_threads.specs.Closings.{AreWired, Item, Opening}
+use Rattle.service_threads.specs.Joining.{SplitInto}
 use Rattle.service.specs.Ends.{Opened}
 use Rattle.service.specs.Prepared.{HasSteps}
 use Rattle.service.specs.Served.{IsNewLink, WasBound, WasRefused}

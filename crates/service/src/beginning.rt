@@ -5,7 +5,7 @@ ghost use Rattle.std.specs.List.{AllZip};
 ghost use Rattle.mrpc_table.specs.declared.limits.TheConstants.{MIN_HEAP};
 ghost use Rattle.tenant_quota.specs.Drawing.{Drawing, new_half};
 ghost use Rattle.receive_core.specs.Life.{Life as TheLife};
-ghost use Rattle.deliveries.specs.Arriving.{HaveLived};
+ghost use Rattle.message_delivery.specs.Arriving.{HaveLived};
 ghost use Rattle.run_plan.specs.Plans.{IsPlan};
 ghost use Rattle.service_loop.specs.Steps.{AreSteps, KnowTenants};
 ghost use Rattle.worker_pool.specs.declared.limits.TheConstants.{MOST_ITEMS};
@@ -16,9 +16,9 @@ ghost use Rattle.service.specs.Standing.{AllBegun, HaveBegun, HaveStepsAt, TookU
 
 use crate::greeting::Greeted;
 use crate::quotas::all_seats;
-use deliveries::{Arrivals, Stream};
-use link_greeting::Unbound;
+use link_handshake::Unbound;
 use link_queue::{QueueLink, QueueWriter};
+use message_delivery::{Arrivals, Stream};
 use mrpc_base::{Clock, Link, ReadyOrder};
 use mrpc_table::Memory;
 use run_plan::Application;

@@ -14,7 +14,7 @@ use crate::beginning::Standing;
 use crate::served::{Outcome, Served, ServedConn};
 use mrpc_base::{Clock, Link};
 use mrpc_table::Memory;
-use service_run::{Met, join_all, seats_join_again};
+use service_threads::{Met, join_all, seats_join_again};
 use service_wiring::Common;
 use std::alloc::Global;
 use std::vec::IntoIter;

@@ -3,8 +3,8 @@
 ghost use Rattle.std.specs.Prelude.{◌≡◌, ◌≢◌, ◌<◌, ◌≤◌, ◌+◌, ◌++◌, ◌^◌, [], ◌∷◌, Contains, IfOk, IfSome, IsErrOf, None, OnErr, OnOk, Some, false, length, true};
 ghost use Rattle.mrpc_base.specs.Faults.{HasCause};
 ghost use Rattle.receive_core.specs.Life.{no_life};
-ghost use Rattle.deliveries.specs.Arriving.{AreSame, HaveLived};
-ghost use Rattle.link_greeting.specs.Greeting.{HasBound};
+ghost use Rattle.message_delivery.specs.Arriving.{AreSame, HaveLived};
+ghost use Rattle.link_handshake.specs.Greeting.{HasBound};
 ghost use Rattle.run_plan.specs.Plans.{IsPlan};
 ghost use Rattle.run_plan.specs.Ports.{all_ends, connections_of};
 ghost use Rattle.service_wiring.specs.declared.wiring.TheConstants.{MOST_BYTES};
@@ -14,8 +14,8 @@ ghost use Rattle.service.specs.Served.{IsNewLink};
 
 use crate::fault::ServeFault;
 use crate::pairs::push_pair;
-use deliveries::{Arrivals, Stream};
-use link_greeting::{Unbound, hear_hello, no_arrivals, say_hello};
+use link_handshake::{Unbound, hear_hello, no_arrivals, say_hello};
+use message_delivery::{Arrivals, Stream};
 use mrpc_base::{Fabric, Link, OpenFault};
 use mrpc_table::{Memory, Name};
 use receive_core::Inbound;

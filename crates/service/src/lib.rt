@@ -2,8 +2,8 @@
 //!
 //! [`prepare`] makes what a run needs before it starts. [`serve`] opens the link of each pair of connections and
 //! makes the handshake at both ends. It then serves each bound connection to its end, with its application, its
-//! writer, and workers that visit it among others. The crate depends on `link_greeting` for the handshake, on
-//! `service_wiring` for the tasks of the threads, on `service_run` for the threads and what they leave, and on
+//! writer, and workers that visit it among others. The crate depends on `link_handshake` for the handshake, on
+//! `service_wiring` for the tasks of the threads, on `service_threads` for the threads and what they leave, and on
 //! `tenant_quota` for seats.
 //!
 //! The layer above uses one contract: for each connection of the plan, in the order of its links, [`serve`] returns

@@ -7,11 +7,11 @@ ghost use Rattle.service.specs.Prepared.{HasSteps, IsPrepared};
 
 use crate::pairs::push_pair;
 use mrpc_table::Memory;
+use polling::RunFlag;
 use run_plan::Plan;
 use service_loop::DueStep;
 use service_wiring::due_steps;
 use std::alloc::Global;
-use stop_flag::RunFlag;
 
 /// The operations scheduled for each connection, in the order of the plan's links, and the flag that stops the run's
 /// threads if memory runs out.

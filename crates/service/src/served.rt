@@ -1,7 +1,7 @@
 //! The results of a run.
 
-use link_greeting::Unbound;
-use service_run::BoundConn;
+use link_handshake::Unbound;
+use service_threads::BoundConn;
 
 /// The outcome of a connection.
 #[derive(Drop)]

@@ -26,7 +26,7 @@ use mrpc_base::{Clock, Fabric, Gate, Link, ReadyOrder};
 use mrpc_table::Memory;
 use run_plan::Plan;
 use service_loop::DueStep;
-use service_run::run_wired;
+use service_threads::run_wired;
 use service_wiring::Common;
 use std::alloc::Global;
 use std::sync::Wait;

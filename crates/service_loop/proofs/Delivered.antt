@@ -22,18 +22,18 @@ use Rattle.receive_heap.specs.Layout.{IsWithout, Layout}
 use Rattle.receive_heap.specs.declared.extents.Block.{Block}
 use Rattle.receive_core.specs.Life.{Fated, Life, Lives, fated, fed, was_dropped, was_placed}
 use Rattle.receive_core.specs.Turns.{Receiving}
-use Rattle.deliveries.specs.Arriving.{AreTurned, HasAll, HaveLived, Holds, IsTold}
-use Rattle.deliveries.specs.Telling.{IsMessage, IsReclaiming, IsTelling, LosesEach, StayOpen, TellsOf}
-use Rattle.deliveries.specs.Telling.{notices_of as notices_told, numbers_of as numbers_told}
-use Rattle.deliveries.specs.declared.arrivals.Arrivals.{Arrivals}
-use Rattle.deliveries.specs.declared.arrivals.Delivered.{Delivered}
-use Rattle.deliveries.specs.declared.arrivals.Stream.{Stream}
-use Rattle.deliveries.specs.declared.arrivals.Stream.TheVariants.{Cut, Ended, Failed, Open}
-use Rattle.deliveries.specs.declared.arrivals.Turned.{Turned}
-use Rattle.deliveries.specs.declared.arrivals.Turned.TheVariants as turned
-use Rattle.deliveries.specs.declared.limits.TheConstants.{MAX_ARRIVALS}
-use Rattle.deliveries.specs.declared.notices.Notices.{Notices}
-use Rattle.deliveries.specs.declared.reclaims.Reclaims.{Reclaims}
+use Rattle.message_delivery.specs.Arriving.{AreTurned, HasAll, HaveLived, Holds, IsTold}
+use Rattle.message_delivery.specs.Telling.{IsMessage, IsReclaiming, IsTelling, LosesEach, StayOpen, TellsOf}
+use Rattle.message_delivery.specs.Telling.{notices_of as notices_told, numbers_of as numbers_told}
+use Rattle.message_delivery.specs.declared.arrivals.Arrivals.{Arrivals}
+use Rattle.message_delivery.specs.declared.arrivals.Delivered.{Delivered}
+use Rattle.message_delivery.specs.declared.arrivals.Stream.{Stream}
+use Rattle.message_delivery.specs.declared.arrivals.Stream.TheVariants.{Cut, Ended, Failed, Open}
+use Rattle.message_delivery.specs.declared.arrivals.Turned.{Turned}
+use Rattle.message_delivery.specs.declared.arrivals.Turned.TheVariants as turned
+use Rattle.message_delivery.specs.declared.limits.TheConstants.{MAX_ARRIVALS}
+use Rattle.message_delivery.specs.declared.notices.Notices.{Notices}
+use Rattle.message_delivery.specs.declared.reclaims.Reclaims.{Reclaims}
 use Rattle.service_loop.specs.Delivering.{CountsAsEnded, HaveDelivered, HaveEnded, HaveGoneOn, IsClosing, held_numbers, message_blocks, message_of, messages_of}
 use Rattle.service_loop.specs.declared.delivering.Deliveries.{Deliveries}
 

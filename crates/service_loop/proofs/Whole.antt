@@ -13,8 +13,8 @@ use Rattle.service_loop.specs.Calls.{moments_at_calls, moments_in}
 use Rattle.service_loop.specs.Serving.{IsServed}
 use Rattle.service_loop.specs.Steps.{KnowTenants}
 use Rattle.service_loop.specs.declared.due_step.DueStep.{DueStep}
-use Rattle.deliveries.specs.declared.arrivals.Stream.{Stream}
-use Rattle.deliveries.specs.declared.arrivals.Stream.TheVariants.{Ended, Failed, Open}
+use Rattle.message_delivery.specs.declared.arrivals.Stream.{Stream}
+use Rattle.message_delivery.specs.declared.arrivals.Stream.TheVariants.{Ended, Failed, Open}
 use Rattle.service_loop.specs.Delivering.{AreDelivering, CountsAsEnded, DeliversOn}
 use Rattle.service_loop.specs.Rounds.{GoesOn, IsWhole}
 use Rattle.service_loop.specs.declared.endpoint.Endpoint.{Endpoint}

@@ -4,14 +4,14 @@ use Rattle.std.specs.List.{flat_map}
 use Rattle.std.specs.Io.KnownBytes.{Appends}
 use Rattle.receive_core.specs.Life.{Fated, Life, was_dropped, was_placed}
 use Rattle.receive_heap.specs.declared.extents.Block.{Block}
-use Rattle.deliveries.specs.Arriving.{HasAll, HaveLived}
-use Rattle.deliveries.specs.Arriving.{AreSame as AreSameArrivals}
-use Rattle.deliveries.specs.Telling.{AreSameRings, IsReclaiming, IsTelling}
-use Rattle.deliveries.specs.declared.arrivals.Arrivals.{Arrivals}
-use Rattle.deliveries.specs.declared.arrivals.Delivered.{Delivered}
-use Rattle.deliveries.specs.declared.arrivals.Stream.TheVariants.{Open}
-use Rattle.deliveries.specs.declared.limits.TheConstants.{MAX_ARRIVALS}
-use Rattle.deliveries.specs.declared.notices.Notices.{Notices}
+use Rattle.message_delivery.specs.Arriving.{HasAll, HaveLived}
+use Rattle.message_delivery.specs.Arriving.{AreSame as AreSameArrivals}
+use Rattle.message_delivery.specs.Telling.{AreSameRings, IsReclaiming, IsTelling}
+use Rattle.message_delivery.specs.declared.arrivals.Arrivals.{Arrivals}
+use Rattle.message_delivery.specs.declared.arrivals.Delivered.{Delivered}
+use Rattle.message_delivery.specs.declared.arrivals.Stream.TheVariants.{Open}
+use Rattle.message_delivery.specs.declared.limits.TheConstants.{MAX_ARRIVALS}
+use Rattle.message_delivery.specs.declared.notices.Notices.{Notices}
 use Rattle.service_loop.specs.declared.delivering.Deliveries.{Deliveries}
 
 -- the message of a frame that was placed, as its notice has it

@@ -11,7 +11,7 @@ use Rattle.service_loop.specs.Calls.{moments_at_calls, moments_in}
 use Rattle.service_loop.specs.Serving.{IsServed}
 use Rattle.service_loop.specs.Serving.{AreSameSubmissions}
 use Rattle.service_loop.specs.Steps.{KnowTenants}
-use Rattle.deliveries.specs.declared.arrivals.Stream.TheVariants.{Ended, Failed}
+use Rattle.message_delivery.specs.declared.arrivals.Stream.TheVariants.{Ended, Failed}
 use Rattle.service_loop.specs.Delivering.{AreDelivering, CountsAsEnded, DeliversOn}
 use Rattle.service_loop.specs.Delivering.{AreSameDeliveries}
 use Rattle.service_loop.specs.declared.endpoint.Endpoint.{Endpoint}

@@ -3,12 +3,12 @@
 ghost use Rattle.std.specs.Prelude.{◌≡◌, ◌≢◌, ◌<◌, ◌≤◌, ◌^◌, ◌++◌, [], ℕ, List, None, Some, IsTrue, OnOk, length, true, false};
 ghost use Rattle.mrpc_base.specs.Faults.{HasCause};
 ghost use Rattle.receive_core.specs.Life.{Life as TheLife, Fated, fated};
-ghost use Rattle.deliveries.specs.Arriving.{HaveLived};
-ghost use Rattle.deliveries.specs.Telling.{number_ring_of, ring_of};
+ghost use Rattle.message_delivery.specs.Arriving.{HaveLived};
+ghost use Rattle.message_delivery.specs.Telling.{number_ring_of, ring_of};
 ghost use Rattle.service_loop.specs.Delivering.{AreDelivering, AreSameDeliveries, CountsAsEnded, DeliversOn, HaveDelivered, HaveGoneOn, IsClosing};
 
-use deliveries::{Arrivals, Notices, Reclaimed, Reclaims, Stream, Turned};
 use descriptor_ring::{NumberReceiver, NumberSender, Sender};
+use message_delivery::{Arrivals, Notices, Reclaimed, Reclaims, Stream, Turned};
 use mrpc_base::Link;
 use mrpc_table::Memory;
 use std::alloc::Global;

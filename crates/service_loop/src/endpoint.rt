@@ -15,7 +15,7 @@ use crate::delivering::Deliveries;
 use crate::share::Share;
 use crate::submissions::Submissions;
 use crate::visited::{Outcome, Visited};
-use deliveries::Stream;
+use message_delivery::Stream;
 use mrpc_base::{Clock, Gate, Link, ReadyOrder, Tickets};
 use mrpc_table::Memory;
 use qos_order::Ending;

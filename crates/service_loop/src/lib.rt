@@ -5,7 +5,7 @@
 //! which take calls from the application's ring, and a round of its [`Deliveries`], which handle frames and reclaim
 //! blocks. A visit makes as many rounds as the order of connections grants, and counts them in the connection's
 //! [`Share`], if it has one. It shares nothing with other threads but heaps and rings, has no lock, and any loop may
-//! drive it. The crate depends on `conn_core`, `deliveries`, `shared_heap` and `descriptor_ring`.
+//! drive it. The crate depends on `conn_core`, `message_delivery`, `shared_heap` and `descriptor_ring`.
 //!
 //! The layers above use one contract: the invariant of `specs/Rounds.antt` holds between rounds, and each later state
 //! of a connection has advanced from the earlier one. At every such point:

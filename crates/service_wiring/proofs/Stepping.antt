@@ -17,8 +17,8 @@ use Rattle.engine_core.specs.declared.op.Op.TheVariants as op
 use Rattle.engine_core.specs.declared.policy.Policy.{Policy}
 use Rattle.engine_core.specs.declared.policy.Policy.TheVariants.{Access, Redact}
 use Rattle.conn_core.specs.Steps.{IfPolicy}
-use Rattle.policy_blocks.specs.Declarations.{IsSound}
-use Rattle.policy_blocks.specs.declared.item.NamedPolicy.{NamedPolicy}
+use Rattle.policy_declarations.specs.Declarations.{IsSound}
+use Rattle.policy_declarations.specs.declared.item.NamedPolicy.{NamedPolicy}
 use Rattle.run_plan.specs.Chains.{Changing, SaysTheSame, attaching, attachment_of, chained, empty_chain, label_at}
 use Rattle.run_plan.specs.Chains.{lines_on, op_of, operator_in, own_policy_in, policy_at, policy_by, policy_of}
 use Rattle.run_plan.specs.Chains.{steps_in, steps_on, with_policy}

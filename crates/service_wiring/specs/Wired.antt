@@ -9,9 +9,9 @@ use Rattle.run_plan.specs.declared.application.Role.TheVariants as role
 use Rattle.run_plan.specs.declared.plan.Plan.{Plan}
 use Rattle.shared_heap.specs.Fresh.{Reading}
 use Rattle.receive_core.specs.Life.{Life}
-use Rattle.deliveries.specs.Arriving.{AreSame}
-use Rattle.deliveries.specs.Telling.{number_ring_of, ring_of}
-use Rattle.deliveries.specs.declared.arrivals.Arrivals.{Arrivals}
+use Rattle.message_delivery.specs.Arriving.{AreSame}
+use Rattle.message_delivery.specs.Telling.{number_ring_of, ring_of}
+use Rattle.message_delivery.specs.declared.arrivals.Arrivals.{Arrivals}
 use Rattle.tenant_quota.specs.Drawing.{Drawing}
 use Rattle.link_queue.specs.Queueing.{Queueing}
 use Rattle.link_queue.specs.Writers.{writer_backward, writer_forward, writer_start}

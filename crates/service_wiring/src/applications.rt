@@ -4,10 +4,10 @@ ghost use Rattle.service_wiring.specs.Applications.{IsEndOf, IsJob};
 
 use app_stub::{AppEnd, AppPort, client, echo, server};
 use mrpc_table::Table;
+use polling::RunFlag;
 use run_plan::Role;
 use std::alloc::Global;
 use std::sync::Wait;
-use stop_flag::RunFlag;
 
 /// An application that is ready to run.
 #[derive(Drop)]

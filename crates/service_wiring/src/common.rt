@@ -1,8 +1,8 @@
 //! What all connections of a run share.
 
+use polling::RunFlag;
 use run_plan::Plan;
 use std::alloc::Global;
-use stop_flag::RunFlag;
 
 /// What all connections of a run share.
 #[derive(Drop)]

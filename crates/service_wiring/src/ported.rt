@@ -8,11 +8,11 @@ use crate::ends::{Ends, open_ends};
 use app_stub::AppPort;
 use descriptor_ring::Receiver;
 use mrpc_table::Memory;
+use polling::RunFlag;
 use run_plan::Application;
 use service_loop::Rings;
 use shared_heap::Reader;
 use std::alloc::Global;
-use stop_flag::RunFlag;
 
 // A port, the reader of the heap that its application writes, and the service's ends of its rings.
 #[derive(Drop)]

@@ -11,11 +11,11 @@ use crate::common::Common;
 use crate::laws::connections_go_on;
 use link_queue::QueueLink;
 use mrpc_base::{Clock, Gate, Link, ReadyOrder, Tickets};
+use polling::{RunFlag, StopFlag};
 use service_loop::{Endpoint, Outcome};
 use std::alloc::Global;
 use std::marker::Model;
 use std::sync::Wait;
-use stop_flag::{RunFlag, StopFlag};
 use tenant_quota::Seats;
 use worker_pool::{Visit, Visited};
 

@@ -3,7 +3,7 @@
 ghost use Rattle.std.specs.Prelude.{◌≡◌, ◌≢◌, ◌<◌, ◌≤◌, [], Contains, IfOk, length};
 ghost use Rattle.mrpc_table.specs.declared.limits.TheConstants.{MIN_HEAP};
 ghost use Rattle.receive_core.specs.Life.{Life as TheLife};
-ghost use Rattle.deliveries.specs.Arriving.{AreSame, HaveLived};
+ghost use Rattle.message_delivery.specs.Arriving.{AreSame, HaveLived};
 ghost use Rattle.run_plan.specs.Plans.{IsPlan};
 ghost use Rattle.service_loop.specs.Steps.{AreSteps, KnowTenants};
 ghost use Rattle.service_wiring.specs.Weighing.{GoesBy, share_in};
@@ -15,8 +15,8 @@ use crate::ported::open_port;
 use crate::programs::programmed;
 use crate::turned::Turned;
 use conn_core::Conn;
-use deliveries::{Arrivals, Stream};
 use link_queue::{QueueLink, QueueWriter};
+use message_delivery::{Arrivals, Stream};
 use mrpc_base::{Clock, Link, ReadyOrder};
 use mrpc_table::Memory;
 use qos_order::Account;

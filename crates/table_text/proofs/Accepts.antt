@@ -24,11 +24,11 @@ use Rattle.mrpc_table.specs.declared.table.Message.{Message as TheMessage}
 use Rattle.mrpc_table.specs.declared.table.Choices.{Choices}
 use Rattle.mrpc_table.specs.declared.table.Method.{Method as TheMethod}
 use Rattle.mrpc_table.specs.declared.table.Table.{Table}
-use Rattle.table_lines.specs.declared.line.Whole.{Whole}
-use Rattle.table_lines.specs.declared.line.Whole.TheVariants.{Low, Within, High}
-use Rattle.table_lines.specs.declared.line.FieldLine.{FieldLine}
-use Rattle.table_lines.specs.declared.line.Line.{Line}
-use Rattle.table_lines.specs.declared.line.Line.TheVariants.{Enum, Value, Message, Field, Method}
+use Rattle.table_text.specs.declared.line.Whole.{Whole}
+use Rattle.table_text.specs.declared.line.Whole.TheVariants.{Low, Within, High}
+use Rattle.table_text.specs.declared.line.FieldLine.{FieldLine}
+use Rattle.table_text.specs.declared.line.Line.{Line}
+use Rattle.table_text.specs.declared.line.Line.TheVariants.{Enum, Value, Message, Field, Method}
 use Rattle.table_text.specs.declared.draft.Open.{Open}
 use Rattle.table_text.specs.declared.draft.Open.TheVariants as open_parts
 use Rattle.table_text.specs.declared.draft.Draft.{Draft}
@@ -48,7 +48,7 @@ use Rattle.std.proofs.Common.{take, drop}
 use Rattle.mrpc_table.specs.Text.{spaced, line, table_text, message_lines, method_line, message_name}
 use Rattle.mrpc_table.specs.Valid.{IsValid}
 use Rattle.mrpc_table.specs.Lines.{words_of, whole_lines, rest_of, pieces_of}
-use Rattle.table_lines.specs.Lines.{line_of, behind}
+use Rattle.table_text.specs.Lines.{line_of, behind}
 use Rattle.table_text.specs.Faults.{bytes_of}
 use Rattle.table_text.specs.Judged.{line_fault, end_fault, fault_at, types_of, before_of}
 use Rattle.table_text.specs.Drafts.{added_line, draft_of, empty_draft, table_in}
@@ -62,7 +62,7 @@ use Rattle.std.proofs.Common.{drop-cons}
 use Rattle.std.specs.List.{fold, cons_option}
 use Rattle.std.proofs.lemmas.Bool.{cases_lt}
 use Rattle.table_text.specs.Judged.{has_short_names, is_full}
-use Rattle.table_lines.proofs.ListLemmas.{has_part}
+use Rattle.table_text.proofs.ListLemmas.{has_part}
 use Rattle.std.specs.List.{join_with_byte}
 use Rattle.std.specs.Prelude.{option_to_list}
 use Rattle.std.proofs.lemmas.List.Splits.{join_with_byte-slice_split}

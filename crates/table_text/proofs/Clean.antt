@@ -11,7 +11,7 @@ use Rattle.mrpc_table.specs.declared.table.Choices.{Choices}
 use Rattle.mrpc_table.specs.declared.table.Table.{Table}
 use Rattle.table_text.specs.declared.fault.TableReason.{TableReason}
 use Rattle.table_text.specs.declared.fault.TableReason.TheVariants.{Syntax, Number, Duplicate, UnknownType, MapKey, Limit}
-use Rattle.table_lines.specs.declared.line.Line.{Line}
+use Rattle.table_text.specs.declared.line.Line.{Line}
 use Rattle.std.proofs.lemmas.Option.{slice_get-map}
 use Rattle.table_text.proofs.PlaceLemmas.{same_bytes}
 

@@ -29,10 +29,10 @@ use Rattle.mrpc_table.specs.declared.table.Message.{Message as TheMessage}
 use Rattle.mrpc_table.specs.declared.table.Choices.{Choices}
 use Rattle.mrpc_table.specs.declared.table.Method.{Method as TheMethod}
 use Rattle.mrpc_table.specs.declared.table.Table.{Table}
-use Rattle.table_lines.specs.declared.line.FieldLine.{FieldLine}
-use Rattle.table_lines.specs.declared.line.MethodLine.{MethodLine}
-use Rattle.table_lines.specs.declared.line.Line.{Line}
-use Rattle.table_lines.specs.declared.line.Line.TheVariants.{Message, Field, Method}
+use Rattle.table_text.specs.declared.line.FieldLine.{FieldLine}
+use Rattle.table_text.specs.declared.line.MethodLine.{MethodLine}
+use Rattle.table_text.specs.declared.line.Line.{Line}
+use Rattle.table_text.specs.declared.line.Line.TheVariants.{Message, Field, Method}
 use Rattle.table_text.specs.declared.draft.Open.TheVariants as open_parts
 use Rattle.table_text.specs.declared.draft.Draft.{Draft}
 use Rattle.table_text.proofs.KeptLemmas.{numbered}
@@ -49,7 +49,7 @@ use Rattle.std.proofs.Common.{take, drop}
 use Rattle.mrpc_table.specs.Text.{spaced, table_text, message_name}
 use Rattle.mrpc_table.specs.Valid.{IsValid}
 use Rattle.mrpc_table.specs.Lines.{words_of, whole_lines, rest_of, pieces_of}
-use Rattle.table_lines.specs.Lines.{line_of, behind}
+use Rattle.table_text.specs.Lines.{line_of, behind}
 use Rattle.table_text.specs.Faults.{bytes_of}
 use Rattle.table_text.specs.Judged.{line_fault, end_fault, fault_behind, types_of, before_of}
 use Rattle.table_text.specs.Drafts.{added_line, draft_of, empty_draft, table_in}

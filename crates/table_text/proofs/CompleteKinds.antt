@@ -35,13 +35,13 @@ use Rattle.mrpc_table.specs.declared.table.Message.{Message as TheMessage}
 use Rattle.mrpc_table.specs.declared.table.Choices.{Choices}
 use Rattle.mrpc_table.specs.declared.table.Method.{Method as TheMethod}
 use Rattle.mrpc_table.specs.declared.table.Table.{Table}
-use Rattle.table_lines.specs.declared.line.KindWord.{KindWord}
-use Rattle.table_lines.specs.declared.line.KindWord.TheVariants as kinds
-use Rattle.table_lines.specs.declared.line.LabelWord.{LabelWord}
-use Rattle.table_lines.specs.declared.line.LabelWord.TheVariants as labels
-use Rattle.table_lines.specs.declared.line.Whole.TheVariants.{Within}
-use Rattle.table_lines.specs.declared.line.Line.{Line}
-use Rattle.table_lines.specs.declared.line.Line.TheVariants.{Enum, Value}
+use Rattle.table_text.specs.declared.line.KindWord.{KindWord}
+use Rattle.table_text.specs.declared.line.KindWord.TheVariants as kinds
+use Rattle.table_text.specs.declared.line.LabelWord.{LabelWord}
+use Rattle.table_text.specs.declared.line.LabelWord.TheVariants as labels
+use Rattle.table_text.specs.declared.line.Whole.TheVariants.{Within}
+use Rattle.table_text.specs.declared.line.Line.{Line}
+use Rattle.table_text.specs.declared.line.Line.TheVariants.{Enum, Value}
 use Rattle.table_text.specs.declared.draft.Open.TheVariants as open_parts
 use Rattle.table_text.specs.declared.draft.Draft.{Draft}
 use Rattle.table_text.proofs.KeptLemmas.{closed_enums, closed_messages}
@@ -58,7 +58,7 @@ use Rattle.std.proofs.Common.{take, drop}
 use Rattle.std.proofs.lemmas.List.Concat.{flat_map-append}
 use Rattle.mrpc_table.specs.Text.{spaced, line, table_text, enum_lines, message_lines, message_name}
 use Rattle.mrpc_table.specs.Valid.{IsValid}
-use Rattle.table_lines.specs.Lines.{line_of}
+use Rattle.table_text.specs.Lines.{line_of}
 use Rattle.table_text.specs.Judged.{line_fault}
 use Rattle.table_text.specs.Drafts.{added_line}
 use Rattle.table_text.proofs.OrderLemmas.{contains_nothing, contains_cases, or_true}

@@ -7,9 +7,9 @@ use Rattle.std.proofs.lemmas.Int.{ints}
 use Rattle.std.proofs.lemmas.List.Elements.{All-nil}
 use Rattle.table_text.specs.Faults.{IsFirstFault, IsAgainst, Offends, at_line, at_end, last_without_value, value_out_of_range, type_twice, too_many_values}
 use Rattle.mrpc_table.specs.Lines.{whole_lines, rest_of}
-use Rattle.table_lines.specs.Forms.{Form, enum, value, message, goes_on}
+use Rattle.table_text.specs.Forms.{Form, enum, value, message, goes_on}
 use Rattle.table_text.specs.Judged.{fault_at}
-use Rattle.table_lines.specs.Lines.{line_of}
+use Rattle.table_text.specs.Lines.{line_of}
 use Rattle.table_text.specs.declared.fault.TableReason.{TableReason}
 use Rattle.table_text.specs.declared.fault.TableReason.TheVariants.{Syntax, Number, Duplicate, UnknownType, MapKey, Limit}
 use Rattle.table_text.proofs.FirstFaults.{no_fault_past}

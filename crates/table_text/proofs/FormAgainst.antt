@@ -17,23 +17,23 @@ use Rattle.table_text.specs.Faults.{index_out_of_turn, enum_without_zero, type_t
 use Rattle.table_text.specs.Faults.{number_twice, method_twice, unknown_type, map_key, long_name, long_full_name}
 use Rattle.table_text.specs.Faults.{too_many_enums, too_many_messages, too_many_methods, too_many_values}
 use Rattle.table_text.specs.Faults.{too_many_fields}
-use Rattle.table_lines.specs.Forms.{Form, enum, value, message, field, method, Says, is_method, goes_on, type_named}
-use Rattle.table_lines.specs.Forms.{type_of_kind, types_of_label, types_used, names_of_label, names_in}
-use Rattle.table_lines.specs.Forms.{full_name_of_kind, full_names_of_label, full_names_in}
+use Rattle.table_text.specs.Forms.{Form, enum, value, message, field, method, Says, is_method, goes_on, type_named}
+use Rattle.table_text.specs.Forms.{type_of_kind, types_of_label, types_used, names_of_label, names_in}
+use Rattle.table_text.specs.Forms.{full_name_of_kind, full_names_of_label, full_names_in}
 use Rattle.table_text.specs.Judged.{Types, Before, types_of, line_fault, is_syntax, is_number, is_duplicate}
 use Rattle.table_text.specs.Judged.{is_unknown, is_map_key, is_limit, is_among, is_empty, falls, lacks_value}
 use Rattle.table_text.specs.Judged.{lacks_zero, is_within, has_field_number, is_index, clashes, field_falls}
 use Rattle.table_text.specs.Judged.{is_type_before, is_field_before, repeats_number, is_unknown_kind}
 use Rattle.table_text.specs.Judged.{is_unknown_label, is_short_kind, is_short_label}
 use Rattle.table_text.specs.Judged.{has_short_names, is_full}
-use Rattle.table_lines.specs.Lines.{in_32_bits, behind, line_of}
+use Rattle.table_text.specs.Lines.{in_32_bits, behind, line_of}
 use Rattle.table_text.specs.declared.fault.TableReason.{TableReason}
 use Rattle.table_text.specs.declared.fault.TableReason.TheVariants.{Syntax, Number, Duplicate, UnknownType, MapKey, Limit}
-use Rattle.table_lines.specs.declared.line.KindWord.{KindWord}
-use Rattle.table_lines.specs.declared.line.KindWord.TheVariants as kinds
-use Rattle.table_lines.specs.declared.line.LabelWord.{LabelWord}
-use Rattle.table_lines.specs.declared.line.LabelWord.TheVariants as labels
-use Rattle.table_lines.specs.declared.line.Line.{Line}
+use Rattle.table_text.specs.declared.line.KindWord.{KindWord}
+use Rattle.table_text.specs.declared.line.KindWord.TheVariants as kinds
+use Rattle.table_text.specs.declared.line.LabelWord.{LabelWord}
+use Rattle.table_text.specs.declared.line.LabelWord.TheVariants as labels
+use Rattle.table_text.specs.declared.line.Line.{Line}
 use Rattle.table_text.proofs.FormLines.{kept, kept_whole, kept_within, in_32, says_line, line_said}
 use Rattle.table_text.proofs.FormParts.{Fits, enum_name, message_name, method_key_of, named_in, in_names}
 use Rattle.table_text.proofs.FormPlaces.{left_true, right_true, not_is}

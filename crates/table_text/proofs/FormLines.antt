@@ -9,15 +9,15 @@ use Rattle.std.proofs.lemmas.Int.{ints}
 use Rattle.std.proofs.lemmas.Bool.{ne_eqb}
 use Rattle.std.proofs.lemmas.Bool.Decides.{eqb_tells, leb_tells}
 use Rattle.mrpc_table.specs.Lines.{words_of, is_decimal, number_of}
-use Rattle.table_lines.specs.Forms.{Form, enum, value, message, field, method, IsWhole, AreWordsOf, Says}
+use Rattle.table_text.specs.Forms.{Form, enum, value, message, field, method, IsWhole, AreWordsOf, Says}
 use Rattle.table_text.specs.Judged.{is_within}
-use Rattle.table_lines.specs.Lines.{in_32_bits, whole_of, negative, not_negative, name_of, full_name_of, kind_of}
-use Rattle.table_lines.specs.Lines.{label_of, enum_of, value_of, message_of, field_of, method_of, line_of_words}
-use Rattle.table_lines.specs.Lines.{line_of}
-use Rattle.table_lines.specs.declared.line.Whole.{Whole}
-use Rattle.table_lines.specs.declared.line.Whole.TheVariants.{Low, Within, High}
-use Rattle.table_lines.specs.declared.line.Line.{Line}
-use Rattle.table_lines.specs.declared.line.Line.TheVariants.{Enum, Value, Message, Field, Method}
+use Rattle.table_text.specs.Lines.{in_32_bits, whole_of, negative, not_negative, name_of, full_name_of, kind_of}
+use Rattle.table_text.specs.Lines.{label_of, enum_of, value_of, message_of, field_of, method_of, line_of_words}
+use Rattle.table_text.specs.Lines.{line_of}
+use Rattle.table_text.specs.declared.line.Whole.{Whole}
+use Rattle.table_text.specs.declared.line.Whole.TheVariants.{Low, Within, High}
+use Rattle.table_text.specs.declared.line.Line.{Line}
+use Rattle.table_text.specs.declared.line.Line.TheVariants.{Enum, Value, Message, Field, Method}
 use Rattle.table_text.proofs.PlaceLemmas.{same_bytes}
 use Rattle.table_text.proofs.ParseLemmas.{unsome, if_true, mapped, chained, decimal_form, first_digit, name_is, full_is, ltb_tells}
 use Rattle.table_text.proofs.SpellLemmas.{chosen}

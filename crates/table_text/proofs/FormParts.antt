@@ -9,13 +9,13 @@ use Rattle.std.proofs.lemmas.List.{append-nil}
 use Rattle.std.proofs.lemmas.List.Sums.{sum_by-append}
 use Rattle.std.proofs.lemmas.List.Elements.{All-push, All-nil, All-contains, Contains-append_right, Contains-push_cases, filter_map-append}
 use Rattle.mrpc_table.specs.Names.{is_name_form, is_full_form, is_short, is_short_full}
-use Rattle.table_lines.specs.Forms.{Form, enum, value, message, field, method, goes_on, is_method}
+use Rattle.table_text.specs.Forms.{Form, enum, value, message, field, method, goes_on, is_method}
 use Rattle.table_text.specs.Judged.{Types, Before, OpenNames, nothing, values, fields, after, names_with_value, names_with_field, lacks_value, is_empty, falls, is_within, has_field_number, clashes}
-use Rattle.table_lines.specs.Lines.{in_32_bits}
-use Rattle.table_lines.specs.declared.line.KindWord.{KindWord}
-use Rattle.table_lines.specs.declared.line.LabelWord.{LabelWord}
-use Rattle.table_lines.specs.declared.line.Whole.{Whole}
-use Rattle.table_lines.specs.declared.line.Line.TheVariants.{Value}
+use Rattle.table_text.specs.Lines.{in_32_bits}
+use Rattle.table_text.specs.declared.line.KindWord.{KindWord}
+use Rattle.table_text.specs.declared.line.LabelWord.{LabelWord}
+use Rattle.table_text.specs.declared.line.Whole.{Whole}
+use Rattle.table_text.specs.declared.line.Line.TheVariants.{Value}
 use Rattle.table_text.proofs.Clean.{IsClean, left_no, right_no, not_no}
 use Rattle.table_text.proofs.FormLines.{kept, kept_whole, kept_within, in_32}
 use Rattle.table_text.proofs.KeptLemmas.{map_push}

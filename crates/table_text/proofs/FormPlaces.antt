@@ -15,10 +15,10 @@ use Rattle.std.proofs.lemmas.Int.{ints}
 use Rattle.std.proofs.lemmas.List.Elements.{All-contains, All-nil, All-map, Contains-push}
 use Rattle.mrpc_table.specs.Valid.{IsBelow, IsValueBelow}
 use Rattle.table_text.specs.Faults.{IsLast, IsAbove}
-use Rattle.table_lines.specs.Forms.{Form, enum, value, message, field, method, goes_on, is_method}
+use Rattle.table_text.specs.Forms.{Form, enum, value, message, field, method, goes_on, is_method}
 use Rattle.table_text.specs.Judged.{nothing, is_below, falls, last_of, is_value_below}
-use Rattle.table_lines.specs.declared.line.Whole.{Whole}
-use Rattle.table_lines.specs.declared.line.Whole.TheVariants.{Low, Within, High}
+use Rattle.table_text.specs.declared.line.Whole.{Whole}
+use Rattle.table_text.specs.declared.line.Whole.TheVariants.{Low, Within, High}
 use Rattle.table_text.proofs.FormLines.{kept_whole}
 use Rattle.table_text.proofs.FormParts.{value_form, Parts, field_form, field_key, InEnum, InMessage, PartIs, around, none, with_last, ended, mapped_in}
 use Rattle.table_text.proofs.KeptLemmas.{map_push}

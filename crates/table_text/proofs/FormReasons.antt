@@ -16,22 +16,22 @@ use Rattle.table_text.specs.Faults.{index_out_of_turn, enum_without_zero, type_t
 use Rattle.table_text.specs.Faults.{number_twice, method_twice, unknown_type, map_key, long_name, long_full_name}
 use Rattle.table_text.specs.Faults.{too_many_enums, too_many_messages, too_many_methods, too_many_values}
 use Rattle.table_text.specs.Faults.{too_many_fields}
-use Rattle.table_lines.specs.Forms.{Form, enum, value, message, field, method, Says, is_enum, is_message, is_method}
-use Rattle.table_lines.specs.Forms.{type_of_kind, types_of_label, names_of_label, names_in, full_name_of_kind}
-use Rattle.table_lines.specs.Forms.{full_names_of_label}
+use Rattle.table_text.specs.Forms.{Form, enum, value, message, field, method, Says, is_enum, is_message, is_method}
+use Rattle.table_text.specs.Forms.{type_of_kind, types_of_label, names_of_label, names_in, full_name_of_kind}
+use Rattle.table_text.specs.Forms.{full_names_of_label}
 use Rattle.table_text.specs.Judged.{Before, types_of, line_fault, is_syntax, is_number, is_duplicate, is_unknown}
 use Rattle.table_text.specs.Judged.{is_map_key, is_limit, is_among, is_empty, falls, lacks_value, lacks_zero}
 use Rattle.table_text.specs.Judged.{is_within, has_field_number, is_index, clashes, field_falls, is_type_before}
 use Rattle.table_text.specs.Judged.{is_field_before, repeats_number, is_unknown_kind, is_unknown_label}
 use Rattle.table_text.specs.Judged.{is_short_kind, is_short_label, has_short_names, is_full}
-use Rattle.table_lines.specs.Lines.{in_32_bits, behind}
+use Rattle.table_text.specs.Lines.{in_32_bits, behind}
 use Rattle.table_text.specs.declared.fault.TableReason.{TableReason}
 use Rattle.table_text.specs.declared.fault.TableReason.TheVariants.{Syntax, Number, Duplicate, UnknownType, MapKey, Limit}
-use Rattle.table_lines.specs.declared.line.KindWord.{KindWord}
-use Rattle.table_lines.specs.declared.line.KindWord.TheVariants as kinds
-use Rattle.table_lines.specs.declared.line.LabelWord.{LabelWord}
-use Rattle.table_lines.specs.declared.line.LabelWord.TheVariants as labels
-use Rattle.table_lines.specs.declared.line.Line.TheVariants as line_forms
+use Rattle.table_text.specs.declared.line.KindWord.{KindWord}
+use Rattle.table_text.specs.declared.line.KindWord.TheVariants as kinds
+use Rattle.table_text.specs.declared.line.LabelWord.{LabelWord}
+use Rattle.table_text.specs.declared.line.LabelWord.TheVariants as labels
+use Rattle.table_text.specs.declared.line.Line.TheVariants as line_forms
 use Rattle.table_text.proofs.Clean.{left_no, right_no}
 use Rattle.table_text.proofs.Complete.{field_number_is}
 use Rattle.table_text.proofs.FormLines.{kept, kept_whole, fits_within, in_32}

@@ -11,12 +11,12 @@ use Rattle.std.proofs.lemmas.List.{length-map}
 use Rattle.std.proofs.lemmas.List.Elements.{All-contains, filter_map-append}
 use Rattle.mrpc_table.specs.Valid.{IsBelow, IsValueBelow}
 use Rattle.table_text.specs.Faults.{IsLast, IsAbove, AreInner, LacksValue, LacksZero}
-use Rattle.table_lines.specs.Forms.{Form, enum, value, message, field, method, is_method, is_of_enum, is_of_message}
+use Rattle.table_text.specs.Forms.{Form, enum, value, message, field, method, is_method, is_of_enum, is_of_message}
 use Rattle.table_text.specs.Judged.{OpenNames, nothing, values, fields, is_below, falls, last_of, is_value_below}
 use Rattle.table_text.specs.Judged.{value_falls, is_field_below, field_falls, is_index, repeats_number}
 use Rattle.table_text.specs.Judged.{is_value_before, is_field_before, lacks_value, lacks_zero, open_count}
-use Rattle.table_lines.specs.Lines.{in_32_bits}
-use Rattle.table_lines.specs.declared.line.Whole.{Whole}
+use Rattle.table_text.specs.Lines.{in_32_bits}
+use Rattle.table_text.specs.declared.line.Whole.{Whole}
 use Rattle.table_text.proofs.FormLines.{kept_whole, in_32}
 use Rattle.table_text.proofs.FormParts.{value_form, Parts, field_form, field_key, InEnum, InMessage, PartIs, IsOrdered, enum_name, message_name, no_longer, in_map, mapped_in}
 use Rattle.table_text.proofs.FormPlaces.{is_not, below_said, said_below, falls_at, none_last, any_in, in_any}

@@ -13,11 +13,11 @@ use Rattle.mrpc_table.specs.declared.table.Field.{Field as TheField}
 use Rattle.mrpc_table.specs.declared.table.Message.{Message as TheMessage}
 use Rattle.mrpc_table.specs.declared.table.Choices.{Choices}
 use Rattle.mrpc_table.specs.declared.table.Method.{Method as TheMethod}
-use Rattle.table_lines.specs.declared.line.Whole.{Whole}
-use Rattle.table_lines.specs.declared.line.Whole.TheVariants.{Low, Within, High}
-use Rattle.table_lines.specs.declared.line.FieldLine.{FieldLine}
-use Rattle.table_lines.specs.declared.line.Line.{Line}
-use Rattle.table_lines.specs.declared.line.Line.TheVariants.{Enum, Value, Message, Field, Method}
+use Rattle.table_text.specs.declared.line.Whole.{Whole}
+use Rattle.table_text.specs.declared.line.Whole.TheVariants.{Low, Within, High}
+use Rattle.table_text.specs.declared.line.FieldLine.{FieldLine}
+use Rattle.table_text.specs.declared.line.Line.{Line}
+use Rattle.table_text.specs.declared.line.Line.TheVariants.{Enum, Value, Message, Field, Method}
 use Rattle.table_text.specs.declared.draft.Open.{Open}
 use Rattle.table_text.specs.declared.draft.Open.TheVariants as open_parts
 use Rattle.table_text.specs.declared.draft.Draft.{Draft}

@@ -1,7 +1,7 @@
 mod Accepts
 mod Clean
-mod CompleteKinds
 mod Complete
+mod CompleteKinds
 mod DraftText
 mod FaultRows
 mod FirstFaults
@@ -14,6 +14,7 @@ mod FormTests
 mod KeptLemmas
 mod LastLemmas
 mod LineLemmas
+pub mod ListLemmas
 mod NamesLemmas
 mod OrderLemmas
 mod ParseLemmas

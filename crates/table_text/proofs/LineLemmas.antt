@@ -5,14 +5,14 @@ use Rattle.std.specs.Prelude.{slice_get, unwrap_or}
 use Rattle.std.specs.List.{fold}
 use Rattle.std.specs.Option.{option_map_or}
 use Rattle.mrpc_table.specs.Lines.{pieces_of, whole_lines, rest_of}
-use Rattle.table_lines.specs.Lines.{line_of}
+use Rattle.table_text.specs.Lines.{line_of}
 use Rattle.table_text.specs.Faults.{bytes_of}
 use Rattle.table_text.specs.Judged.{Types, types_of, before_of, after_line, line_fault, end_fault, fault_behind}
 use Rattle.table_text.specs.Drafts.{before, added_line, draft_of, empty_draft}
 use Rattle.table_text.specs.declared.draft.Draft.{Draft}
-use Rattle.table_lines.specs.declared.line.Line.{Line}
+use Rattle.table_text.specs.declared.line.Line.{Line}
 use Rattle.table_text.proofs.KeptLemmas.{before_added, map_push}
-use Rattle.table_lines.proofs.ListLemmas.{has_part}
+use Rattle.table_text.proofs.ListLemmas.{has_part}
 
 pub init_first : {X : Type 0} (x y : X) (ys : List X) → take (length (x ∷ y ∷ ys) - 1) (x ∷ y ∷ ys) ≡ x ∷ take (length (y ∷ ys) - 1) (y ∷ ys)
 init_first x y ys =

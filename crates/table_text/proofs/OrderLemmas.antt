@@ -17,7 +17,7 @@ use Rattle.std.proofs.lemmas.Option.{slice_get_within, get_or_from_slice_get}
 use Rattle.std.proofs.lemmas.List.Elements.{Contains-append_right, Contains-push_cases}
 use Rattle.mrpc_table.specs.Valid.{Ascends, AreDistinct, IsBelow, IsValueBelow}
 use Rattle.table_text.specs.Judged.{is_below, is_among, falls, last_of, is_value_below}
-use Rattle.table_lines.specs.declared.line.Whole.TheVariants.{Within}
+use Rattle.table_text.specs.declared.line.Whole.TheVariants.{Within}
 use Rattle.table_text.proofs.Clean.{left_no, right_no}
 use Rattle.table_text.proofs.PlaceLemmas.{same_bytes, bytes_same}
 

@@ -20,11 +20,11 @@ use Rattle.std.proofs.lemmas.Bool.Decides.{eqb_tells, leb_tells}
 use Rattle.std.proofs.lemmas.Bool.{cases_lt, eq-eqb, eqb-true, ne_eqb, lt-ltb, le-ltb, le-leb}
 use Rattle.std.proofs.lemmas.Str.Parse.{IsNumeralModel, numerals_by_value}
 use Rattle.std.proofs.lemmas.Fmt.{decimal-digits_value, digits_decimal, digits_value-decimal, decimal_nonempty, first_decimal, decimal_digit}
-use Rattle.table_lines.specs.declared.line.Whole.{Whole}
-use Rattle.table_lines.specs.declared.line.Whole.TheVariants.{Low, Within, High}
+use Rattle.table_text.specs.declared.line.Whole.{Whole}
+use Rattle.table_text.specs.declared.line.Whole.TheVariants.{Low, Within, High}
 use Rattle.mrpc_table.specs.Names.{is_name_form, is_full_form}
 use Rattle.mrpc_table.specs.Lines.{is_decimal, number_of}
-use Rattle.table_lines.specs.Lines.{whole_of, negative, not_negative, name_of, full_name_of, behind}
+use Rattle.table_text.specs.Lines.{whole_of, negative, not_negative, name_of, full_name_of, behind}
 use Rattle.table_text.proofs.PlaceLemmas.{same_bytes}
 use Rattle.table_text.proofs.TableFacts.{both_left, both_right}
 

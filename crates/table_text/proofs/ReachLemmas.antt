@@ -16,23 +16,23 @@ use Rattle.table_text.specs.Faults.{bytes_of}
 use Rattle.table_text.specs.Judged.{Types, Before, types_of, before_of, line_fault, is_among, is_empty, is_syntax}
 use Rattle.table_text.specs.Judged.{is_number, is_duplicate, is_unknown, is_unknown_kind, is_unknown_label}
 use Rattle.table_text.specs.Judged.{is_map_key, is_limit}
-use Rattle.table_lines.specs.Lines.{behind, line_of}
+use Rattle.table_text.specs.Lines.{behind, line_of}
 use Rattle.table_text.specs.Places.{Holds}
 use Rattle.table_text.specs.Reach.{used_by_kind, used_by_label, used_by, used_by_line, used_in, used_behind, types_near, AreLongParts, IsReached, Serves}
 use Rattle.table_text.specs.declared.fault.TableReason.TheVariants.{Syntax, Number, Duplicate, UnknownType, MapKey, Limit}
 use Rattle.table_text.specs.declared.places.Places.{Places}
-use Rattle.table_lines.specs.declared.line.KindWord.{KindWord}
-use Rattle.table_lines.specs.declared.line.KindWord.TheVariants as kinds
-use Rattle.table_lines.specs.declared.line.LabelWord.{LabelWord}
-use Rattle.table_lines.specs.declared.line.LabelWord.TheVariants as labels
-use Rattle.table_lines.specs.declared.line.Line.{Line}
-use Rattle.table_lines.specs.declared.line.Line.TheVariants.{Enum, Value, Message, Field, Method}
+use Rattle.table_text.specs.declared.line.KindWord.{KindWord}
+use Rattle.table_text.specs.declared.line.KindWord.TheVariants as kinds
+use Rattle.table_text.specs.declared.line.LabelWord.{LabelWord}
+use Rattle.table_text.specs.declared.line.LabelWord.TheVariants as labels
+use Rattle.table_text.specs.declared.line.Line.{Line}
+use Rattle.table_text.specs.declared.line.Line.TheVariants.{Enum, Value, Message, Field, Method}
 use Rattle.table_text.proofs.Accepts.{few_bytes, some_line}
 use Rattle.table_text.proofs.LineLemmas.{init_first, here_is, take_drop, bytes_push}
 use Rattle.table_text.proofs.OrderLemmas.{or_true}
 use Rattle.table_text.proofs.PlaceLemmas.{same_bytes, bytes_same}
 use Rattle.table_text.proofs.TableCuts.{cut_is}
-use Rattle.table_lines.proofs.ListLemmas.{has_part}
+use Rattle.table_text.proofs.ListLemmas.{has_part}
 
 -- ---- lines after lines
 

@@ -8,7 +8,7 @@ use Rattle.std.proofs.lemmas.List.{take_all}
 use Rattle.std.proofs.lemmas.Bool.{cases_lt, cases_eq, eq-eqb, ne_eqb}
 use Rattle.mrpc_table.specs.Lines.{pieces_of, whole_lines, rest_of}
 use Rattle.mrpc_table.specs.declared.table.Table.{Table}
-use Rattle.table_lines.specs.Lines.{line_of}
+use Rattle.table_text.specs.Lines.{line_of}
 use Rattle.table_text.specs.Faults.{bytes_of}
 use Rattle.table_text.specs.Judged.{Types, Before, IsJudgedOf, types_of, before_of, line_fault, end_fault, fault_at}
 use Rattle.table_text.specs.Drafts.{before, added_line, draft_of, empty_draft, table_of, table_in, Blames}

@@ -9,16 +9,16 @@ use Rattle.std.proofs.lemmas.List.{take_all}
 use Rattle.std.proofs.lemmas.Option.{slice_get_within}
 use Rattle.mrpc_table.specs.Lines.{whole_lines, rest_of}
 use Rattle.table_text.specs.Faults.{IsFirstFault, IsFaultOf, IsAgainst, at_line, too_long, at_end, OffendsAtEnd, unended, last_without_value, last_without_zero, no_form, order_of, bytes_of}
-use Rattle.table_lines.specs.Forms.{Form, enum, value, message, field, method, Says, Say}
+use Rattle.table_text.specs.Forms.{Form, enum, value, message, field, method, Says, Say}
 use Rattle.table_text.specs.Judged.{Types, Before, IsFirstJudged, IsJudgedOf, after, after_line, before_of, types_of}
 use Rattle.table_text.specs.Judged.{line_fault, end_fault, fault_at, lacks_value, lacks_zero, is_empty}
 use Rattle.table_text.specs.Judged.{has_short_names, is_full}
-use Rattle.table_lines.specs.Lines.{line_of}
+use Rattle.table_text.specs.Lines.{line_of}
 use Rattle.table_text.specs.declared.fault.TableReason.{TableReason}
 use Rattle.table_text.specs.declared.fault.TableReason.TheVariants.{Syntax, Number, Duplicate, UnknownType, MapKey, Limit}
 use Rattle.table_text.specs.declared.fault.TableFault.{TableFault}
 use Rattle.table_text.specs.declared.fault.TableFault.TheVariants as fault
-use Rattle.table_lines.specs.declared.line.Line.{Line}
+use Rattle.table_text.specs.declared.line.Line.{Line}
 use Rattle.table_text.proofs.Accepts.{some_line}
 use Rattle.table_text.proofs.Clean.{is_clean}
 use Rattle.table_text.proofs.FirstFaults.{no_fault_past}

@@ -1,6 +1,6 @@
 -- The definitions of the first fault, and of the types of a long text, on small texts.
 use Rattle.std.proofs.Common.{◌≡◌, [], ◌∷◌, codes, Some, None, refl}
-use Rattle.table_lines.specs.Lines.{line_of}
+use Rattle.table_text.specs.Lines.{line_of}
 use Rattle.table_text.specs.Judged.{fault_at}
 use Rattle.table_text.specs.Reach.{used_in, types_near}
 use Rattle.table_text.specs.declared.fault.TableReason.TheVariants.{Syntax, Number, Duplicate, UnknownType, MapKey}

@@ -40,14 +40,14 @@ use Rattle.mrpc_table.specs.declared.table.Message.{Message as TheMessage}
 use Rattle.mrpc_table.specs.declared.table.Choices.{Choices}
 use Rattle.mrpc_table.specs.declared.table.Method.{Method as TheMethod}
 use Rattle.mrpc_table.specs.declared.table.Table.{Table}
-use Rattle.table_lines.specs.declared.line.KindWord.{KindWord}
-use Rattle.table_lines.specs.declared.line.KindWord.TheVariants as kinds
-use Rattle.table_lines.specs.declared.line.LabelWord.{LabelWord}
-use Rattle.table_lines.specs.declared.line.LabelWord.TheVariants as labels
-use Rattle.table_lines.specs.declared.line.Whole.TheVariants.{Within}
-use Rattle.table_lines.specs.declared.line.FieldLine.{FieldLine}
-use Rattle.table_lines.specs.declared.line.MethodLine.{MethodLine}
-use Rattle.table_lines.specs.declared.line.Line.TheVariants.{Enum, Value, Message, Field, Method}
+use Rattle.table_text.specs.declared.line.KindWord.{KindWord}
+use Rattle.table_text.specs.declared.line.KindWord.TheVariants as kinds
+use Rattle.table_text.specs.declared.line.LabelWord.{LabelWord}
+use Rattle.table_text.specs.declared.line.LabelWord.TheVariants as labels
+use Rattle.table_text.specs.declared.line.Whole.TheVariants.{Within}
+use Rattle.table_text.specs.declared.line.FieldLine.{FieldLine}
+use Rattle.table_text.specs.declared.line.MethodLine.{MethodLine}
+use Rattle.table_text.specs.declared.line.Line.TheVariants.{Enum, Value, Message, Field, Method}
 use Rattle.table_text.specs.declared.draft.Open.{Open}
 use Rattle.table_text.specs.declared.draft.Open.TheVariants as open_parts
 use Rattle.table_text.specs.declared.draft.Draft.{Draft}

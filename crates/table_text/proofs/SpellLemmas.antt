@@ -17,9 +17,9 @@ use Rattle.std.proofs.lemmas.Grind.{common_steps}
 use Rattle.mrpc_table.specs.Names.{is_name_start, is_name_byte, is_name_form, is_full_form, parts_of}
 use Rattle.mrpc_table.specs.Lines.{words_of, number_of}
 use Rattle.mrpc_table.specs.Scalars.{no_table, scalar_names, scalar_of}
-use Rattle.table_lines.specs.Lines.{in_32_bits, whole_of, name_of, full_name_of, behind, kind_of, label_names}
-use Rattle.table_lines.specs.Lines.{label_of, enum_of, value_of, message_of, field_of, method_of, line_of_words}
-use Rattle.table_lines.specs.Lines.{line_of}
+use Rattle.table_text.specs.Lines.{in_32_bits, whole_of, name_of, full_name_of, behind, kind_of, label_names}
+use Rattle.table_text.specs.Lines.{label_of, enum_of, value_of, message_of, field_of, method_of, line_of_words}
+use Rattle.table_text.specs.Lines.{line_of}
 use Rattle.mrpc_table.specs.Text.{kind_text, spaced}
 use Rattle.table_text.specs.Judged.{is_within}
 use Rattle.mrpc_table.specs.declared.table.Kind.{Kind}
@@ -28,14 +28,14 @@ use Rattle.mrpc_table.specs.declared.table.Kind.TheVariants.{Bool as TheBool, Fi
 use Rattle.mrpc_table.specs.declared.table.Kind.TheVariants.{Float, Double, Text, Octets, Message as OfMessage}
 use Rattle.mrpc_table.specs.declared.table.Kind.TheVariants.{Choice}
 use Rattle.mrpc_table.specs.declared.table.Table.{Table}
-use Rattle.table_lines.specs.declared.line.KindWord.{KindWord}
-use Rattle.table_lines.specs.declared.line.KindWord.TheVariants as kinds
-use Rattle.table_lines.specs.declared.line.LabelWord.{LabelWord}
-use Rattle.table_lines.specs.declared.line.LabelWord.TheVariants as labels
-use Rattle.table_lines.specs.declared.line.Whole.{Whole}
-use Rattle.table_lines.specs.declared.line.Whole.TheVariants.{Low, Within, High}
-use Rattle.table_lines.specs.declared.line.Line.{Line}
-use Rattle.table_lines.specs.declared.line.Line.TheVariants.{Enum, Value, Message, Field, Method}
+use Rattle.table_text.specs.declared.line.KindWord.{KindWord}
+use Rattle.table_text.specs.declared.line.KindWord.TheVariants as kinds
+use Rattle.table_text.specs.declared.line.LabelWord.{LabelWord}
+use Rattle.table_text.specs.declared.line.LabelWord.TheVariants as labels
+use Rattle.table_text.specs.declared.line.Whole.{Whole}
+use Rattle.table_text.specs.declared.line.Whole.TheVariants.{Low, Within, High}
+use Rattle.table_text.specs.declared.line.Line.{Line}
+use Rattle.table_text.specs.declared.line.Line.TheVariants.{Enum, Value, Message, Field, Method}
 use Rattle.table_text.proofs.PlaceLemmas.{same_bytes}
 use Rattle.table_text.proofs.TableFacts.{both, both_left, both_right}
 use Rattle.table_text.proofs.ParseLemmas.{if_true, mapped, chained, either, number_is, number_of-decimal, WholeIs}

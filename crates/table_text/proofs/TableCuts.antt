@@ -16,7 +16,7 @@ use Rattle.std.proofs.lemmas.Option.{some_pair_parts}
 use Rattle.std.proofs.lemmas.Slice.Eq.{bytes_eq-Decides}
 use Rattle.mrpc_table.specs.Lines.{pieces_of}
 use Rattle.table_text.specs.TableText.{HasTableBehind}
-use Rattle.table_lines.proofs.ListLemmas.{has_part}
+use Rattle.table_text.proofs.ListLemmas.{has_part}
 
 -- ---- lines and their pieces
 

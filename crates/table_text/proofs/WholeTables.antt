@@ -14,7 +14,7 @@ use Rattle.mrpc_table.specs.Lines.{pieces_of, whole_lines, rest_of}
 use Rattle.mrpc_table.specs.Text.{table_text}
 use Rattle.mrpc_table.specs.Valid.{IsValid}
 use Rattle.mrpc_table.specs.declared.table.Table.{Table}
-use Rattle.table_lines.specs.Lines.{line_of}
+use Rattle.table_text.specs.Lines.{line_of}
 use Rattle.table_text.specs.Judged.{IsFirstJudged, fault_at, end_fault, before_of, is_empty, lacks_value}
 use Rattle.table_text.specs.Drafts.{table_in}
 use Rattle.table_text.specs.TableText.{HasTableBehind, IsEndless}

@@ -9,15 +9,15 @@ use Rattle.mrpc_table.specs.Names.{is_short_full}
 use Rattle.mrpc_table.specs.Valid.{IsBelow, IsValueBelow, IsFieldNumber}
 use Rattle.mrpc_table.specs.Words.{is_numeric, is_key}
 use Rattle.mrpc_table.specs.declared.limits.TheConstants.{MAX_ENUMS, MAX_MESSAGES, MAX_METHODS, MAX_FIELDS, MAX_VALUES, MAX_NAME, MAX_TEXT}
-use Rattle.table_lines.specs.Forms.{Form, enum, value, message, field, method, Says, Say, is_enum, is_message, is_method, is_of_enum, is_of_message, goes_on, type_named, types_used, names_in, full_names_in}
+use Rattle.table_text.specs.Forms.{Form, enum, value, message, field, method, Says, Say, is_enum, is_message, is_method, is_of_enum, is_of_message, goes_on, type_named, types_used, names_in, full_names_in}
 use Rattle.table_text.specs.declared.fault.TableReason.{TableReason}
 use Rattle.table_text.specs.declared.fault.TableReason.TheVariants.{Syntax, Number, Duplicate, UnknownType, MapKey, Limit}
 use Rattle.table_text.specs.declared.fault.TableFault.{TableFault}
 use Rattle.table_text.specs.declared.fault.TableFault.TheVariants as fault
-use Rattle.table_lines.specs.declared.line.KindWord.{KindWord}
-use Rattle.table_lines.specs.declared.line.KindWord.TheVariants.{Scalar, Message, Choice}
-use Rattle.table_lines.specs.declared.line.LabelWord.{LabelWord}
-use Rattle.table_lines.specs.declared.line.LabelWord.TheVariants.{Optional, Packed, Map}
+use Rattle.table_text.specs.declared.line.KindWord.{KindWord}
+use Rattle.table_text.specs.declared.line.KindWord.TheVariants.{Scalar, Message, Choice}
+use Rattle.table_text.specs.declared.line.LabelWord.{LabelWord}
+use Rattle.table_text.specs.declared.line.LabelWord.TheVariants.{Optional, Packed, Map}
 
 -- ---- where a line is among those before
 

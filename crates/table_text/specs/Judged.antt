@@ -12,20 +12,20 @@ use Rattle.mrpc_table.specs.Valid.{is_field_number}
 use Rattle.mrpc_table.specs.declared.limits.TheConstants.{MAX_ENUMS, MAX_MESSAGES, MAX_METHODS, MAX_FIELDS, MAX_VALUES, MAX_TEXT}
 use Rattle.mrpc_table.specs.Lines.{whole_lines, rest_of}
 use Rattle.table_text.specs.Faults.{bytes_of, is_packable, is_key_kind}
-use Rattle.table_lines.specs.Lines.{behind, line_of}
+use Rattle.table_text.specs.Lines.{behind, line_of}
 use Rattle.table_text.specs.declared.fault.TableReason.{TableReason}
 use Rattle.table_text.specs.declared.fault.TableReason.TheVariants.{Syntax, Number, Duplicate, UnknownType, MapKey, Limit}
 use Rattle.table_text.specs.declared.fault.TableFault.{TableFault}
 use Rattle.table_text.specs.declared.fault.TableFault.TheVariants as fault
-use Rattle.table_lines.specs.declared.line.KindWord.{KindWord}
-use Rattle.table_lines.specs.declared.line.KindWord.TheVariants as kinds
-use Rattle.table_lines.specs.declared.line.LabelWord.{LabelWord}
-use Rattle.table_lines.specs.declared.line.LabelWord.TheVariants as labels
-use Rattle.table_lines.specs.declared.line.Whole.{Whole}
-use Rattle.table_lines.specs.declared.line.Whole.TheVariants.{Low, Within, High}
-use Rattle.table_lines.specs.declared.line.MethodLine.{MethodLine}
-use Rattle.table_lines.specs.declared.line.Line.{Line}
-use Rattle.table_lines.specs.declared.line.Line.TheVariants.{Enum, Value, Message, Field, Method}
+use Rattle.table_text.specs.declared.line.KindWord.{KindWord}
+use Rattle.table_text.specs.declared.line.KindWord.TheVariants as kinds
+use Rattle.table_text.specs.declared.line.LabelWord.{LabelWord}
+use Rattle.table_text.specs.declared.line.LabelWord.TheVariants as labels
+use Rattle.table_text.specs.declared.line.Whole.{Whole}
+use Rattle.table_text.specs.declared.line.Whole.TheVariants.{Low, Within, High}
+use Rattle.table_text.specs.declared.line.MethodLine.{MethodLine}
+use Rattle.table_text.specs.declared.line.Line.{Line}
+use Rattle.table_text.specs.declared.line.Line.TheVariants.{Enum, Value, Message, Field, Method}
 
 -- the types that the text declares: those of all its `enum` and `message` lines, also of lines at fault
 pub record Types : Type 0 where

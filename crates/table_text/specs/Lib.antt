@@ -1,6 +1,8 @@
 pub mod Drafts
 pub mod Faults
+pub mod Forms
 pub mod Judged
+pub mod Lines
 pub mod Places
 pub mod Reach
 pub mod Readers

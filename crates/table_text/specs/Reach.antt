@@ -7,15 +7,15 @@ use Rattle.mrpc_table.specs.Lines.{whole_lines}
 use Rattle.mrpc_table.specs.declared.limits.TheConstants.{MAX_TEXT}
 use Rattle.table_text.specs.Faults.{bytes_of}
 use Rattle.table_text.specs.Judged.{Types, Before, types_of, line_fault, fault_at, is_among}
-use Rattle.table_lines.specs.Lines.{behind, line_of}
+use Rattle.table_text.specs.Lines.{behind, line_of}
 use Rattle.table_text.specs.Places.{Holds}
 use Rattle.table_text.specs.declared.places.Places.{Places}
-use Rattle.table_lines.specs.declared.line.KindWord.{KindWord}
-use Rattle.table_lines.specs.declared.line.KindWord.TheVariants as kinds
-use Rattle.table_lines.specs.declared.line.LabelWord.{LabelWord}
-use Rattle.table_lines.specs.declared.line.LabelWord.TheVariants.{Map}
-use Rattle.table_lines.specs.declared.line.Line.{Line}
-use Rattle.table_lines.specs.declared.line.Line.TheVariants.{Field, Method}
+use Rattle.table_text.specs.declared.line.KindWord.{KindWord}
+use Rattle.table_text.specs.declared.line.KindWord.TheVariants as kinds
+use Rattle.table_text.specs.declared.line.LabelWord.{LabelWord}
+use Rattle.table_text.specs.declared.line.LabelWord.TheVariants.{Map}
+use Rattle.table_text.specs.declared.line.Line.{Line}
+use Rattle.table_text.specs.declared.line.Line.TheVariants.{Field, Method}
 
 -- ---- the types that lines use, by their full names
 

@@ -6,9 +6,10 @@ ghost use Rattle.std.specs.Ordering.{int_eq};
 ghost use Rattle.std.specs.List.{list_any};
 ghost use Rattle.std.specs.Option.{option_copied};
 ghost use Rattle.table_text.specs.Judged.{is_below, is_empty, falls, is_value_below, lacks_value, lacks_zero, value_falls, field_falls, open_count, repeats_number};
-ghost use Rattle.table_lines.specs.declared.line.Whole.TheVariants.{Within};
+ghost use Rattle.table_text.specs.declared.line.Whole.TheVariants.{Within};
 ghost use Rattle.table_text.specs.Drafts.{open_part, enum_names, message_names, with_enum, with_message, with_value, joined_parts, with_parts, closed, table_of, empty_draft};
 
+use crate::Whole;
 use mrpc_table::{
     Choices, Enums, Field, MAX_ENUMS, MAX_MESSAGES, Memory, Message, Messages, Methods, Name,
     Sequence, Table,
@@ -16,7 +17,6 @@ use mrpc_table::{
 use std::alloc::Global;
 use std::cmp::Ordering;
 use std::mem;
-use table_lines::Whole;
 
 // The enum or message that a line may extend.
 pub(crate) enum Open {

@@ -8,10 +8,10 @@ ghost use Rattle.table_text.specs.Judged.{clashes, is_short_kind, is_short_label
 ghost use Rattle.table_text.specs.Drafts.{before};
 
 use crate::draft::Draft;
+use crate::{KindWord, LabelWord, Line, Whole};
 use mrpc_table::{
     Kind, MAX_FIELDS, MAX_METHODS, MAX_TEXT, MAX_VALUES, is_field_number, is_short, is_short_full,
 };
-use table_lines::{KindWord, LabelWord, Line, Whole};
 
 fn clashes(label: &LabelWord, kind: &KindWord) -> bool
     ensures { result ≡ clashes label.now kind.now }

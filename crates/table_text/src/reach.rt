@@ -4,14 +4,14 @@ ghost use Rattle.std.specs.Prelude.{◌++◌, ℕ, List, IfOk, IfSome, OnOk};
 ghost use Rattle.std.specs.List.{filter_map};
 ghost use Rattle.std.specs.Option.{option_to_list};
 ghost use Rattle.mrpc_table.specs.Lines.{whole_lines};
-ghost use Rattle.table_lines.specs.Lines.{behind, line_of};
+ghost use Rattle.table_text.specs.Lines.{behind, line_of};
 ghost use Rattle.table_text.specs.Places.{Holds};
 ghost use Rattle.table_text.specs.Reach.{used_by_kind, used_by_label, used_by, used_by_line, used_in, used_behind, AreLongParts, AreKnown};
 
 use crate::places::Places;
+use crate::{KindWord, LabelWord, Line, behind, line_of};
 use mrpc_table::{MAX_TEXT, Memory, cut};
 use std::alloc::Global;
-use table_lines::{KindWord, LabelWord, Line, behind, line_of};
 
 // The suffixes of the whole lines of a text that have a prefix.
 fn names_behind(alloc: Global, prefix: &[u8], text: &[u8]) -> Result<Places, Memory>

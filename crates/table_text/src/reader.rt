@@ -1,9 +1,9 @@
 //! A draft with the names so far.
 
 ghost use Rattle.std.specs.Prelude.{◌≡◌, ◌++◌, ◌∷◌, ℕ, List, [], length, IfOk, IfErr, OnOk, Some, None};
-ghost use Rattle.table_lines.specs.declared.line.Line.TheVariants.{Enum, Value};
+ghost use Rattle.table_text.specs.declared.line.Line.TheVariants.{Enum, Value};
 ghost use Rattle.table_text.specs.Judged.{Types, is_type_before, is_value_before, is_field_before, method_key, is_unknown_kind, is_unknown_label, is_unknown, is_duplicate, line_fault, end_fault};
-ghost use Rattle.table_lines.specs.Lines.{line_of};
+ghost use Rattle.table_text.specs.Lines.{line_of};
 ghost use Rattle.table_text.specs.Drafts.{Blames, added_line, table_of, before, open_part, empty_draft, resolved, labeled, joined_with, new_oneof, oneofs_of, field_of, method_of, added, added_enum, added_message, added_value, added_field, added_method};
 ghost use Rattle.table_text.specs.Places.{Holds};
 ghost use Rattle.table_text.specs.Readers.{IsKept};
@@ -12,11 +12,11 @@ use crate::draft::{Draft, Open};
 use crate::fault::{TableFault, TableReason};
 use crate::judge::{is_limit, is_map_key, is_number, is_syntax};
 use crate::places::Places;
+use crate::{FieldLine, KindWord, LabelWord, Line, MethodLine, Whole, line_of};
 use mrpc_table::{
     Bytes, Choices, Field, Kind, Label, Memory, Message, Method, Name, Names, Sequence, Table,
 };
 use std::alloc::Global;
-use table_lines::{FieldLine, KindWord, LabelWord, Line, MethodLine, Whole, line_of};
 
 // A table while its text is read. It has the types that the text names, and the names so far: of enums, of messages, of
 // methods with their services, of the values or fields of the open part, and of its oneofs.

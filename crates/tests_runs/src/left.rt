@@ -1,8 +1,8 @@
 //! Lines for the remains of a connection, as far as no run prints them.
 
-use arrival_text::{append_cut, append_not_held, append_short, append_waits};
 use frame_transport::FeedFault;
 use mrpc_table::Bytes;
+use run_report::{append_cut, append_not_held, append_short, append_waits};
 use std::alloc::Global;
 use std::process::Abort;
 

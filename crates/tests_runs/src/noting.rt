@@ -7,7 +7,7 @@ use crate::gates::CountingGate;
 use crate::runs::{ONE_CALL, plan_of};
 use crate::threads::memory;
 use mrpc_base::{Came, Fabric, FixedClock, Handed, Link, OpenFault};
-use scenario_run::serve_plan;
+use run_driver::serve_plan;
 use std::alloc::Global;
 use std::process::Abort;
 use std::sync::Wait;

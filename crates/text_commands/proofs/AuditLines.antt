@@ -3,7 +3,7 @@ use Rattle.std.proofs.Common.{◌≡◌, ◌∙◌, ℕ, ◌+◌, ◌<◌, ◌�
 use Rattle.std.proofs.lemmas.List.Concat.{flat_map-cons}
 use Rattle.mrpc_table.specs.Text.{spaced}
 use Rattle.mrpc_table.specs.declared.table.Table.{Table}
-use Rattle.policy_blocks.specs.Declarations.{Declared}
+use Rattle.policy_declarations.specs.Declarations.{Declared}
 use Rattle.audit_text.specs.Lines.{audit, audit_line, happening_words, standing_words}
 use Rattle.call_history.specs.Legal.{History}
 use Rattle.audit_rules.specs.declared.rule.Rule.{Rule}

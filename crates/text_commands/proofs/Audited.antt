@@ -5,11 +5,11 @@ use Rattle.std.proofs.lemmas.List.Elements.{All-weaker}
 use Rattle.std.proofs.lemmas.List.Sums.{count_by-le-length}
 use Rattle.mrpc_table.specs.declared.table.Table.{Table}
 use Rattle.engine_core.specs.Policies.{IsPolicy, KnowsTenantOf}
-use Rattle.policy_blocks.specs.Declarations.{Declared, IsSound}
-use Rattle.policy_blocks.specs.declared.item.NamedPolicy.{NamedPolicy}
-use Rattle.script_words.specs.Reasons.{reason_word}
-use Rattle.script_words.specs.declared.fault.ScriptReason.{ScriptReason}
-use Rattle.audit_input.specs.Inputs.{Says, IsFault, audit_line}
+use Rattle.policy_declarations.specs.Declarations.{Declared, IsSound}
+use Rattle.policy_declarations.specs.declared.item.NamedPolicy.{NamedPolicy}
+use Rattle.script_grammar.specs.Reasons.{reason_word}
+use Rattle.script_grammar.specs.declared.fault.ScriptReason.{ScriptReason}
+use Rattle.audit_check.specs.Inputs.{Says, IsFault, audit_line}
 use Rattle.audit_check.specs.Checking.{IsChecked, IsFirstBad}
 use Rattle.audit_check.specs.declared.checked.Checked.{Checked}
 use Rattle.audit_check.specs.declared.checked.Checked.TheVariants.{Legal, Illegal}

@@ -2,9 +2,9 @@
 use Rattle.std.proofs.Common.{ℕ, ◌+◌, ◌<◌, List, length, inl, inr, arith}
 use Rattle.std.specs.Prelude.{codes}
 use Rattle.mrpc_table.specs.declared.table.Table.{Table}
-use Rattle.file_bundle.specs.Bundle.{File as PackedFile, IsBundle, Spells}
-use Rattle.proto_parts.specs.Reason.{proto_word}
-use Rattle.schema_offences.specs.Reason.{resolve_word}
+use Rattle.proto_set.specs.Bundle.{File as PackedFile, IsBundle, Spells}
+use Rattle.proto_grammar.specs.Reason.{proto_word}
+use Rattle.schema_validation.specs.Reason.{resolve_word}
 use Rattle.schema_files.specs.Reason.{files_word}
 use Rattle.schema_files.specs.Resolving.{IsFirstFault}
 use Rattle.schema_files.specs.declared.fault.FilesFault.{FilesFault}

@@ -3,9 +3,9 @@ use Rattle.std.proofs.Common.{◌≡◌, ◌∙◌, ℕ, ◌+◌, List, ap, sym,
 use Rattle.std.specs.Prelude.{codes}
 use Rattle.mrpc_table.specs.Valid.{IsValid}
 use Rattle.mrpc_table.specs.declared.table.Table.{Table}
-use Rattle.policy_blocks.specs.Declarations.{Declared}
-use Rattle.script_words.specs.Reasons.{reason_word}
-use Rattle.audit_input.specs.Inputs.{Says}
+use Rattle.policy_declarations.specs.Declarations.{Declared}
+use Rattle.script_grammar.specs.Reasons.{reason_word}
+use Rattle.audit_check.specs.Inputs.{Says}
 use Rattle.audit_check.specs.Checking.{IsChecked, IsFirstBad}
 use Rattle.audit_check.specs.declared.checked.Checked.{Checked}
 use Rattle.text_commands.specs.Auditing.{IsAnswer, IsAuditFault, answer_line}

@@ -1,12 +1,12 @@
 -- A text has one table or one fault.
 use Rattle.std.proofs.Common.{◌≡◌, ℕ, ◌+◌, List, ap, subst, refl}
 use Rattle.mrpc_table.specs.declared.table.Table.{Table}
-use Rattle.file_bundle.specs.Bundle.{File as PackedFile, Spells}
-use Rattle.proto_file.specs.declared.file.File.{File}
-use Rattle.proto_file.specs.declared.file.Span.{Span}
-use Rattle.proto_parts.specs.Reason.{proto_word}
-use Rattle.schema_offences.specs.Offences.{HasOffence}
-use Rattle.schema_offences.specs.Reason.{resolve_word}
+use Rattle.proto_set.specs.Bundle.{File as PackedFile, Spells}
+use Rattle.proto_ast.specs.declared.file.File.{File}
+use Rattle.proto_ast.specs.declared.file.Span.{Span}
+use Rattle.proto_grammar.specs.Reason.{proto_word}
+use Rattle.schema_validation.specs.Offences.{HasOffence}
+use Rattle.schema_validation.specs.Reason.{resolve_word}
 use Rattle.schema_resolve.specs.Resolving.{Resolves}
 use Rattle.schema_files.specs.Reason.{files_word}
 use Rattle.schema_files.specs.Resolving.{FilesResolve, IsFirstFault}

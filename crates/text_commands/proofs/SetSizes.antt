@@ -3,9 +3,9 @@ use Rattle.std.proofs.Common.{◌≡◌, ℕ, ◌+◌, ◌≤◌, List, [], ◌�
 use Rattle.std.specs.Prelude.{sum_by}
 use Rattle.std.specs.List.{flat_map}
 use Rattle.std.proofs.lemmas.List.Sums.{sum_by-cons}
-use Rattle.file_bundle.specs.Bundle.{file_text, header_line, first_line, bundle_text, Spells}
-use Rattle.file_bundle.specs.Packed.{files_of}
-use Rattle.file_bundle.specs.declared.packed.Packed.{Packed}
+use Rattle.proto_set.specs.Bundle.{file_text, header_line, first_line, bundle_text, Spells}
+use Rattle.proto_set.specs.Packed.{files_of}
+use Rattle.proto_set.specs.declared.packed.Packed.{Packed}
 
 -- the bytes after a header and a body are counted besides the body
 with_rest : (header body rest : List ℕ) (n total : ℕ) → total ≡ length body + n → n ≤ length rest

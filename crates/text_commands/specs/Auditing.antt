@@ -4,10 +4,10 @@ use Rattle.std.specs.Fmt.{decimal}
 use Rattle.std.specs.Io.KnownBytes.{Appends}
 use Rattle.mrpc_table.specs.Text.{line}
 use Rattle.mrpc_table.specs.declared.table.Table.{Table}
-use Rattle.policy_blocks.specs.Declarations.{Declared}
-use Rattle.script_words.specs.Reasons.{reason_word}
-use Rattle.script_words.specs.declared.fault.ScriptReason.{ScriptReason}
-use Rattle.audit_input.specs.Inputs.{Says, IsFault}
+use Rattle.policy_declarations.specs.Declarations.{Declared}
+use Rattle.script_grammar.specs.Reasons.{reason_word}
+use Rattle.script_grammar.specs.declared.fault.ScriptReason.{ScriptReason}
+use Rattle.audit_check.specs.Inputs.{Says, IsFault}
 use Rattle.audit_rules.specs.declared.rule.Rule.{Rule}
 use Rattle.audit_rules.specs.declared.rule.Rule.TheVariants.{A, B, C, D, E, F, G, Stands}
 use Rattle.audit_check.specs.Checking.{IsChecked, IsFirstBad}

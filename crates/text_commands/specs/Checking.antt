@@ -4,16 +4,16 @@ use Rattle.std.specs.Fmt.{decimal}
 use Rattle.std.specs.Io.KnownBytes.{Appends}
 use Rattle.mrpc_table.specs.Text.{table_text}
 use Rattle.mrpc_table.specs.declared.table.Table.{Table}
-use Rattle.file_bundle.specs.Bundle.{File as PackedFile, IsBundle, Spells}
-use Rattle.file_bundle.specs.Faults.{IsBundleFault}
-use Rattle.proto_file.specs.declared.file.File.{File}
-use Rattle.proto_file.specs.declared.file.Span.{Span}
+use Rattle.proto_set.specs.Bundle.{File as PackedFile, IsBundle, Spells}
+use Rattle.proto_set.specs.BundleFaults.{IsBundleFault}
+use Rattle.proto_ast.specs.declared.file.File.{File}
+use Rattle.proto_ast.specs.declared.file.Span.{Span}
 use Rattle.proto_schema.specs.Faults.{IsTextOf, HasFault}
-use Rattle.proto_parts.specs.Reason.{proto_word}
-use Rattle.proto_parts.specs.declared.fault.ProtoReason.{ProtoReason}
-use Rattle.schema_offences.specs.Offences.{HasOffence}
-use Rattle.schema_offences.specs.Reason.{resolve_word}
-use Rattle.schema_offences.specs.declared.reason.ResolveReason.{ResolveReason}
+use Rattle.proto_grammar.specs.Reason.{proto_word}
+use Rattle.proto_grammar.specs.declared.fault.ProtoReason.{ProtoReason}
+use Rattle.schema_validation.specs.Offences.{HasOffence}
+use Rattle.schema_validation.specs.Reason.{resolve_word}
+use Rattle.schema_validation.specs.declared.reason.ResolveReason.{ResolveReason}
 use Rattle.schema_resolve.specs.Resolving.{Resolves}
 use Rattle.schema_files.specs.Reason.{files_word}
 use Rattle.schema_files.specs.Resolving.{FilesResolve, IsFirstFault}

@@ -10,25 +10,25 @@ use Rattle.table_text.specs.declared.fault.TableReason.{TableReason}
 use Rattle.wire_decode.specs.Means.{Means}
 use Rattle.wire_decode.specs.Faults.{IsFirstFault}
 use Rattle.wire_decode.specs.declared.fault.DecodeReason.{DecodeReason}
-use Rattle.file_bundle.specs.Bundle.{File as PackedFile}
-use Rattle.file_bundle.specs.Laws.{SpellsOnce, NeverSpellsAndBreaks, SpellsOrBreaks, BreaksOnce}
+use Rattle.proto_set.specs.Bundle.{File as PackedFile}
+use Rattle.proto_set.specs.Laws.{SpellsOnce, NeverSpellsAndBreaks, SpellsOrBreaks, BreaksOnce}
 use Rattle.schema_files.specs.Resolving.{FilesResolve, IsFirstFault as IsFilesFault}
 use Rattle.schema_files.specs.declared.fault.FilesFault.{FilesFault}
 use Rattle.frame_transport.specs.Frames.{SplitsOnce, AlwaysEnds, EndsOnce, IsFrame, bytes_of, joined, StandFrom, IsPartial, IsFaultAt, Splits}
 use Rattle.frame_transport.specs.declared.format.Frame.{Frame}
 use Rattle.frame_transport.specs.declared.fault.FeedFault.{FeedFault}
-use Rattle.proto_file.specs.declared.file.File.{File}
-use Rattle.proto_file.specs.declared.file.Span.{Span}
+use Rattle.proto_ast.specs.declared.file.File.{File}
+use Rattle.proto_ast.specs.declared.file.Span.{Span}
 use Rattle.proto_schema.specs.Faults.{IsTextOf, HasFault}
-use Rattle.proto_parts.specs.declared.fault.ProtoReason.{ProtoReason}
-use Rattle.proto_file.specs.Joined.{alone}
-use Rattle.schema_offences.specs.Offences.{HasOffence}
-use Rattle.schema_offences.specs.declared.reason.ResolveReason.{ResolveReason}
+use Rattle.proto_grammar.specs.declared.fault.ProtoReason.{ProtoReason}
+use Rattle.proto_ast.specs.Joined.{alone}
+use Rattle.schema_validation.specs.Offences.{HasOffence}
+use Rattle.schema_validation.specs.declared.reason.ResolveReason.{ResolveReason}
 use Rattle.schema_resolve.specs.Resolving.{Resolves}
 use Rattle.schema_resolve.specs.Tables.{IsTableOf}
-use Rattle.policy_blocks.specs.Declarations.{Declared, IsSound}
-use Rattle.script_words.specs.declared.fault.ScriptReason.{ScriptReason}
-use Rattle.audit_input.specs.Inputs.{Says, IsFault as IsInputFault}
+use Rattle.policy_declarations.specs.Declarations.{Declared, IsSound}
+use Rattle.script_grammar.specs.declared.fault.ScriptReason.{ScriptReason}
+use Rattle.audit_check.specs.Inputs.{Says, IsFault as IsInputFault}
 use Rattle.audit_rules.specs.declared.rule.Rule.{Rule}
 use Rattle.audit_check.specs.Checking.{IsChecked, IsFirstBad}
 use Rattle.audit_check.specs.declared.checked.Checked.{Checked}

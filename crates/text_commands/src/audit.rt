@@ -3,8 +3,8 @@
 ghost use Rattle.std.specs.Prelude.{◌≡◌, ◌≢◌, ◌≤◌, ◌⊎◌, ◌++◌, List, ℕ, length, IfOk, IfErr, OnOk};
 ghost use Rattle.mrpc_base.specs.Faults.{HasCause};
 ghost use Rattle.mrpc_table.specs.Valid.{IsValid};
-ghost use Rattle.policy_blocks.specs.Declarations.{IsSound};
-ghost use Rattle.audit_input.specs.Inputs.{Says};
+ghost use Rattle.policy_declarations.specs.Declarations.{IsSound};
+ghost use Rattle.audit_check.specs.Inputs.{Says};
 ghost use Rattle.text_commands.specs.Auditing.{AuditsText, IsAnswer, IsAuditFault, IsFailureOf, IsNear, RefusesAudit, answer_line, rule_word};
 ghost use Rattle.text_commands.specs.Stopping.{EndsEarly};
 
@@ -12,15 +12,13 @@ use crate::discard;
 use crate::laws::{audit_law, near_law};
 use crate::refusal::refuse;
 use crate::status::{DONE, FAULTY_INPUT, INPUT_FAILED, NO_COMMAND, NO_MEMORY, OUTPUT_FAILED};
-use audit_check::{Checked, check_audit};
-use audit_input::{AuditInput, read_audit_input};
+use audit_check::{AuditInput, Checked, check_audit, read_audit_input};
 use audit_rules::Rule;
 use audit_text::AuditFault;
-use mrpc_base::{Sink, write_all};
+use mrpc_base::{INPUT_LIMIT, Sink, write_all};
 use mrpc_table::{Bytes, Memory};
-use script_words::ScriptFault;
+use script_grammar::ScriptFault;
 use std::alloc::Global;
-use whole_input::INPUT_LIMIT;
 
 // Why an audit gets no verdict.
 #[derive(Drop, Clone, Copy)]

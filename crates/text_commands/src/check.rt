@@ -5,7 +5,7 @@ ghost use Rattle.mrpc_base.specs.Faults.{HasCause};
 ghost use Rattle.mrpc_table.specs.Text.{table_text};
 ghost use Rattle.mrpc_table.specs.Valid.{IsValid};
 ghost use Rattle.mrpc_table.specs.declared.table.Table.{Table};
-ghost use Rattle.file_bundle.specs.Bundle.{IsBundle};
+ghost use Rattle.proto_set.specs.Bundle.{IsBundle};
 ghost use Rattle.text_commands.specs.Checking.{ChecksAs, ChecksText, IsCheckFault, IsFaultOf, RefusesProto};
 ghost use Rattle.text_commands.specs.Stopping.{EndsEarly};
 ghost use Rattle.text_commands.specs.declared.check.Spot.{Spot};
@@ -13,16 +13,15 @@ ghost use Rattle.text_commands.specs.declared.check.Spot.{Spot};
 use crate::laws::{file_law, set_law};
 use crate::refusal::refuse_at;
 use crate::status::{DONE, FAULTY_INPUT, INPUT_FAILED, NO_COMMAND, NO_MEMORY, OUTPUT_FAILED};
-use file_bundle::{BundleFault, is_bundle, read_bundle};
-use mrpc_base::{Sink, write_all};
+use mrpc_base::{INPUT_LIMIT, Sink, write_all};
 use mrpc_table::{Bytes, Memory, Table};
-use proto_parts::ProtoFault;
+use proto_grammar::ProtoFault;
 use proto_schema::{alone_is_ordered, read_proto};
+use proto_set::{BundleFault, is_bundle, read_bundle};
 use schema_files::{FilesFault, fault_in_set, resolve_files};
 use schema_resolve::{ResolveFault, resolve};
 use std::alloc::Global;
-use table_lines::table_text;
-use whole_input::INPUT_LIMIT;
+use table_text::table_text;
 
 /// The location of a fault, as a command prints it.
 #[derive(Drop, Clone, Copy)]

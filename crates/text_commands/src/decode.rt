@@ -13,9 +13,8 @@ use crate::decoding::{Cut, decode_stream};
 use crate::laws::{meaning_law, text_law};
 use crate::refusal::refuse;
 use crate::status::{DONE, FAULTY_INPUT, INPUT_FAILED, NO_COMMAND, NO_MEMORY, OUTPUT_FAILED};
-use mrpc_base::Sink;
+use mrpc_base::{INPUT_LIMIT, Sink};
 use std::alloc::Global;
-use whole_input::INPUT_LIMIT;
 
 /// Reads the text of a table and the frames after it, at most [`INPUT_LIMIT`] bytes, and writes a line for
 /// each frame. Writes the first fault of the text as a line `fault LINE REASON`. Writes the first fault of

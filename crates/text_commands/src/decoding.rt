@@ -16,9 +16,8 @@ use audit_text::append_hex_word;
 use frame_transport::{FeedFault, FrameRef, HEADER_LEN, HELLO, METHOD_PLACE, frame_at};
 use mrpc_base::{Sink, write_all};
 use mrpc_table::{Bytes, Memory, Table};
-use spare_trees::Spare;
 use std::alloc::Global;
-use wire_decode::{DecodeFault, decode_with};
+use wire_decode::{DecodeFault, Spare, decode_with};
 use wire_encode::{Output, encode_into};
 
 // The fewest bytes of lines that are gathered before a write.

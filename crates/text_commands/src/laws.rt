@@ -3,11 +3,10 @@
 
 ghost use Rattle.text_commands.specs.Laws.{AuditLaw, FileLaw, FrameLaw, MeaningLaw, NearLaw, SetLaw, TextLaw};
 
-use audit_check::a_text_has_one_answer;
-use audit_input::one_input;
-use file_bundle::one_bundle;
+use audit_check::{a_text_has_one_answer, one_input};
 use frame_transport::{frames_join, one_frame, one_split};
 use proto_schema::{alone_is_ordered, file_or_fault, one_fault as one_proto_fault, one_file};
+use proto_set::one_bundle;
 use schema_files::{one_files_fault, one_files_table, table_or_files_fault};
 use schema_resolve::{one_offence, one_table, table_or_offence};
 use table_text::{one_fault as one_table_fault, one_table_behind, one_text, table_or_fault};

@@ -1,3 +1,7 @@
+mod Ascending
 mod KnownBytes
 mod OneView
+mod Plainness
+mod Reading
 mod Stops
+mod Walking

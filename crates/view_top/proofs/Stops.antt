@@ -1,9 +1,9 @@
 -- Why a view ends.
 use Rattle.std.proofs.Common.{◌≡◌, ℕ, List, Result, Err, IfErr, Bor, sym, subst}
 use Rattle.std.proofs.lemmas.Result.{IfErr-at_err}
-use Rattle.frame_reading.specs.Faults.{OnFault}
-use Rattle.frame_reading.specs.declared.fault.ReadFault.{ReadFault}
-use Rattle.frame_reading.specs.declared.fault.ReadFault.TheVariants.{At, Memory}
+use Rattle.frame_view.specs.Faults.{OnFault}
+use Rattle.frame_view.specs.declared.fault.ReadFault.{ReadFault}
+use Rattle.frame_view.specs.declared.fault.ReadFault.TheVariants.{At, Memory}
 use Rattle.frame_view.specs.Written.{OnStop}
 use Rattle.frame_view.specs.declared.views.Stop.{Stop}
 use Rattle.frame_view.specs.declared.views.Stop.TheVariants.{Read, Out}

@@ -1,2 +1,9 @@
+pub mod Drawing
+pub mod Ends
 pub mod FaultLines
+pub mod Lines
+pub mod Pieces
+pub mod Plain
+pub mod Rows
+pub mod TimelineViews
 pub mod Views

@@ -5,12 +5,12 @@ use Rattle.std.specs.Io.KnownBytes.{Appends}
 use Rattle.view_top.specs.FaultLines.{fault_line}
 use Rattle.frame_view.specs.Written.{ViewsText, CutsView}
 use Rattle.script_view.specs.Scripts.{IsScriptOf, HasStop}
-use Rattle.timeline.specs.Drawing.{drawing}
-use Rattle.timeline.specs.Lines.{happenings_of}
-use Rattle.timeline.specs.Plain.{IsPlain}
-use Rattle.timeline.specs.Rows.{AreRows, Row}
-use Rattle.whole_input.specs.Reading.{IsInput, ReadsPast}
-use Rattle.whole_input.specs.declared.reading.TheConstants.{INPUT_LIMIT}
+use Rattle.view_top.specs.Drawing.{drawing}
+use Rattle.view_top.specs.Lines.{happenings_of}
+use Rattle.view_top.specs.Plain.{IsPlain}
+use Rattle.view_top.specs.Rows.{AreRows, Row}
+use Rattle.mrpc_base.specs.InputReading.{IsInput, ReadsPast}
+use Rattle.mrpc_base.specs.declared.whole_input.TheConstants.{INPUT_LIMIT}
 use Rattle.view_top.specs.declared.view.View.{View}
 use Rattle.view_top.specs.declared.view.View.TheVariants.{Frames, Script, Timeline}
 

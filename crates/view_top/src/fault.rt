@@ -6,7 +6,7 @@ ghost use Rattle.mrpc_base.specs.Faults.{HasCause};
 ghost use Rattle.view_top.specs.FaultLines.{fault_line};
 
 use crate::status::{FAULTY_INPUT, NO_MEMORY, OUTPUT_FAILED};
-use explain::explained;
+use command_diagnostics::explained;
 use mrpc_base::{Sink, write_all};
 use mrpc_table::{Bytes, Memory};
 use std::alloc::Global;

@@ -9,18 +9,16 @@ ghost use Rattle.view_top.specs.Views.{IsView, Names, view_word, IsShown, IsRefu
 
 use crate::fault::refuse;
 use crate::status::{DONE, INPUT_FAILED, NO_COMMAND, NO_MEMORY, OUTPUT_FAILED};
-use frame_reading::ReadFault;
-use frame_view::{Stop, view_frames};
-use mrpc_base::{Sink, Source, write_all};
+use crate::timeline_of;
+use frame_view::{ReadFault, Stop, view_frames};
+use mrpc_base::{INPUT_LIMIT, Input, Sink, Source, read_input, write_all};
 use script_view::script_of;
 use std::alloc::Global;
-use timeline::timeline_of;
-use whole_input::{INPUT_LIMIT, Input, read_input};
 
-/// Writes the view of an input that the words name, `frames`, `script` or `timeline`, each alone, and returns
+/// Writes the view of an input that the words name, `frames`, `script` or `view_top`, each alone, and returns
 /// the exit status.
 ///
-/// `frames` and `script` read what `mrpc decode` reads. `timeline` reads the output of `mrpc replay` or
+/// `frames` and `script` read what `mrpc decode` reads. `view_top` reads the output of `mrpc replay` or
 /// `mrpc run`, or an input of `mrpc audit`. The diagnostic of a faulty input is written to `error`, for a
 /// person; if a write to it fails, no more is written there.
 pub fn run_view<S: Source, K: Sink, E: Sink>(

@@ -6,6 +6,7 @@ pub mod Faults
 pub mod Finished
 pub mod Gathered
 pub mod Joined
+pub mod Kept
 pub mod Known
 pub mod Meaning
 pub mod Means

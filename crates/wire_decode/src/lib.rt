@@ -2,12 +2,28 @@
 //!
 //! The format is that of the Protocol Buffers encoding guide. If the records come in the order of the fields, as
 //! encoders write them, they are read straight into the tree, in vectors of earlier trees if the pool has some (`Spare`
-//! of `spare_trees`). Otherwise they are read in one pass into the contents of their records, in order. Then each field
+//! of `wire_decode`). Otherwise they are read in one pass into the contents of their records, in order. Then each field
 //! gets its value from its own records, and the tree its fields by ascending number. This takes time linear in the
 //! bytes, except for sorting records and the entries of maps. `specs/Meaning.antt` defines what bytes mean, rule by
-//! rule, and `specs/Faults.antt` the first fault. This crate depends on `mrpc_table`, `wire_base` and `spare_trees`.
+//! rule, and `specs/Faults.antt` the first fault. This crate depends on `mrpc_table` and `wire_base`.
 //! The layers above use one contract: the result is the meaning, or the first fault exactly if there is no meaning.
+//!
+//! A pool of vectors from trees that are no longer needed, for trees that are read later.
+//!
+//! A [`Spare`] takes trees back, and gives their emptied vectors to code that builds other trees. It depends on
+//! `mrpc_table`, whose trees these are. The layers above use one contract: each vector is empty, a run has the
+//! requested bytes, and no more is ever kept than `specs/Kept.antt` allows, whatever was taken back.
 #![tactic(auto)]
+
+mod fault;
+mod gather;
+mod laws;
+mod merge;
+mod number;
+mod oneof;
+mod ordered;
+mod read;
+mod tree_pool;
 
 ghost use Rattle.std.specs.Prelude.{◌≡◌, ◌-◌, ◌<◌, ◌≤◌, length, IfOk, IfErr, MatchResult};
 ghost use Rattle.mrpc_table.specs.Valid.{IsValid};
@@ -21,15 +37,6 @@ ghost use Rattle.wire_decode.specs.Faults.{IsFirstFault, FaultsAs};
 ghost use Rattle.wire_decode.specs.FaultWalk.{MeetsFault};
 ghost use Rattle.mrpc_table.specs.Normal.{fields_of as fields_in};
 
-mod fault;
-mod gather;
-mod laws;
-mod merge;
-mod number;
-mod oneof;
-mod ordered;
-mod read;
-
 use crate::laws::one_merging;
 use crate::merge::merged;
 use crate::ordered::ordered_message;
@@ -40,8 +47,8 @@ pub use laws::{
     one_meaning, rules_and_reader_agree,
 };
 use mrpc_table::{MAX_DEPTH, Table, Tree};
-use spare_trees::Spare;
 use std::alloc::Global;
+pub use tree_pool::Spare;
 
 /// Decodes a message: the one at index `msg` of the table that the bytes mean, as a tree in normal form.
 ///

@@ -17,6 +17,7 @@ ghost use Rattle.wire_decode.specs.Words.{is_list, number_in};
 ghost use Rattle.wire_decode.specs.Ordered.{IsWhole, IsValue, IsFieldRead, AreValues, AreEntriesRead, IsPair, may_follow, oneofs_with};
 ghost use Rattle.wire_decode.specs.Contents.{single_content};
 
+use crate::Spare;
 use crate::merge::{many, pairs, present, present_if_set, push_content};
 use crate::number::word_of;
 use crate::read::{element, elements, is_text};
@@ -24,7 +25,6 @@ use mrpc_table::{
     Entries, Field, FieldValue, Kind, Label, Numbered, Table, Tree, Value, Values, find_field,
     last_of_each,
 };
-use spare_trees::Spare;
 use std::alloc::Global;
 use wire_base::{read_delimited, read_tag};
 

@@ -1,6 +1,6 @@
 //! What a worker does when it finds nothing to do.
 
-use pauses::Pauses;
+use polling::Pauses;
 use std::sync::Wait;
 
 // The idle visits of one worker since it last did something. It pauses after as many idle visits in a row as there

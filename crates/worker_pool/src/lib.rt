@@ -4,7 +4,7 @@
 //! an item from the one queue, by value, and makes one visit, by a closure that the run is given. It puts the item
 //! back unless it is finished. No lock holds an item. An idle worker yields its processor a few times, and then
 //! sleeps in growing steps. The run ends once all items are finished, or once the stop flag is set. The crate depends
-//! on the ruled array queue of `crossbeam_queue`, on `stop_flag` and on `pauses`.
+//! on the ruled array queue of `crossbeam_queue`, on `polling` and on `polling`.
 //!
 //! The layer above uses one contract. Each item is returned once, at its index, as a later state of the item that was
 //! passed in, as the item's own trait [`Visited`] defines it. If the run wasn't stopped, each item is finished. This

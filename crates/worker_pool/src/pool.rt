@@ -14,12 +14,12 @@ use crate::hand::{Enters, Line, LinePass, Numbered, Shares};
 use crate::limits::{MOST_ITEMS, MOST_WORKERS};
 use crate::visited::{Visit, Visited};
 use crate::worker::Worker;
+use polling::StopFlag;
 use std::alloc::{AllocError, Global};
 use std::sync::Wait;
 use std::sync::atomic::AtomicU64;
 use std::thread;
 use std::thread::Threads;
-use stop_flag::StopFlag;
 
 /// The result of a run.
 #[derive(Drop)]

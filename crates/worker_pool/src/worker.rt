@@ -15,9 +15,9 @@ use crate::idle::Idle;
 use crate::limits::MOST_ITEMS;
 use crate::pool::Ran;
 use crate::visited::{Visit, Visited};
+use polling::StopFlag;
 use std::sync::Wait;
 use std::sync::atomic::{AtomicU64, Ordering};
-use stop_flag::StopFlag;
 
 // The result of a turn at the queue.
 #[derive(Clone, Copy, PartialEq, Eq)]

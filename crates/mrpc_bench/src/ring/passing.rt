@@ -9,11 +9,11 @@ use graph_copy::CopyResult;
 use mrpc_base::Stores;
 use mrpc_table::{FieldValue, Memory, Table, Tree, Value};
 use shared_heap::{Reader, Writer};
+use stable_copy::copy_message;
 use std::alloc::{AllocError, Global};
 use std::sync::Wait;
 use std::thread;
 use std::thread::{Threads, join};
-use untouched_copy::copy_message;
 
 // The number of descriptors that the ring holds.
 const CAPACITY: u64 = 64;

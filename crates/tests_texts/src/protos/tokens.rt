@@ -1,7 +1,7 @@
 //! A token of each kind, and the value of a string.
 
 use mrpc_table::Decimal;
-use proto_tokens::{Kind, Token, next_token, string_value};
+use proto_lexer::{Kind, Token, next_token, string_value};
 
 fn first(text: &[u8]) -> Token {
     next_token(text, 0, 1)

@@ -9,7 +9,7 @@ use crate::tables::texts::table;
 use audit_text::{AuditFault, append_audit_line, audit_line, read_audit};
 use call_history::{Happened, Happening, Taken, TookCopy};
 use mrpc_table::{FieldValue, Sequence, Table, Tree, Value};
-use policy_blocks::Declarations;
+use policy_declarations::Declarations;
 use std::alloc::Global;
 use std::process::Abort;
 

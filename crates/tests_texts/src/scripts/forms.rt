@@ -1,7 +1,9 @@
 //! The values of a line's words.
 
 use mrpc_table::Decimal;
-use script_words::{Judged, Keyword, form_of, judge, keyword_at, name_at, number_at, unbounded_at};
+use script_grammar::{
+    Judged, Keyword, form_of, judge, keyword_at, name_at, number_at, unbounded_at,
+};
 use std::process::Abort;
 
 fn judged<'a>(rt: &impl Abort, line: &'a [u8]) -> Judged<'a> {

@@ -1,7 +1,7 @@
 //! An input of `audit`.
 
 use crate::discard;
-use audit_input::{AuditInput, read_audit_input};
+use audit_check::{AuditInput, read_audit_input};
 use std::process::Abort;
 
 // A declaration of each kind, after a table.

@@ -6,8 +6,7 @@ use crate::discard;
 use mrpc_table::{Bytes, Table, Tree, fits};
 use std::alloc::Global;
 use std::process::Abort;
-use table_lines::table_text;
-use table_text::{one_fault, one_text, read_table};
+use table_text::{one_fault, one_text, read_table, table_text};
 
 const SMALL: &[u8] =
     b"enum E\nvalue 0 A\nmessage M\nfield 1 map:string enum:E a\nmethod 0 S Get M M\n";

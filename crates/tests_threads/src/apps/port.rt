@@ -10,13 +10,13 @@ use descriptor_ring::{
     Descriptor, NumberReceiver, NumberSender, NumberTaken, Receiver, Sender, Taken,
 };
 use mrpc_base::{Stores, Words};
+use polling::{RunFlag, StopFlag};
 use shared_heap::{Reader, Writer};
 use std::alloc::Global;
 use std::marker::Model;
 use std::process::Abort;
 use std::sync::Wait;
 use std::thread;
-use stop_flag::{RunFlag, StopFlag};
 use table_text::read_table;
 
 // The number of words of each heap.

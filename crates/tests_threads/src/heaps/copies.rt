@@ -5,13 +5,13 @@ use graph_form::Reason;
 use mrpc_base::Stores;
 use mrpc_table::{FieldValue, Table, Tree, Value};
 use shared_heap::{Reader, Writer, open};
+use stable_copy::copy_message;
 use std::alloc::Global;
 use std::marker::Model;
 use std::process::Abort;
 use std::sync::atomic::{AtomicBool, Ordering};
 use std::thread::{Threads, join};
 use table_text::read_table;
-use untouched_copy::copy_message;
 
 const NUMBER: &[u8] = b"message M\nfield 1 optional uint64 a\nmethod 0 S Get M M\n";
 

@@ -1,11 +1,11 @@
 //! Queues that are full, and queues with reserved slots.
 
 ghost use Rattle.std.specs.Prelude.{◌≡◌};
-ghost use Rattle.one_way_queue.specs.Ends.{producer_queue, consumer_queue, AreEnds};
+ghost use Rattle.spsc_queue.specs.Ends.{producer_queue, consumer_queue, AreEnds};
 
 use crate::discard;
 use mrpc_table::Bytes;
-use one_way_queue::{Consumer, Found, Piece, PieceReader, Producer, meet, open};
+use spsc_queue::{Consumer, Found, Piece, PieceReader, Producer, meet, open};
 use std::alloc::Global;
 use std::process::Abort;
 use std::sync::Wait;

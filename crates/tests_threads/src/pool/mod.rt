@@ -2,13 +2,13 @@
 
 ghost use Rattle.std.specs.Prelude.{◌≡◌, ◌≤◌};
 
+use polling::{RunFlag, StopFlag};
 use std::alloc::Global;
 use std::process::Abort;
 use std::sync::Wait;
 use std::sync::atomic::{AtomicBool, AtomicU64, Ordering};
 use std::thread::Threads;
 use std::time::Duration;
-use stop_flag::{RunFlag, StopFlag};
 use worker_pool::{Visit, Visited, run};
 
 // What an item does.

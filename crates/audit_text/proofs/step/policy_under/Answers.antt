@@ -1,6 +1,6 @@
 use Rattle.std.proofs.Common.{◌≡◌, ◌∙◌, Some, None, ap, refl, sym, slice_get}
 use Rattle.std.proofs.lemmas.Option.{slice_get-get_or}
-use Rattle.policy_blocks.specs.Declarations.{policy_place}
+use Rattle.policy_declarations.specs.Declarations.{policy_place}
 use Rattle.audit_text.proofs.Labelled.{under-place}
 use Rattle.audit_text.proofs.step.policy_under.Goals as goal
 

@@ -1,7 +1,7 @@
 use Rattle.std.proofs.Common.{◌∙◌, ◌++◌, ℕ, List, refl, ap, subst, append_assoc}
 use Rattle.frame_transport.specs.Standing.{frame_of}
 use Rattle.frame_transport.specs.Messages.{message_in}
-use Rattle.message_text.specs.Entries.{IsTextOf}
+use Rattle.text_format.specs.Entries.{IsTextOf}
 use Rattle.frame_view.specs.Views.{call_head, view_of_call}
 use Rattle.frame_view.proofs.views.put_view.Goals as goal
 

@@ -1,7 +1,7 @@
 use Rattle.std.proofs.Common.{◌≡◌, ℕ, List, refl, drop, arith}
 use Rattle.std.proofs.lemmas.Result.{err_from_is_err_and}
 use Rattle.frame_transport.specs.Standing.{frame_of}
-use Rattle.frame_reading.specs.Faults.{IsFaultHere, IsFaultIn, IsFaultOfFront, of_front, of_frame}
+use Rattle.frame_view.specs.Faults.{IsFaultHere, IsFaultIn, IsFaultOfFront, of_front, of_frame}
 use Rattle.frame_view.proofs.Viewing.{WalkLaw, on_fault, shows_one}
 use Rattle.frame_view.proofs.views.view_frame.Goals as goal
 

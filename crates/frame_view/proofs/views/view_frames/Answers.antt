@@ -1,6 +1,6 @@
 use Rattle.std.proofs.Common.{ℕ, List, drop}
-use Rattle.frame_reading.specs.Faults.{IsFaultHere}
-use Rattle.frame_reading.specs.Input.{IsTextFault}
+use Rattle.frame_view.specs.Faults.{IsFaultHere}
+use Rattle.frame_view.specs.Input.{IsTextFault}
 use Rattle.frame_view.specs.Walks.{WritesShown}
 use Rattle.frame_view.specs.Written.{CutsView, in_text, in_stream}
 use Rattle.frame_view.proofs.KnownBytes.{appends-nothing}

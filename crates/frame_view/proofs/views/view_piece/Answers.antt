@@ -1,6 +1,6 @@
 use Rattle.std.proofs.Common.{◌≡◌, ◌∙◌, [], ◌++◌, List, ℕ, drop, sym, ap, append_assoc, append-nil, arith}
 use Rattle.std.proofs.lemmas.Result.{err_from_is_err_and}
-use Rattle.frame_reading.specs.Faults.{IsFaultHere}
+use Rattle.frame_view.specs.Faults.{IsFaultHere}
 use Rattle.frame_view.specs.Walks.{Shows}
 use Rattle.frame_view.proofs.Viewing.{WalkLaw, on_fault, shows_nothing, shows_more}
 use Rattle.frame_view.proofs.views.view_piece.Goals as goal

@@ -2,7 +2,7 @@ use Rattle.std.proofs.Common.{◌≡◌, ◌∙◌, [], ◌++◌, List, ℕ, dro
 use Rattle.std.specs.Io.KnownBytes.{Appends}
 use Rattle.std.proofs.lemmas.Bool.{true≢false}
 use Rattle.std.proofs.lemmas.Result.{err_from_is_err_and}
-use Rattle.frame_reading.specs.Faults.{IsFaultHere}
+use Rattle.frame_view.specs.Faults.{IsFaultHere}
 use Rattle.frame_view.specs.Walks.{Shows, WritesShown}
 use Rattle.frame_view.proofs.KnownBytes.{appends-nothing, appends-more}
 use Rattle.frame_view.proofs.Viewing.{WalkLaw, on_fault, shows_nothing, shows_more}

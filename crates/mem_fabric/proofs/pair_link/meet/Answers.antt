@@ -1,9 +1,9 @@
 use Rattle.std.proofs.Common.{◌≡◌, ◌<◌, true, List, ℕ, ap, sym, subst, ◌∙◌}
 use Rattle.std.specs.List.{concat}
 use mathlib.Core.List.{IsPrefix}
-use Rattle.one_way_queue.specs.Ends.{put_of}
-use Rattle.one_way_queue.specs.Pieces.{bytes_of, frames_of}
-use Rattle.one_way_queue.specs.Readers.{given_by, taken_by, told_by}
+use Rattle.spsc_queue.specs.Ends.{put_of}
+use Rattle.spsc_queue.specs.Pieces.{bytes_of, frames_of}
+use Rattle.spsc_queue.specs.Readers.{given_by, taken_by, told_by}
 use Rattle.mem_fabric.specs.Pair.{IsOutgoing}
 use Rattle.mem_fabric.proofs.Outgoing.{met_after_end, bytes_of_frames}
 use Rattle.mem_fabric.proofs.pair_link.meet.Goals as goal

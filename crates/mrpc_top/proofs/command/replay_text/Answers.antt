@@ -1,5 +1,5 @@
 use Rattle.std.proofs.Common.{◌∙◌, ap, arith, inl, inr}
-use Rattle.script_words.specs.Reasons.{reason_word}
+use Rattle.script_grammar.specs.Reasons.{reason_word}
 use Rattle.mrpc_top.specs.Replaying.{in_run}
 use Rattle.mrpc_top.proofs.Replays.{no_fault, refused_front}
 use Rattle.mrpc_top.proofs.command.replay_text.Goals as goal

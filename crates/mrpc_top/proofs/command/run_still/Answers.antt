@@ -2,7 +2,7 @@ use Rattle.std.proofs.Common.{◌≡◌, ◌∙◌, ℕ, List, Option, inl, inr,
 use Rattle.std.specs.Prelude.{String}
 use Rattle.std.specs.declared.alloc.Global.{Global}
 use Rattle.mrpc_top.specs.Command.{IsFaulty, Names, of_text}
-use Rattle.whole_input.specs.Reading.{IsAllOf}
+use Rattle.mrpc_base.specs.InputReading.{IsAllOf}
 use Rattle.mrpc_top.specs.declared.command.Command.{Command}
 use Rattle.mrpc_top.specs.Replaying.{HasScriptFault}
 use Rattle.mrpc_top.proofs.Complete.{done-or-short, one-command, past-limit, refused-faulty}

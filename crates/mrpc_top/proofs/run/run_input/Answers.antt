@@ -1,5 +1,5 @@
 use Rattle.std.proofs.Common.{inl, refl, subst, sym, ℕ, List}
-use Rattle.whole_input.specs.Reading.{IsInput}
+use Rattle.mrpc_base.specs.InputReading.{IsInput}
 use Rattle.mrpc_top.specs.Runs.StopsRun.{in_fault}
 use Rattle.scenario.specs.Scenarios.{HasFault}
 use Rattle.mrpc_top.proofs.RunAnswers.{fault_of_read, not_faulty}

@@ -1,6 +1,6 @@
 use Rattle.std.proofs.Common.{◌++◌, sym}
 use Rattle.proto_schema.proofs.Drafts.{edit_set, edit_beyond}
-use Rattle.proto_file.specs.declared.file.EnumDecl.{EnumDecl}
+use Rattle.proto_ast.specs.declared.file.EnumDecl.{EnumDecl}
 use Rattle.proto_schema.proofs.draft.push_value_names.Goals as goal
 
 pub returns-in_ok-append : goal.returns-in_ok-append

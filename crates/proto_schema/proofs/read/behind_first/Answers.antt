@@ -1,6 +1,6 @@
 use Rattle.std.proofs.Common.{subst, refl, sym, ◌∙◌}
 use Rattle.std.proofs.lemmas.Bool.{false≢true}
-use Rattle.proto_parts.specs.Lexemes.{lexeme}
+use Rattle.proto_grammar.specs.Lexemes.{lexeme}
 use Rattle.proto_schema.specs.Running.{Outcome, Comes}
 use Rattle.proto_schema.proofs.Next.{no_equals}
 use Rattle.proto_schema.proofs.SyntaxTokens.{no_string_behind, other_string_behind, no_semicolon_behind, semicolon_behind}

@@ -1,7 +1,7 @@
 use Rattle.std.proofs.Common.{◌≡◌, ◌≤◌, ◌<◌, ◌+◌, false, true, ap, sym, subst, ◌∙◌, arith}
 use Rattle.std.proofs.lemmas.Result.{err_from_is_err_and}
-use Rattle.proto_tokens.specs.Tokens.{is_last}
-use Rattle.proto_parts.specs.Lexemes.{lexeme}
+use Rattle.proto_lexer.specs.Tokens.{is_last}
+use Rattle.proto_grammar.specs.Lexemes.{lexeme}
 use Rattle.proto_schema.specs.Running.{read, draft_of, is_over, depth}
 use Rattle.proto_schema.specs.declared.statement.State.{State}
 use Rattle.proto_schema.proofs.Next.{Goes, goes_on, goes_fail, goes_over}

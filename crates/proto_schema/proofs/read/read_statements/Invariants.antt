@@ -1,5 +1,5 @@
 use Rattle.std.proofs.Common.{◌≡◌, ◌≤◌, ◌-◌, length}
-use Rattle.proto_tokens.specs.Tokens.{line_at}
+use Rattle.proto_lexer.specs.Tokens.{line_at}
 use Rattle.proto_schema.specs.Running.{depth, draft_of}
 use Rattle.proto_schema.proofs.Next.{Goes}
 use Rattle.proto_schema.proofs.read.read_statements.Given as goal

@@ -1,9 +1,9 @@
 use Rattle.std.proofs.Common.{◌≡◌, ap, sym, subst, ◌∙◌}
 use Rattle.std.specs.Prelude.{Ok, Result}
 use Rattle.std.proofs.lemmas.Result.{err_from_is_err_and}
-use Rattle.proto_parts.specs.Lexemes.{Lexeme, lexeme}
+use Rattle.proto_grammar.specs.Lexemes.{Lexeme, lexeme}
 use Rattle.proto_schema.specs.Running.{Failed, behind_step, draft_of, place_of, statement_step}
-use Rattle.proto_parts.specs.declared.fault.ProtoFault.{ProtoFault}
+use Rattle.proto_grammar.specs.declared.fault.ProtoFault.{ProtoFault}
 use Rattle.proto_schema.specs.declared.statement.Place.{Place}
 use Rattle.proto_schema.specs.declared.statement.State.{State}
 use Rattle.proto_schema.specs.declared.statement.Said.{Said}

@@ -1,7 +1,7 @@
 use Rattle.std.proofs.Common.{◌≡◌, List, OnOk, Option, Some, subst, sym, ap, ◌∙◌}
 use Rattle.engine_core.specs.declared.op.Op.{Op}
-use Rattle.policy_blocks.specs.declared.item.NamedPolicy.{NamedPolicy}
-use Rattle.script_text.specs.Lines.{op_in}
+use Rattle.policy_declarations.specs.declared.item.NamedPolicy.{NamedPolicy}
+use Rattle.replay_script.specs.Lines.{op_in}
 use Rattle.replay_run.specs.Kept.{DoesWhere}
 use Rattle.replay_run.proofs.operator_step.operate_by.Goals as goal
 

@@ -1,6 +1,6 @@
 use Rattle.std.proofs.Common.{◌≡◌, IfOk, Some, subst, sym}
-use Rattle.script_text.specs.Lines.{op_in}
-use Rattle.script_text.specs.declared.script.Line.{Line}
+use Rattle.replay_script.specs.Lines.{op_in}
+use Rattle.replay_script.specs.declared.script.Line.{Line}
 use Rattle.replay_run.proofs.operator_step.step_of.Goals as goal
 
 pub returns-in-Attach : goal.returns-in-Attach

@@ -1,7 +1,7 @@
 use Rattle.std.proofs.Common.{◌≡◌, ◌++◌, ◌∷◌, [], List, refl, sym, subst, None, Some}
 use Rattle.std.specs.Prelude.{◌==◌, position, slice_get}
-use Rattle.script_text.specs.Lines.{conn_of}
-use Rattle.script_text.specs.declared.script.Line.{Line}
+use Rattle.replay_script.specs.Lines.{conn_of}
+use Rattle.replay_script.specs.declared.script.Line.{Line}
 use Rattle.replay_run.specs.Kept.{After, Before}
 use Rattle.replay_run.specs.declared.connection.Connection.{Connection}
 use Rattle.replay_run.proofs.Queued.{open-there}

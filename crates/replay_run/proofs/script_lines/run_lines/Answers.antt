@@ -1,7 +1,7 @@
 use Rattle.std.proofs.Common.{[], List, refl, sym, ◌∙◌, subst}
 use Rattle.std.specs.Prelude.{Err}
 use Rattle.std.proofs.lemmas.Result.{err_from_is_err_and}
-use Rattle.script_text.specs.declared.script.Line.{Line}
+use Rattle.replay_script.specs.declared.script.Line.{Line}
 use Rattle.replay_run.specs.Kept.{After, Before, Broke, OnRan}
 use Rattle.replay_run.specs.Running.{Stops}
 use Rattle.replay_run.specs.declared.connection.Connection.{Connection}

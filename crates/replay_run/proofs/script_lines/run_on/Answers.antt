@@ -1,6 +1,6 @@
 use Rattle.std.proofs.Common.{◌≡◌, inl, inr, refl, sym, ap, ◌∙◌, subst}
-use Rattle.script_text.specs.Lines.{conn_of, op_in}
-use Rattle.script_text.specs.declared.script.Line.TheVariants as line
+use Rattle.replay_script.specs.Lines.{conn_of, op_in}
+use Rattle.replay_script.specs.declared.script.Line.TheVariants as line
 use Rattle.replay_run.proofs.Arms.{IsOperating, change-ran, done-at, may-operate, no-wire, operating-quiet, race-ran, ran-at, store-ran}
 use Rattle.replay_run.proofs.Quiet.{IsQuiet}
 use Rattle.replay_run.proofs.Ran.{cause-none}

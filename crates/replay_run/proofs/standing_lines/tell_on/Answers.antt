@@ -3,7 +3,7 @@ use Rattle.std.specs.Prelude.{slice_get}
 use Rattle.chain_upgrade.specs.Chains.{ChainParts}
 use Rattle.conn_core.specs.Connections.{course}
 use Rattle.replay_run.specs.Kept.{opened_of}
-use Rattle.connection_text.specs.Standing.{told_call}
+use Rattle.connection_audit.specs.Standing.{told_call}
 use Rattle.replay_run.specs.Stands.{stands_on}
 use Rattle.replay_run.proofs.Queued.{rows-long}
 use Rattle.replay_run.proofs.Written.{item-one, item-some, on-err, rest-begins, rest-some, some-none, there}

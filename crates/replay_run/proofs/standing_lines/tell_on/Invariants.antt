@@ -2,7 +2,7 @@ use Rattle.std.proofs.Common.{◌≡◌, drop}
 use Rattle.std.specs.List.{flat_map}
 use Rattle.conn_core.specs.Connections.{course}
 use Rattle.replay_run.specs.Kept.{opened_of}
-use Rattle.connection_text.specs.Standing.{told_call}
+use Rattle.connection_audit.specs.Standing.{told_call}
 use Rattle.replay_run.specs.Stands.{stands_on}
 use Rattle.replay_run.proofs.Written.{TellsRest}
 use Rattle.replay_run.proofs.standing_lines.tell_on.Given as goal

@@ -1,7 +1,7 @@
 use Rattle.std.proofs.Common.{◌≡◌, refl, rules}
 use Rattle.mrpc_base.specs.Faults.{HasCause}
 use Rattle.frame_transport.specs.Links.{IsLater, failures_of, sink_of, sink_name}
-use Rattle.script_text.specs.declared.script.Line.TheVariants.{Drain}
+use Rattle.replay_script.specs.declared.script.Line.TheVariants.{Drain}
 use Rattle.replay_run.specs.Kept.{BrokenOn, DoneOn, StoppedOn}
 use Rattle.replay_run.proofs.Broken.{drain-broken, later-itself}
 use Rattle.replay_run.proofs.Ended.{drain-cause, drain-fine, drain-short, fault-free, none-failed, over}

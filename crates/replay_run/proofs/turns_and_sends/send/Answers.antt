@@ -1,7 +1,7 @@
 use Rattle.std.proofs.Common.{◌≡◌, refl, rules, inl, inr}
 use Rattle.mrpc_base.specs.Faults.{HasCause}
 use Rattle.frame_transport.specs.Links.{IsLater, failures_of, sink_of, sink_name}
-use Rattle.script_text.specs.declared.script.Line.TheVariants.{Send}
+use Rattle.replay_script.specs.declared.script.Line.TheVariants.{Send}
 use Rattle.conn_core.specs.declared.answers.Sending.TheVariants as F
 use Rattle.replay_run.specs.Kept.{BrokenOn, DoneOn, StoppedOn}
 use Rattle.replay_run.proofs.Broken.{send-broken, later-itself}

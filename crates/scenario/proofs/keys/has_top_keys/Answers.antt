@@ -1,6 +1,6 @@
 use Rattle.std.proofs.Common.{refl, ◌∙◌, ap, []}
 use Rattle.toml.specs.View.{table_view}
-use Rattle.scenario_values.specs.Values.{has_keys}
+use Rattle.scenario_toml.specs.Values.{has_keys}
 use Rattle.scenario.proofs.SameKeys.{more}
 use Rattle.scenario.proofs.keys.has_top_keys.Goals as goal
 

@@ -1,5 +1,5 @@
 use Rattle.std.proofs.Common.{◌≡◌, sym, subst}
-use Rattle.proto_file.specs.declared.file.File.{File}
+use Rattle.proto_ast.specs.declared.file.File.{File}
 use Rattle.schema_resolve.specs.Resolving.{Resolves}
 use Rattle.scenario.proofs.schema.table_in.Goals as goal
 

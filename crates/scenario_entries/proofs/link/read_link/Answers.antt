@@ -4,7 +4,7 @@ use Rattle.scenario.specs.Applications.{LinkAgainst}
 use Rattle.scenario.specs.Keys.{end_a}
 use Rattle.scenario.specs.Reasons.{IsSoFar}
 use Rattle.scenario.specs.declared.fault.ScenarioReason.{ScenarioReason}
-use Rattle.scenario_values.specs.Values.{number_in}
+use Rattle.scenario_toml.specs.Values.{number_in}
 use Rattle.scenario_entries.specs.Ports.{link_first}
 use Rattle.scenario_entries.proofs.Linked.{link_is, link_keys_first, link_number_first}
 use Rattle.scenario_entries.proofs.link.read_link.Goals as goal

@@ -1,12 +1,12 @@
 use Rattle.std.proofs.Common.{List, ℕ, ap, sym, ◌∙◌, subst}
 use Rattle.std.proofs.lemmas.Result.{err_from_is_err_and}
 use Rattle.mrpc_table.specs.Lines.{words_of}
-use Rattle.script_words.specs.Lines.{AreSaid}
-use Rattle.script_words.specs.Meanings.{meanings_of}
-use Rattle.script_words.specs.declared.sort.Said.{Said}
-use Rattle.script_words.specs.declared.sort.Sort.{Sort}
+use Rattle.script_grammar.specs.Lines.{AreSaid}
+use Rattle.script_grammar.specs.Meanings.{meanings_of}
+use Rattle.script_grammar.specs.declared.sort.Said.{Said}
+use Rattle.script_grammar.specs.declared.sort.Sort.{Sort}
 use Rattle.scenario_lines.specs.Forms.{line_form, sorts_of}
-use Rattle.script_words.specs.Rests.{words_in}
+use Rattle.script_grammar.specs.Rests.{words_in}
 use Rattle.scenario_lines.specs.Lines.{IsNoPlace, WordsAgainst, behind, first_of, place_in}
 use Rattle.scenario_lines.specs.Reasons.{IsFirst}
 use Rattle.scenario_lines.proofs.LineReading.{alone_first, place_first, words_first}

@@ -2,9 +2,9 @@ use Rattle.std.proofs.Common.{List, ℕ, Option, ap, sym, ◌∙◌, subst}
 use Rattle.std.specs.Borrow.{Bor}
 use Rattle.std.proofs.lemmas.Result.{err_from_is_err_and}
 use Rattle.mrpc_table.specs.Lines.{words_of}
-use Rattle.script_words.specs.declared.sort.Sort.{Sort}
+use Rattle.script_grammar.specs.declared.sort.Sort.{Sort}
 use Rattle.scenario_lines.specs.Forms.{step_form}
-use Rattle.script_words.specs.Rests.{words_in}
+use Rattle.script_grammar.specs.Rests.{words_in}
 use Rattle.scenario_lines.specs.Lines.{WordsAgainst, behind, first_of}
 use Rattle.scenario_lines.specs.Reasons.{IsFirst}
 use Rattle.scenario_lines.proofs.StepReading.{words_first}

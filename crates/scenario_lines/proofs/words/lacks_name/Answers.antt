@@ -1,9 +1,9 @@
 use Rattle.std.proofs.Common.{◌≡◌, Bool, ◌||◌, ◌∷◌, Option, ◌∙◌, ap, sym, refl, true, false, subst, drop, get_or, List, ℕ}
 use Rattle.std.specs.Borrow.{Bor}
 use Rattle.mrpc_table.specs.Lines.{words_of}
-use Rattle.script_words.specs.declared.keyword.Keyword.TheVariants.{Access}
-use Rattle.script_words.specs.declared.sort.Sort.TheVariants.{Key}
-use Rattle.script_words.specs.Rests.{words_in}
+use Rattle.script_grammar.specs.declared.keyword.Keyword.TheVariants.{Access}
+use Rattle.script_grammar.specs.declared.sort.Sort.TheVariants.{Key}
+use Rattle.script_grammar.specs.Rests.{words_in}
 use Rattle.scenario_lines.specs.Judging.{is_no_name, lacks_name}
 use Rattle.scenario_lines.proofs.Walking.{lacks_end, lacks_more, lacks_short}
 use Rattle.scenario_lines.proofs.words.lacks_name.Goals as goal

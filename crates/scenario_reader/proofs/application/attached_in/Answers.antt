@@ -1,7 +1,7 @@
 use Rattle.std.proofs.Common.{◌≡◌, List, ℕ, map, ap, ◌∙◌, subst}
 use Rattle.std.specs.Borrow.{Bor}
 use Rattle.std.specs.Prelude.{IfOk, filter_map}
-use Rattle.policy_blocks.specs.Declarations.{policy_place}
+use Rattle.policy_declarations.specs.Declarations.{policy_place}
 use Rattle.scenario_reader.proofs.application.attached_in.Goals as goal
 
 pub returns : goal.returns

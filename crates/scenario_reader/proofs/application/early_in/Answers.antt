@@ -4,7 +4,7 @@ use Rattle.toml.specs.View.{table_view}
 use Rattle.scenario.specs.Applications.{conn_of, policy_tables, tenant_tables}
 use Rattle.scenario.specs.Keys.{heap}
 use Rattle.scenario.specs.Reasons.{IsSoFar}
-use Rattle.scenario_values.specs.Values.{number_in}
+use Rattle.scenario_toml.specs.Values.{number_in}
 use Rattle.scenario_reader.specs.Joining.{AppHeadFails, IsRoleRead}
 use Rattle.scenario_reader.proofs.Early.{early_is}
 use Rattle.scenario_reader.proofs.application.early_in.Goals as goal

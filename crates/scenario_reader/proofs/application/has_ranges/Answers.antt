@@ -1,7 +1,7 @@
 use Rattle.std.proofs.Common.{List, ◌≡◌, ◌∷◌, [], refl, ap, ◌∙◌}
 use Rattle.std.specs.List.{list_all}
 use Rattle.toml.specs.View.{table_view}
-use Rattle.scenario_values.specs.Values.{TheRange, is_within_at}
+use Rattle.scenario_toml.specs.Values.{TheRange, is_within_at}
 use Rattle.scenario_reader.proofs.application.has_ranges.Goals as goal
 
 more : (a b : TheRange) (xs ys : List TheRange) → a ≡ b → xs ≡ ys → a ∷ xs ≡ b ∷ ys

@@ -5,7 +5,7 @@ use Rattle.scenario.specs.Reasons.{IsSoFar, reason_if}
 use Rattle.scenario.specs.declared.fault.ScenarioReason.{ScenarioReason}
 use Rattle.scenario.specs.declared.fault.ScenarioReason.TheVariants.{Known}
 use Rattle.scenario_entries.specs.Ports.{has_port}
-use Rattle.scenario_policies.specs.Owning.{NamesAgainst}
+use Rattle.scenario_entries.specs.Owning.{NamesAgainst}
 use Rattle.scenario_reader.specs.Joining.{AppHeadFails}
 use Rattle.scenario_reader.proofs.FirstReason.{Flag, flag, joined}
 use Rattle.scenario_reader.proofs.Judging.{port_there}

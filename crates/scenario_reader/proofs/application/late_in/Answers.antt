@@ -7,7 +7,7 @@ use Rattle.mrpc_table.specs.Valid.{AreDistinct}
 use Rattle.run_plan.specs.declared.limits.TheConstants.{MAX_WORK}
 use Rattle.toml.specs.View.{table_view}
 use Rattle.scenario.specs.Applications.{all_ends, chain_of, conn_of, link_tables, policy_tables, tenant_tables}
-use Rattle.scenario_values.specs.Values.{text_at}
+use Rattle.scenario_toml.specs.Values.{text_at}
 use Rattle.scenario_reader.specs.Joining.{is_on_end, judges_otherwise}
 use Rattle.scenario_reader.specs.Walking.{AreOpsOf}
 use Rattle.scenario_reader.proofs.Early.{early_named}

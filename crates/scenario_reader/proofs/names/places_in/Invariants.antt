@@ -1,6 +1,6 @@
 use Rattle.std.proofs.Common.{◌≡◌, map, take}
 use Rattle.std.specs.Prelude.{filter_map}
-use Rattle.policy_blocks.specs.Declarations.{policy_place}
+use Rattle.policy_declarations.specs.Declarations.{policy_place}
 use Rattle.scenario_reader.proofs.names.places_in.Given as goal
 
 abbrev pub invariant-loop-name : goal.invariant-loop-name

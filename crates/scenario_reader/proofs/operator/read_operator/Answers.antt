@@ -1,6 +1,6 @@
 use Rattle.std.proofs.Common.{sym, ap, ◌∙◌}
 use Rattle.toml.specs.View.{table_view}
-use Rattle.scenario_values.specs.Values.{is_out}
+use Rattle.scenario_toml.specs.Values.{is_out}
 use Rattle.scenario_reader.proofs.Operating.{operator_number_first}
 use Rattle.scenario_reader.proofs.operator.read_operator.Goals as goal
 

@@ -7,7 +7,7 @@ use Rattle.scenario.specs.Applications.{operator_tables}
 use Rattle.scenario.specs.Reasons.{IsFirstReason}
 use Rattle.scenario.specs.declared.fault.ScenarioReason.{ScenarioReason}
 use Rattle.scenario_entries.specs.Entries.{views}
-use Rattle.scenario_policies.specs.Owning.{NamedFails}
+use Rattle.scenario_entries.specs.Owning.{NamedFails}
 use Rattle.scenario_reader.specs.Owning.{IsOwn, IsUsedIn}
 use Rattle.scenario_reader.proofs.Owning.{own_first, own_free, own_is}
 use Rattle.scenario_reader.proofs.own.own_policies.Goals as goal

@@ -2,7 +2,7 @@ use Rattle.std.proofs.Common.{◌++◌, ◌∷◌, [], ◌↔◌, ℕ, List, Vec
 use Rattle.std.specs.Borrow.{Bor}
 use Rattle.toml.specs.Data.{Members}
 use Rattle.toml.specs.View.{table_view}
-use Rattle.scenario_values.specs.Values.{TheRange, number_in}
+use Rattle.scenario_toml.specs.Values.{TheRange, number_in}
 use Rattle.scenario_entries.specs.Entries.{views}
 use Rattle.scenario_reader.specs.Owning.{IsUsedIn}
 use Rattle.scenario_reader.proofs.Listing.{views_all, views_more}

@@ -1,7 +1,7 @@
 use Rattle.std.proofs.Common.{ap, ◌∙◌}
 use Rattle.toml.specs.View.{table_view}
 use Rattle.scenario.specs.Applications.{all_ends, policy_tables, tenant_tables}
-use Rattle.scenario_values.specs.Values.{TheRange, number_in}
+use Rattle.scenario_toml.specs.Values.{TheRange, number_in}
 use Rattle.scenario_entries.specs.Entries.{views}
 use Rattle.scenario_reader.proofs.Below.{names_distinct}
 use Rattle.scenario_reader.proofs.reader.read_below.Goals as goal

@@ -1,7 +1,7 @@
 use Rattle.std.proofs.Common.{List, sym, ap, ◌∙◌, subst}
 use Rattle.std.proofs.lemmas.Result.{err_from_is_err_and}
 use Rattle.mrpc_table.specs.declared.table.Table.{Table}
-use Rattle.policy_blocks.specs.declared.item.Tenant.{Tenant}
+use Rattle.policy_declarations.specs.declared.item.Tenant.{Tenant}
 use Rattle.toml.specs.Data.{Members}
 use Rattle.toml.specs.View.{table_view}
 use Rattle.scenario.specs.Applications.{HasTable, tenant_tables}

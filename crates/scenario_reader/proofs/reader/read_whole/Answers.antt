@@ -1,7 +1,7 @@
 use Rattle.std.proofs.Common.{ap, ◌∙◌}
 use Rattle.std.proofs.lemmas.Result.{err_from_is_err_and}
 use Rattle.toml.specs.View.{table_view}
-use Rattle.scenario_values.specs.Values.{TheRange, number_in}
+use Rattle.scenario_toml.specs.Values.{TheRange, number_in}
 use Rattle.scenario_reader.proofs.Texts.{list_few}
 use Rattle.scenario_reader.proofs.reader.read_whole.Goals as goal
 

@@ -1,6 +1,6 @@
 use Rattle.std.proofs.Common.{◌≡◌, List, subst}
-use Rattle.proto_join.specs.Joining.{joined}
-use Rattle.proto_join.specs.declared.part.Part.{Part}
+use Rattle.proto_set.specs.Joining.{joined}
+use Rattle.proto_set.specs.declared.part.Part.{Part}
 use Rattle.schema_resolve.specs.Tables.{IsTableOf}
 use Rattle.schema_files.proofs.laws.one_files_table.Goals as goal
 

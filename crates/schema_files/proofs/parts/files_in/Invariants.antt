@@ -1,6 +1,6 @@
 use Rattle.std.proofs.Common.{◌≡◌, map}
 use Rattle.std.specs.Prelude.{Some}
-use Rattle.proto_imports.specs.declared.set.Member.{Member}
+use Rattle.proto_set.specs.declared.set.Member.{Member}
 use Rattle.schema_files.proofs.parts.files_in.Given as goal
 
 -- the files of the members so far

@@ -1,7 +1,7 @@
 use Rattle.std.proofs.Common.{◌≡◌, ◌<◌, ◌∙◌, ℕ, List, get_or, length, refl, sym, ap, subst, arith}
 use Rattle.std.specs.Prelude.{All}
 use Rattle.std.proofs.lemmas.Option.{same_Some}
-use Rattle.file_bundle.specs.Packed.{files_of}
+use Rattle.proto_set.specs.Packed.{files_of}
 use Rattle.schema_files.specs.Placing.{ArePlaces, ArePlaced}
 use Rattle.schema_files.proofs.Lists.{some_at}
 use Rattle.schema_files.proofs.Taken.{order_within, seen_within, taken_none, taken_more, as_many, some_members}

@@ -1,6 +1,6 @@
 use Rattle.std.proofs.Common.{◌≡◌, ◌<◌, length, arith}
 use Rattle.std.proofs.lemmas.Result.{err_from_is_err_and}
-use Rattle.file_bundle.specs.Packed.{files_of}
+use Rattle.proto_set.specs.Packed.{files_of}
 use Rattle.schema_files.proofs.TextsRead.{read_none, read_more, read_all, earlier_read, unread_fault}
 use Rattle.schema_files.proofs.Taken.{packed_here}
 use Rattle.schema_files.proofs.reading.members.Goals as goal

@@ -1,4 +1,4 @@
-use Rattle.file_bundle.specs.Packed.{files_of}
+use Rattle.proto_set.specs.Packed.{files_of}
 use Rattle.schema_files.proofs.TextsRead.{ReadBefore}
 use Rattle.schema_files.proofs.reading.members.Given as goal
 

@@ -1,8 +1,8 @@
 use Rattle.std.proofs.Common.{◌<◌, ◌∙◌, ℕ, List, length, ap, sym, subst}
-use Rattle.proto_file.specs.Together.{IsFormed, IsOrdered}
-use Rattle.proto_join.specs.Joining.{sizes_of}
-use Rattle.proto_join.specs.Texts.{IsInTextOf}
-use Rattle.proto_join.specs.declared.part.Part.{Part}
+use Rattle.proto_ast.specs.Together.{IsFormed, IsOrdered}
+use Rattle.proto_set.specs.Joining.{sizes_of}
+use Rattle.proto_set.specs.Texts.{IsInTextOf}
+use Rattle.proto_set.specs.declared.part.Part.{Part}
 use Rattle.schema_files.proofs.Standing.{found_first, if_some, not_behind, some_unless, stands_fault}
 use Rattle.schema_files.proofs.resolver.resolve_parts.Goals as goal
 

@@ -1,10 +1,10 @@
 use Rattle.std.proofs.Common.{◌<◌, ◌∙◌, List, length, sym, ap, subst, arith}
 use Rattle.std.proofs.lemmas.Result.{err_from_is_err_and}
-use Rattle.file_bundle.specs.Packed.{files_of}
-use Rattle.proto_imports.specs.Reaching.{HaveOwnPaths}
-use Rattle.proto_imports.specs.declared.set.Member.{Member}
-use Rattle.proto_join.specs.Joining.{joined}
-use Rattle.proto_join.specs.declared.part.Part.{Part}
+use Rattle.proto_set.specs.Packed.{files_of}
+use Rattle.proto_set.specs.Reaching.{HaveOwnPaths}
+use Rattle.proto_set.specs.declared.set.Member.{Member}
+use Rattle.proto_set.specs.Joining.{joined}
+use Rattle.proto_set.specs.declared.part.Part.{Part}
 use Rattle.schema_resolve.specs.Resolving.{ResolvesTogether}
 use Rattle.schema_files.specs.Joined.{ReadAs}
 use Rattle.schema_files.proofs.Sizes.{parts_most}

@@ -1,5 +1,5 @@
 use Rattle.std.proofs.Common.{◌≡◌, take}
-use Rattle.proto_join.specs.Joining.{sizes_of}
+use Rattle.proto_set.specs.Joining.{sizes_of}
 use Rattle.schema_files.proofs.resolver.sizes.Given as goal
 
 -- the sizes of the linked files so far

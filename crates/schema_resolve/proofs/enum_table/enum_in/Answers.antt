@@ -1,9 +1,9 @@
 use Rattle.std.proofs.Common.{◌≡◌, ◌∙◌, ◌<◌, [], sym, ap, subst, ℕ, List, length, arith, All, map}
 use Rattle.std.specs.Prelude.{FitsSigned}
 use Rattle.std.specs.Int.{w32}
-use Rattle.proto_file.specs.declared.file.ValueDecl.{ValueDecl}
+use Rattle.proto_ast.specs.declared.file.ValueDecl.{ValueDecl}
 use Rattle.mrpc_table.specs.Valid.{AreDistinct}
-use Rattle.schema_offences.specs.Types.{value_of}
+use Rattle.schema_validation.specs.Types.{value_of}
 use Rattle.std.specs.Prelude.{ℤ}
 use Rattle.std.specs.Borrow.{Bor}
 use Rattle.std.proofs.lemmas.List.{get_or_default}

@@ -1,7 +1,7 @@
 use Rattle.std.proofs.Common.{◌<◌, ℕ, List, length, subst, sym}
 use Rattle.std.proofs.lemmas.Option.{slice_get_within}
 use Rattle.mrpc_table.specs.declared.table.Label.{Label}
-use Rattle.schema_offences.specs.Types.{HasForm}
+use Rattle.schema_validation.specs.Types.{HasForm}
 use Rattle.schema_resolve.proofs.CleanFiles.{scope_at, message_file}
 use Rattle.schema_resolve.proofs.FieldTables.{has_form, has_number}
 use Rattle.schema_resolve.proofs.field_table.judge_field.Goals as goal

@@ -1,4 +1,4 @@
-use Rattle.proto_file.specs.Joined.{alone}
+use Rattle.proto_ast.specs.Joined.{alone}
 use Rattle.schema_resolve.proofs.OneOffence.{one_offence_of}
 use Rattle.schema_resolve.proofs.laws.one_offence.Goals as goal
 

@@ -1,5 +1,5 @@
-use Rattle.proto_file.specs.Joined.{alone}
-use Rattle.schema_offences.specs.Offences.{offends}
+use Rattle.proto_ast.specs.Joined.{alone}
+use Rattle.schema_validation.specs.Offences.{offends}
 use Rattle.schema_resolve.proofs.TableExists.{table_exists, none_of_all, no_offence}
 use Rattle.schema_resolve.proofs.laws.table_or_offence.Goals as goal
 

@@ -2,13 +2,13 @@ use Rattle.std.proofs.Common.{◌≡◌, ◌∙◌, ◌<◌, ◌≤◌, refl, sy
 use Rattle.std.specs.Prelude.{slice_get, Some, Contains}
 use Rattle.std.proofs.lemmas.Option.{slice_get_read}
 use Rattle.std.proofs.lemmas.List.{get_or_default, take_all}
-use Rattle.proto_file.specs.Order.{IsPlaceBelow}
-use Rattle.proto_file.specs.declared.file.Word.{Word}
-use Rattle.proto_file.specs.declared.file.MessageDecl.{MessageDecl}
+use Rattle.proto_ast.specs.Order.{IsPlaceBelow}
+use Rattle.proto_ast.specs.declared.file.Word.{Word}
+use Rattle.proto_ast.specs.declared.file.MessageDecl.{MessageDecl}
 use Rattle.schema_resolve.specs.Judged.{IsJudged, AreJudged}
 use Rattle.schema_resolve.specs.Joining.{AreMade}
 use Rattle.schema_resolve.specs.declared.field_table.Judged.{Judged}
-use Rattle.proto_file.specs.Joined.{Joined}
+use Rattle.proto_ast.specs.Joined.{Joined}
 use Rattle.schema_resolve.specs.Resolving.{IsClean}
 use Rattle.schema_resolve.proofs.CleanFiles.{item_at, in_list}
 use Rattle.schema_resolve.proofs.MessageTables.{made_none, made_more, judged_plain, judged_known, judged_oneof, few_fields, message_at}

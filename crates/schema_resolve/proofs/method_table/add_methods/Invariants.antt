@@ -1,6 +1,6 @@
 use Rattle.std.proofs.Common.{map, take, List, ◌++◌}
-use Rattle.proto_file.specs.declared.file.ServiceDecl.{ServiceDecl}
-use Rattle.proto_file.specs.declared.file.RpcDecl.{RpcDecl}
+use Rattle.proto_ast.specs.declared.file.ServiceDecl.{ServiceDecl}
+use Rattle.proto_ast.specs.declared.file.RpcDecl.{RpcDecl}
 use Rattle.schema_resolve.specs.InOrder.{AreMethods}
 use Rattle.schema_resolve.proofs.method_table.add_methods.Given as goal
 

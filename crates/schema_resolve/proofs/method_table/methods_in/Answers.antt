@@ -1,7 +1,7 @@
 use Rattle.std.proofs.Common.{◌<◌, sym, ap, subst, length, arith, ◌++◌}
-use Rattle.proto_file.specs.Together.{IsOrdered}
-use Rattle.proto_file.specs.Joined.{Joined}
-use Rattle.schema_offences.specs.Methods.{service_rpcs}
+use Rattle.proto_ast.specs.Together.{IsOrdered}
+use Rattle.proto_ast.specs.Joined.{Joined}
+use Rattle.schema_validation.specs.Methods.{service_rpcs}
 use Rattle.schema_resolve.specs.Resolving.{IsClean}
 use Rattle.schema_resolve.specs.InOrder.{AreMethods}
 use Rattle.schema_resolve.proofs.CleanFiles.{item_at}

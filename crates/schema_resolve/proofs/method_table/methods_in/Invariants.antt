@@ -1,6 +1,6 @@
 use Rattle.std.proofs.Common.{take}
 use Rattle.std.specs.List.{flat_map}
-use Rattle.schema_offences.specs.Methods.{service_rpcs}
+use Rattle.schema_validation.specs.Methods.{service_rpcs}
 use Rattle.schema_resolve.specs.InOrder.{AreMethods}
 use Rattle.schema_resolve.proofs.method_table.methods_in.Given as goal
 

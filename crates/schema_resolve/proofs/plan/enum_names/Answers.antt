@@ -1,5 +1,5 @@
 use Rattle.std.proofs.Common.{◌∙◌, ◌+◌, ◌<◌, length, ap, subst, sym, arith, ℕ, length-append}
-use Rattle.proto_file.specs.declared.joined.Home.{Home}
+use Rattle.proto_ast.specs.declared.joined.Home.{Home}
 use Rattle.schema_resolve.specs.Placing.{behind, front_of, IsPlaceAmong}
 use Rattle.schema_resolve.proofs.CleanFiles.{item_at, enums_more, enum_parent_known}
 use Rattle.schema_resolve.proofs.plan.enum_names.Goals as goal

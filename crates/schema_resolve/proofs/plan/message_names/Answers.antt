@@ -1,5 +1,5 @@
 use Rattle.std.proofs.Common.{◌∙◌, ◌+◌, ◌<◌, length, ap, subst, sym, arith, ℕ, List, length-append}
-use Rattle.proto_file.specs.declared.joined.Home.{Home}
+use Rattle.proto_ast.specs.declared.joined.Home.{Home}
 use Rattle.schema_resolve.specs.Placing.{behind, front_of, IsPlaceAmong}
 use Rattle.schema_resolve.proofs.CleanFiles.{item_at, messages_more, parent_known}
 use Rattle.schema_resolve.proofs.plan.message_names.Goals as goal

@@ -1,5 +1,5 @@
 use Rattle.std.proofs.Common.{sym, subst}
-use Rattle.schema_offences.specs.Offences.{FirstIs}
+use Rattle.schema_validation.specs.Offences.{FirstIs}
 use Rattle.schema_resolve.specs.Resolving.{IsFaultOfAll}
 use Rattle.schema_resolve.proofs.Answering.{stands_behind}
 use Rattle.schema_resolve.proofs.resolved.resolve_together.Goals as goal

@@ -1,7 +1,7 @@
 use Rattle.std.proofs.Common.{◌≡◌, ◌∙◌, sym, subst}
-use Rattle.proto_file.specs.Joined.{Joined, alone}
-use Rattle.proto_file.specs.Together.{IsFormed, IsOrdered}
-use Rattle.schema_offences.specs.Offences.{offends}
+use Rattle.proto_ast.specs.Joined.{Joined, alone}
+use Rattle.proto_ast.specs.Together.{IsFormed, IsOrdered}
+use Rattle.schema_validation.specs.Offences.{offends}
 use Rattle.schema_resolve.specs.Tables.{IsTableOf}
 use Rattle.schema_resolve.specs.Resolving.{IsClean}
 use Rattle.schema_resolve.proofs.Answering.{stands_behind, is_alone}

@@ -1,5 +1,5 @@
 use Rattle.std.proofs.Common.{take}
-use Rattle.schema_offences.specs.Those.{AreThoseInOrder}
+use Rattle.schema_validation.specs.Those.{AreThoseInOrder}
 use Rattle.schema_resolve.specs.InOrder.{IsEnumAt}
 use Rattle.schema_resolve.proofs.table.enums_in.Given as goal
 

@@ -1,7 +1,7 @@
 use Rattle.std.proofs.Common.{ℕ, ◌+◌, ◌<◌, List, length, drop, ap, arith, length-append}
 use Rattle.std.proofs.lemmas.Result.{err_from_is_err_and}
 use Rattle.frame_transport.specs.Standing.{frame_of}
-use Rattle.frame_reading.specs.Faults.{IsFaultIn, IsFaultOfFront, of_front, of_frame}
+use Rattle.frame_view.specs.Faults.{IsFaultIn, IsFaultOfFront, of_front, of_frame}
 use Rattle.script_view.specs.Unplayable.{IsUnplayable}
 use Rattle.script_view.specs.Walks.{StopsHere, at_fault, unplayable, made_by}
 use Rattle.script_view.specs.declared.limits.TheConstants.{MAX_BODY}

@@ -1,6 +1,6 @@
 use Rattle.std.proofs.Common.{ℕ, ◌+◌, ◌*◌, ◌<◌, max, IsTrue, length, ap, subst, ◌∙◌, arith, rules}
 use Rattle.frame_transport.specs.Standing.{frame_of}
-use Rattle.script_text.specs.declared.limits.TheConstants.{MAX_WORK}
+use Rattle.replay_script.specs.declared.limits.TheConstants.{MAX_WORK}
 use Rattle.script_view.specs.Playing.{call_lines}
 use Rattle.script_view.specs.Unplayable.{IsUnplayable, too_much}
 use Rattle.script_view.specs.Walks.{plays_call, made_by}

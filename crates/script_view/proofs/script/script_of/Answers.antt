@@ -1,5 +1,5 @@
 use Rattle.std.proofs.Common.{ℕ, List}
-use Rattle.frame_reading.specs.Input.{IsTextFault}
+use Rattle.frame_view.specs.Input.{IsTextFault}
 use Rattle.script_view.specs.Scripts.{HasStop, in_text, in_stream}
 use Rattle.script_view.proofs.Making.{WalkLaw, on_fault, if_fault, script_whole}
 use Rattle.script_view.proofs.script.script_of.Goals as goal

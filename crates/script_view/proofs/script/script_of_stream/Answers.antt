@@ -1,6 +1,6 @@
 use Rattle.std.proofs.Common.{◌≡◌, ℕ, ◌≤◌, ◌++◌, List, length, ap, subst, ◌∙◌}
 use Rattle.std.proofs.lemmas.Result.{IfErr-weaker, IfOk-weaker}
-use Rattle.frame_reading.specs.Faults.{OnFault}
+use Rattle.frame_view.specs.Faults.{OnFault}
 use Rattle.script_view.specs.Scripts.{nothing_made, script_text}
 use Rattle.script_view.specs.Unplayable.{Made}
 use Rattle.script_view.specs.Walks.{Plays, StopsAt, made_by}

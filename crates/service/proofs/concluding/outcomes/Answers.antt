@@ -1,7 +1,7 @@
 use Rattle.std.proofs.Common.{◌≡◌, List, [], ◌∷◌, ◌++◌, ◌+◌, ◌∙◌, ap, append_assoc, append-nil, arith, length, map, sym}
 use Rattle.std.specs.Vec.Iter.{into_iter_items, into_iter_len}
 use Rattle.tenant_quota.specs.Drawing.{Drawing}
-use Rattle.service_run.specs.declared.meeting.Met.{Met}
+use Rattle.service_threads.specs.declared.meeting.Met.{Met}
 use Rattle.service.specs.Concluding.{left_of, outcomes_of}
 use Rattle.service.proofs.Ending.{at-end, empty-list}
 use Rattle.service.proofs.concluding.outcomes.Goals as goal

@@ -1,7 +1,7 @@
 use Rattle.std.proofs.Common.{◌≡◌, ◌∙◌, Ok, true, false, ap, sym, subst}
 use Rattle.mrpc_table.specs.Valid.{IsValid}
 use Rattle.mrpc_table.specs.declared.table.Table.{Table}
-use Rattle.link_greeting.specs.Greeting.{hello_of}
+use Rattle.link_handshake.specs.Greeting.{hello_of}
 use Rattle.service.proofs.Apps.{app-found, app-number, app-there, lent-there, valid-table}
 use Rattle.service.proofs.Hellos.{cause-of, said-by}
 use Rattle.service.proofs.greeting.introduce.Goals as goal

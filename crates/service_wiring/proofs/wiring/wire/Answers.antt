@@ -10,9 +10,9 @@ use Rattle.descriptor_ring.specs.declared.limits.TheConstants.{MAX_CAPACITY}
 use Rattle.tenant_quota.specs.Drawing.{Drawing}
 use Rattle.link_queue.specs.Queueing.{Queueing}
 use Rattle.conn_core.specs.Connections.{Connection}
-use Rattle.deliveries.specs.Arriving.{AreSame}
-use Rattle.deliveries.specs.Telling.{number_ring_of, ring_of}
-use Rattle.deliveries.specs.declared.arrivals.Arrivals.{Arrivals}
+use Rattle.message_delivery.specs.Arriving.{AreSame}
+use Rattle.message_delivery.specs.Telling.{number_ring_of, ring_of}
+use Rattle.message_delivery.specs.declared.arrivals.Arrivals.{Arrivals}
 use Rattle.run_plan.specs.Plans.{HasProgram}
 use Rattle.service_loop.specs.Delivering.{HaveDelivered}
 use Rattle.service_loop.specs.Rounds.{IsNewShare}

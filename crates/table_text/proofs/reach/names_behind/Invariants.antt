@@ -1,7 +1,7 @@
 -- The names of the lines so far are kept.
 use Rattle.std.proofs.Common.{length, []}
 use Rattle.std.specs.List.{filter_map}
-use Rattle.table_lines.specs.Lines.{behind}
+use Rattle.table_text.specs.Lines.{behind}
 use Rattle.table_text.proofs.NamesLemmas.{NamesSoFar}
 use Rattle.table_text.proofs.reach.names_behind.Given as goal
 

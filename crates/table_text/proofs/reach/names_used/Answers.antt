@@ -1,5 +1,5 @@
 use Rattle.std.proofs.Common.{[], refl}
-use Rattle.table_lines.specs.Lines.{line_of}
+use Rattle.table_text.specs.Lines.{line_of}
 use Rattle.table_text.specs.Reach.{used_in, used_by_line}
 use Rattle.table_text.proofs.NamesLemmas.{names_none, names_first, names_end}
 use Rattle.table_text.proofs.reach.names_used.Goals as goal

@@ -2,7 +2,7 @@ use Rattle.std.proofs.Common.{refl}
 use Rattle.std.specs.Prelude.{option_to_list}
 use Rattle.std.specs.List.{filter_map}
 use Rattle.mrpc_table.specs.Lines.{whole_lines}
-use Rattle.table_lines.specs.Lines.{behind}
+use Rattle.table_text.specs.Lines.{behind}
 use Rattle.table_text.specs.Reach.{used_behind}
 use Rattle.table_text.proofs.NamesLemmas.{names_none, names_first, names_end, filtered_first}
 use Rattle.table_text.proofs.ReachLemmas.{nothing_kept}

@@ -2,7 +2,7 @@
 use Rattle.std.proofs.Common.{ℕ, List, length}
 use Rattle.std.specs.List.{filter_map}
 use Rattle.mrpc_table.specs.Lines.{whole_lines}
-use Rattle.table_lines.specs.Lines.{behind}
+use Rattle.table_text.specs.Lines.{behind}
 use Rattle.table_text.specs.Places.{Holds}
 use Rattle.table_text.specs.Reach.{used_behind}
 use Rattle.table_text.proofs.NamesLemmas.{NamesSoFar}

@@ -1,7 +1,7 @@
 use Rattle.std.proofs.Common.{◌++◌, ◌∙◌, ℕ, List, [], map, subst, IsPermutation}
 use Rattle.std.proofs.lemmas.List.Sorted.{length_permutation, IsPermutation-sym}
 use Rattle.mem_fabric.specs.Pair.{ArePair, PairEnd}
-use Rattle.scenario_run.specs.Running.{link_of}
+use Rattle.run_driver.specs.Running.{link_of}
 use Rattle.tests_runs.proofs.Meeting.{are_two_moved, pairs_are_two}
 use Rattle.tests_runs.proofs.meetings.run_over.Goals as goal
 

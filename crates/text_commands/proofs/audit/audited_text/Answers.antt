@@ -1,5 +1,5 @@
 use Rattle.std.proofs.Common.{◌∙◌, ap}
-use Rattle.script_words.specs.Reasons.{reason_word}
+use Rattle.script_grammar.specs.Reasons.{reason_word}
 use Rattle.text_commands.proofs.Audited.{front_fault}
 use Rattle.text_commands.proofs.audit.audited_text.Goals as goal
 

@@ -1,7 +1,7 @@
 use Rattle.std.proofs.Common.{◌∙◌, ℕ, ◌+◌, ◌<◌, ◌^◌, List, length, ap, sym, subst, arith}
 use Rattle.std.specs.Prelude.{sum_by}
-use Rattle.file_bundle.specs.Packed.{files_of}
-use Rattle.file_bundle.specs.declared.packed.Packed.{Packed}
+use Rattle.proto_set.specs.Packed.{files_of}
+use Rattle.proto_set.specs.declared.packed.Packed.{Packed}
 use Rattle.schema_files.specs.Reason.{files_word}
 use Rattle.schema_files.specs.Resolving.{FilesResolve}
 use Rattle.text_commands.specs.Checking.ChecksAs.{a_set}

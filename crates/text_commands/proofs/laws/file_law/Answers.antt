@@ -1,4 +1,4 @@
-use Rattle.proto_file.specs.Joined.{alone}
+use Rattle.proto_ast.specs.Joined.{alone}
 use Rattle.text_commands.proofs.laws.file_law.Goals as goal
 
 pub returns : goal.returns

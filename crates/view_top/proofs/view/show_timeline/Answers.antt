@@ -1,7 +1,7 @@
 use Rattle.std.proofs.Common.{List, ℕ, subst, ◌∙◌}
 use Rattle.std.proofs.lemmas.Result.{on_ok_weaker, IfErr-weaker}
 use Rattle.std.specs.Io.KnownBytes.{Appends}
-use Rattle.timeline.specs.Plain.{IsPlain}
+use Rattle.view_top.specs.Plain.{IsPlain}
 use Rattle.view_top.specs.Views.{Cuts}
 use Rattle.view_top.specs.declared.view.View.TheVariants.{Timeline}
 use Rattle.view_top.proofs.Stops.{out_alone}

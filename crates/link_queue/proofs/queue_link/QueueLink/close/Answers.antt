@@ -1,8 +1,8 @@
 use Rattle.std.proofs.Common.{◌≡◌, ◌<◌, ℕ, true, rules, ap, sym, subst, ◌∙◌}
-use Rattle.one_way_queue.specs.Ends.{put_of}
+use Rattle.spsc_queue.specs.Ends.{put_of}
 use Rattle.link_queue.specs.declared.marks.Order.TheVariants.{Close}
 use Rattle.link_queue.specs.declared.marks.Health.TheVariants.{Failed}
-use Rattle.one_way_queue.specs.Pieces.{frames_of}
+use Rattle.spsc_queue.specs.Pieces.{frames_of}
 use Rattle.link_queue.specs.Marks.{is_closed}
 use Rattle.link_queue.proofs.Pieces.{closed_snoc_close, frames_snoc_mark}
 use Rattle.link_queue.proofs.queue_link.QueueLink.close.Goals as goal

@@ -1,6 +1,6 @@
 use Rattle.std.proofs.Common.{List, ℕ, refl, ap, subst}
 use mathlib.Core.List.{IsPrefix}
-use Rattle.one_way_queue.specs.Readers.{given_by, taken_by, told_by}
+use Rattle.spsc_queue.specs.Readers.{given_by, taken_by, told_by}
 use Rattle.link_queue.specs.declared.marks.News.TheVariants.{End, Failed}
 use Rattle.link_queue.proofs.Pieces.{found_among, found_too, finds_all}
 use Rattle.link_queue.proofs.queue_link.QueueLink.read.Goals as goal

@@ -1,5 +1,5 @@
 use Rattle.std.proofs.Common.{◌≡◌, Some}
-use Rattle.one_way_queue.specs.Ends.{put_of}
+use Rattle.spsc_queue.specs.Ends.{put_of}
 use Rattle.link_queue.proofs.Writing.{held_was_put}
 use Rattle.link_queue.proofs.writer.QueueWriter.bring.Goals as goal
 

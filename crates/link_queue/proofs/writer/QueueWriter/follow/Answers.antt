@@ -1,6 +1,6 @@
 use Rattle.std.proofs.Common.{◌≡◌, ◌≢◌, [], ◌∷◌, ◌++◌, rules}
-use Rattle.one_way_queue.specs.declared.piece.Piece.TheVariants.{Bytes, Mark}
-use Rattle.one_way_queue.specs.Ends.{put_of, taken_of}
+use Rattle.spsc_queue.specs.declared.piece.Piece.TheVariants.{Bytes, Mark}
+use Rattle.spsc_queue.specs.Ends.{put_of, taken_of}
 use Rattle.link_queue.specs.declared.marks.Order.TheVariants.{Finish, Close}
 use Rattle.link_queue.specs.declared.marks.Health.TheVariants.{Working}
 use Rattle.link_queue.specs.Inners.{passed_on}

@@ -1,4 +1,4 @@
-use Rattle.one_way_queue.specs.Ends.{put_of}
+use Rattle.spsc_queue.specs.Ends.{put_of}
 use Rattle.link_queue.proofs.Writing.{news_was_told}
 use Rattle.link_queue.proofs.writer.QueueWriter.put_news.Goals as goal
 

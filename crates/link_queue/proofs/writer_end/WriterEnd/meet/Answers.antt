@@ -1,9 +1,9 @@
 use Rattle.std.proofs.Common.{List, ℕ, ap, sym, ◌∙◌, subst}
 use mathlib.Core.List.{IsPrefix}
-use Rattle.one_way_queue.specs.declared.piece.Piece.{Piece}
-use Rattle.one_way_queue.specs.Ends.{put_of, taken_of}
-use Rattle.one_way_queue.specs.Pieces.{bytes_of}
-use Rattle.one_way_queue.specs.Readers.{given_by, taken_by}
+use Rattle.spsc_queue.specs.declared.piece.Piece.{Piece}
+use Rattle.spsc_queue.specs.Ends.{put_of, taken_of}
+use Rattle.spsc_queue.specs.Pieces.{bytes_of}
+use Rattle.spsc_queue.specs.Readers.{given_by, taken_by}
 use Rattle.link_queue.specs.declared.marks.Order.{Order}
 use Rattle.link_queue.specs.declared.marks.News.{News}
 use Rattle.link_queue.specs.Inners.{passed_on}

@@ -1,5 +1,5 @@
 use Rattle.std.proofs.Common.{ap, refl, sym, subst, false, ◌∙◌}
-use Rattle.one_way_queue.specs.Pieces.{bytes_of, frames_of}
+use Rattle.spsc_queue.specs.Pieces.{bytes_of, frames_of}
 use Rattle.mem_fabric.specs.Pair.{IsOutgoing}
 use Rattle.mem_fabric.proofs.pair_link.PairLink.new.Goals as goal
 

@@ -1,5 +1,5 @@
 use Rattle.std.proofs.Common.{ap, sym, subst, refl, ◌∙◌}
-use Rattle.one_way_queue.specs.Readers.{given_by, taken_by, told_by}
+use Rattle.spsc_queue.specs.Readers.{given_by, taken_by, told_by}
 use Rattle.mem_fabric.specs.Pair.{IsOutgoing}
 use Rattle.mem_fabric.proofs.Outgoing.{ends_with_all, finds_all}
 use Rattle.mem_fabric.proofs.pair_link.PairLink.read.Goals as goal

@@ -1,6 +1,6 @@
 use Rattle.std.proofs.Common.{◌∷◌, ◌++◌, [], false, ap, refl, sym, subst, ◌∙◌}
-use Rattle.one_way_queue.specs.Ends.{put_of}
-use Rattle.one_way_queue.specs.Pieces.{frames_of}
+use Rattle.spsc_queue.specs.Ends.{put_of}
+use Rattle.spsc_queue.specs.Pieces.{frames_of}
 use Rattle.mem_fabric.specs.Pair.{IsOutgoing}
 use Rattle.mem_fabric.proofs.Causes.{failed_cause, no_cause}
 use Rattle.mem_fabric.proofs.Outgoing.{frames_snoc_bytes, outgoing_frame}

@@ -2,7 +2,7 @@ use Rattle.std.proofs.Common.{◌∙◌, ◌<◌, ◌++◌, ◌∷◌, [], refl,
 use Rattle.std.specs.Prelude.{Some}
 use Rattle.std.specs.Vec.{with_item}
 use Rattle.std.proofs.lemmas.Option.{slice_get_read, slice_get_within}
-use Rattle.proto_file.specs.declared.file.Word.{Word}
+use Rattle.proto_ast.specs.declared.file.Word.{Word}
 use Rattle.schema_resolve.specs.Joining.{IsPlacedOneof, met_before, next_one}
 use Rattle.schema_resolve.proofs.OneofTables.{keeps_more}
 use Rattle.schema_resolve.proofs.oneof_table.Oneofs.place_of.Goals as goal

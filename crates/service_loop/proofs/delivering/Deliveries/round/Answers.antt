@@ -1,6 +1,6 @@
 use Rattle.std.proofs.Common.{◌++◌, ap, sym, ◌∙◌, subst}
 use Rattle.receive_core.specs.Life.{fated}
-use Rattle.deliveries.specs.declared.arrivals.Arrivals.{Arrivals}
+use Rattle.message_delivery.specs.declared.arrivals.Arrivals.{Arrivals}
 use Rattle.service_loop.specs.Delivering.{CountsAsEnded}
 use Rattle.service_loop.specs.declared.delivering.Deliveries.{Deliveries}
 use Rattle.service_loop.proofs.Delivered.{cause-as, ended-later, gone}

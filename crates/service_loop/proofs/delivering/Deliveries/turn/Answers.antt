@@ -1,5 +1,5 @@
 use Rattle.std.proofs.Common.{[], subst, ◌≤◌}
-use Rattle.deliveries.specs.Arriving.{IfDelivered}
+use Rattle.message_delivery.specs.Arriving.{IfDelivered}
 use Rattle.service_loop.specs.Delivering.{messages_of}
 use Rattle.service_loop.proofs.Delivered.{fated-none, open-later, room-for-one, turned-delivered, turned-dropped, turned-nothing}
 use Rattle.service_loop.proofs.delivering.Deliveries.turn.Goals as goal

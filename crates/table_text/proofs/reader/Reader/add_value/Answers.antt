@@ -5,7 +5,7 @@ use Rattle.table_text.specs.Places.{Holds}
 use Rattle.table_text.specs.Drafts.{open_part, names_in, with_value}
 use Rattle.table_text.specs.declared.draft.Open.{Open}
 use Rattle.table_text.specs.declared.draft.Open.TheVariants as open_parts
-use Rattle.table_lines.specs.declared.line.Whole.TheVariants.{Within}
+use Rattle.table_text.specs.declared.line.Whole.TheVariants.{Within}
 use Rattle.table_text.proofs.KeptLemmas.{kept_value}
 use Rattle.table_text.proofs.reader.Reader.add_value.Goals as goal
 

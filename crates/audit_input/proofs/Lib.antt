@@ -1,4 +1,0 @@
-mod InputReading
-mod OneInput
-mod Runs
-mod TextLines

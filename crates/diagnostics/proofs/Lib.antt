@@ -1,0 +1,5 @@
+mod Plain
+mod Pointed
+mod Rows
+mod Saying
+mod SpanRows

@@ -1,0 +1,15 @@
+mod Bound
+mod Counted
+mod Drilled
+mod Fates
+mod Growing
+mod Holding
+mod Itself
+mod Planned
+mod Policies
+mod Programs
+mod Promises
+mod DrillSchema
+mod Streams
+mod Told
+mod Unbound

@@ -1,4 +1,0 @@
-pub mod Counting
-pub mod Holding
-pub mod Meeting
-pub mod Runs

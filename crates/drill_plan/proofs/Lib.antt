@@ -1,4 +1,0 @@
-mod Growing
-mod Policies
-mod Programs
-mod Promises

@@ -1,7 +1,0 @@
-use Rattle.std.proofs.Common.{◌≡◌}
-use Rattle.std.specs.List.{flat_map, range_with_len}
-use Rattle.drill_plan.specs.Drill.{call_lines}
-use Rattle.drill_plan.proofs.application.program.Given as goal
-
-abbrev pub invariant-loop-before : goal.invariant-loop-before
-invariant-loop-before l = l.lines ≡ flat_map (call_lines l.calls l.number) (range_with_len 1 l.before)

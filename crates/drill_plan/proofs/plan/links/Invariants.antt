@@ -1,8 +1,0 @@
-use Rattle.std.proofs.Common.{◌≡◌}
-use Rattle.std.specs.Prelude.{map}
-use Rattle.std.specs.List.{range_with_len}
-use Rattle.drill_plan.specs.Drill.{link_of}
-use Rattle.drill_plan.proofs.plan.links.Given as goal
-
-abbrev pub invariant-loop-before : goal.invariant-loop-before
-invariant-loop-before l = l.pairs ≡ map link_of (range_with_len 1 l.before)

@@ -1,9 +1,0 @@
-use Rattle.std.proofs.Common.{rules}
-use Rattle.frame_reading.specs.Faults.{IsFaultIn, no_method}
-use Rattle.frame_transport.specs.Standing.{frame_of}
-use Rattle.frame_reading.proofs.OnFaults.{on_fault}
-use Rattle.frame_reading.proofs.content.content_of.Goals as goal
-
-pub returns-then-len-frame-clause-fault : goal.returns-then-len-frame-clause-fault
-returns-then-len-frame-clause-fault c =
-    on_fault _ (IsFaultIn c.args.table.now (frame_of c.args.frame.now)) _ (λ place word is. no_method (search rules) (search rules) is.0 is.1) c.at.ensures.is

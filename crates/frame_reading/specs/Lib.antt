@@ -1,4 +1,0 @@
-pub mod Contents
-pub mod Faults
-pub mod Input
-pub mod Walks

@@ -1,0 +1,16 @@
+use Rattle.std.proofs.Common.{◌≡◌, ℕ, List, ◌+◌, ◌∙◌, arith}
+use Rattle.frame_view.specs.Input.{IsFaultOfTable}
+use Rattle.frame_view.proofs.OnFaults.{on_fault}
+use Rattle.frame_view.proofs.head.read_lines.Goals as goal
+
+pub overflow_add-line : goal.overflow_add-line
+overflow_add-line c =
+    let first = rw c.in-Err-At.field-0-is at c.in-Err-At.ensures.fault in
+    omega (arith, c.one_fault.ensures.place c.args.text.now c.in-Err-At.line c.in-Err-At.reason first)
+
+pub returns-in-Err-At-clause-fault : goal.returns-in-Err-At-clause-fault
+returns-in-Err-At-clause-fault c =
+    let first = rw c.in-Err-At.field-0-is at c.in-Err-At.ensures.fault in
+    on_fault (λ (place : ℕ) (word : List ℕ). (place ≡ c.in-Err-At.line + 2) × (word ≡ c.word.result.now)) (IsFaultOfTable c.args.text.now) c.at.result
+    (λ place word told. record { at = c.in-Err-At.line; reason = c.in-Err-At.reason; first = first; line_is = told.0; word_is = told.1 ∙ c.word.ensures })
+    c.at.ensures.is

@@ -1,5 +1,0 @@
-mod Bytes
-mod Kept
-mod Rows
-mod Short
-mod Slots

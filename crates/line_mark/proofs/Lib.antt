@@ -1,2 +1,0 @@
-mod Pointed
-mod Rows

@@ -1,6 +1,0 @@
-use Rattle.std.proofs.Common.{◌≡◌, ◌++◌}
-use Rattle.message_text.specs.Lines.{indent}
-use Rattle.message_text.proofs.lines.put_indent.Given as goal
-
-abbrev pub invariant-loop-level : goal.invariant-loop-level
-invariant-loop-level l = l.out ≡ l.fn.out ++ indent l.level

@@ -1,5 +1,0 @@
-use Rattle.one_way_queue.proofs.Moves.{counts}
-use Rattle.one_way_queue.proofs.producer.Producer.len.Goals as goal
-
-pub len_as-requires-clause-rule : goal.len_as-requires-clause-rule
-len_as-requires-clause-rule g c = counts _ _ c.args.self.now.puts

@@ -1,8 +1,0 @@
-mod Lists
-mod First
-mod Lines
-mod Policies
-mod Own
-mod Applications
-mod Operators
-mod Whole

@@ -1,0 +1,96 @@
+//! Backoff of a thread that polls and finds nothing to do.
+//!
+//! The thread yields a few times first, to react quickly. Then it sleeps, twice as long each time up to a limit, to
+//! cost little when idle. Nobody wakes a sleeper, since each sleep is short. It depends on the standard library alone.
+//! The layers above use one contract: which step of the backoff comes next. No clause is about time.
+
+ghost use Rattle.std.specs.Prelude.{◌≡◌, ◌<◌, ◌≤◌, ◌+◌, ◌*◌, min};
+ghost use Rattle.polling.specs.declared.backoff.TheConstants.{FIRST_SLEEP, LONGEST_SLEEP, MOST_YIELDS};
+
+use std::sync::Wait;
+use std::sync::atomic::AtomicU64;
+use std::thread;
+use std::time::Duration;
+
+/// How many times in a row a thread yields before it sleeps.
+pub const MOST_YIELDS: u32 = 8;
+
+/// The first sleep after the yields, in microseconds. Each further sleep is twice as long, up to the longest.
+pub const FIRST_SLEEP: u64 = 16;
+
+/// The longest sleep, in microseconds.
+pub const LONGEST_SLEEP: u64 = 1000;
+
+/// A step of the backoff.
+#[derive(Clone, Copy, PartialEq, Eq)]
+pub enum Pause {
+    /// Yields the processor to other threads that are ready.
+    Yield,
+    /// Sleeps for this many microseconds.
+    Sleep(u64),
+}
+
+/// The backoff of one thread since it last found something to do.
+#[derive(Drop)]
+pub struct Pauses {
+    /// How many times the thread has yielded.
+    pub yields: u32,
+    /// The length of the next sleep, in microseconds.
+    pub sleep: u64,
+    // The word that a sleeper waits on.
+    word: AtomicU64,
+}
+
+impl Pauses {
+    /// The backoff of a thread that has just found something to do.
+    pub fn new() -> Pauses
+        ensures yields { result.yields ≡ 0 }
+        ensures sleep { result.sleep ≡ FIRST_SLEEP }
+    {
+        Pauses {
+            yields: 0,
+            sleep: FIRST_SLEEP,
+            word: AtomicU64::new(0),
+        }
+    }
+
+    /// A backoff without yields, for a thread that need not react soon. Its first sleep takes `first` microseconds, but
+    /// no longer than the longest sleep.
+    pub fn asleep(first: u64) -> Pauses
+        ensures yields { result.yields ≡ MOST_YIELDS }
+        ensures sleep { result.sleep ≡ min LONGEST_SLEEP first }
+    {
+        Pauses {
+            yields: MOST_YIELDS,
+            sleep: LONGEST_SLEEP.min(first),
+            word: AtomicU64::new(0),
+        }
+    }
+
+    /// Starts over, after something was found to do.
+    pub fn reset(&mut self)
+        ensures yields { self.new.yields ≡ 0 }
+        ensures sleep { self.new.sleep ≡ FIRST_SLEEP }
+    {
+        self.yields = 0;
+        self.sleep = FIRST_SLEEP;
+    }
+
+    /// Makes the next step, and returns which it was.
+    pub fn pause<R: Wait>(&mut self, rt: &R) -> Pause
+        ensures awake { self.old.yields < MOST_YIELDS → (result ≡ Pause.Yield)
+            × (self.new.yields ≡ self.old.yields + 1) × (self.new.sleep ≡ self.old.sleep) }
+        ensures asleep { MOST_YIELDS ≤ self.old.yields → (result ≡ Pause.Sleep self.old.sleep)
+            × (self.new.yields ≡ self.old.yields) × (self.new.sleep ≡ min LONGEST_SLEEP (2 * min LONGEST_SLEEP self.old.sleep)) }
+    {
+        if self.yields < MOST_YIELDS {
+            self.yields += 1;
+            thread::yield_now();
+            return Pause::Yield;
+        }
+        let sleep = self.sleep;
+        self.word.park_timeout(rt, 0, Duration::from_micros(sleep));
+        self.sleep = LONGEST_SLEEP.min(2 * LONGEST_SLEEP.min(sleep));
+        Pause::Sleep(sleep)
+    }
+}

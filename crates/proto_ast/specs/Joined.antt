@@ -1,0 +1,60 @@
+-- Files that are resolved together, as if their texts were concatenated: each kind of declaration is in one list, and
+-- the offsets of a later file come after those of the earlier ones. A file alone is a special case.
+use Rattle.std.specs.Prelude.{◌≡◌, ℕ, List, [], ◌∷◌, Option, Some, None, slice_get, Contains}
+use Rattle.mrpc_table.specs.Names.{parts_of}
+use Rattle.proto_ast.specs.declared.file.Word.{Word}
+use Rattle.proto_ast.specs.declared.file.MessageDecl.{MessageDecl}
+use Rattle.proto_ast.specs.declared.file.EnumDecl.{EnumDecl}
+use Rattle.proto_ast.specs.declared.file.ServiceDecl.{ServiceDecl}
+use Rattle.proto_ast.specs.declared.file.File.{File}
+use Rattle.proto_ast.specs.declared.joined.Head.{Head}
+use Rattle.proto_ast.specs.declared.joined.Home.{Home}
+use Rattle.proto_ast.specs.declared.joined.Home.TheVariants as home
+
+pub record Joined : Type 0 where
+  pub heads : List Head
+  pub messages : List MessageDecl
+  pub enums : List EnumDecl
+  pub services : List ServiceDecl
+
+-- a file alone, which sees itself
+abbrev pub alone : File → Joined
+alone F = record {
+  heads = (record { «package» = F.package; sees = 0 ∷ [] }) ∷ [];
+  messages = F.messages;
+  enums = F.enums;
+  services = F.services;
+}
+
+-- ---- what encloses a declaration
+
+abbrev pub home_in : ℕ → Option ℕ → Home
+home_in file None = home.File file
+home_in file (Some i) = home.Message i
+
+abbrev pub home_of : MessageDecl → Home
+home_of m = home_in m.file m.parent
+
+abbrev pub enum_home_of : EnumDecl → Home
+enum_home_of e = home_in e.file e.parent
+
+-- ---- files
+
+-- the parts of a package's name; a file without one is at the root
+abbrev pub package_parts : Option Word → List (List ℕ)
+package_parts None = []
+package_parts (Some w) = parts_of w.name
+
+abbrev pub package_in : Option Head → List (List ℕ)
+package_in None = []
+package_in (Some p) = package_parts p.package
+
+-- the package of the file with an index
+abbrev pub package_at : Joined → ℕ → List (List ℕ)
+package_at F file = package_in (slice_get F.heads file)
+
+-- references in one file may name types and packages of the other
+pub record Sees (F : Joined) (file other : ℕ) : Type 0 where
+  pub head : Head
+  pub at : slice_get F.heads file ≡ Some head
+  pub among : Contains head.sees other

@@ -1,5 +1,0 @@
-use Rattle.proto_imports.proofs.Linked.{KeepsBefore}
-use Rattle.proto_imports.proofs.links.Graph.new.Given as goal
-
-abbrev pub invariant-loop-file : goal.invariant-loop-file
-invariant-loop-file l = KeepsBefore l.fn.members l.file l.links.items

@@ -1,5 +1,0 @@
-use Rattle.proto_imports.proofs.Linked.{LinksBefore}
-use Rattle.proto_imports.proofs.links.links_of.Given as goal
-
-abbrev pub invariant-loop-n : goal.invariant-loop-n
-invariant-loop-n l = LinksBefore l.fn.members l.fn.file l.n l.links

@@ -1,6 +1,0 @@
-use Rattle.proto_imports.proofs.Placing.{KnowsBefore}
-use Rattle.proto_imports.proofs.paths.Paths.new.Given as goal
-
--- the files up to here
-abbrev pub invariant-loop-i : goal.invariant-loop-i
-invariant-loop-i l = KnowsBefore l.members l.i (record { by = l.by })

@@ -1,7 +1,0 @@
-use Rattle.std.proofs.Common.{take}
-use Rattle.std.specs.List.{AllZip}
-use Rattle.proto_imports.specs.Reaching.{AreSeen}
-use Rattle.proto_imports.proofs.seen.all_seen.Given as goal
-
-abbrev pub invariant-loop-file : goal.invariant-loop-file
-invariant-loop-file l = AllZip (AreSeen l.graph) (take l.file-index l.files) l.all

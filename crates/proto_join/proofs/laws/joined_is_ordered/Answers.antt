@@ -1,9 +1,0 @@
-use Rattle.proto_join.proofs.Forming.{joined-formed}
-use Rattle.proto_join.proofs.Ordering.{joined-ordered}
-use Rattle.proto_join.proofs.laws.joined_is_ordered.Goals as goal
-
-pub returns-clause-formed : goal.returns-clause-formed
-returns-clause-formed c = joined-formed
-
-pub returns-clause-ordered : goal.returns-clause-ordered
-returns-clause-ordered c = joined-ordered

@@ -1,0 +1,23 @@
+use Rattle.std.proofs.Common.{◌≢◌, refl, sym, ◌∙◌}
+use Rattle.script_grammar.specs.declared.form.Form.TheVariants as form
+use Rattle.replay_script.specs.Stores.{turn_words}
+use Rattle.replay_script.specs.declared.change.Change.TheVariants as change
+use Rattle.replay_script.proofs.Changing.{open_change}
+use Rattle.replay_script.proofs.Kept.{said_by}
+use Rattle.replay_script.proofs.Ranges.{number_of}
+use Rattle.replay_script.proofs.change.turned.Goals as goal
+
+goes_on : form.Turn ≢ form.Close
+goes_on e = cc
+
+pub turned-requires : goal.turned-requires
+turned-requires c = number_of form.Turn c.requires.said.0 (turn_words c.args.turn) 1 1 16 c.requires.said.1 refl
+
+pub returns-in-Ok : goal.returns-in-Ok
+returns-in-Ok c line said =
+    let d = c.args.declared.now in
+    let body = c.args.body.now in
+    let m = turn_words c.args.turn in
+    let same = said_by c.args.loads d body c.requires.kept form.Turn line m said refl goes_on in
+    open_change c.one_laws.ensures c.args.loads d body line form.Turn m (change.Line c.in-Ok.made) said
+    refl c.if-body.false (goes_on, sym same ∙ sym c.turned.ensures ∙ c.in-Ok.is)

@@ -1,0 +1,16 @@
+//! A run of a plan over the links of a fabric, and its report.
+//!
+//! [`serve_plan`] serves the connections of a plan, makes the report of the run, and gives each link back to the
+//! fabric. [`count_plan`] does so too, but makes only the counts of the report. Everything else that connections own
+//! is left to the end of the process. `specs/Running.antt` defines what they did. The crate depends on `service` for
+//! the run and on `run_report` for the report. The layer above uses one contract, `HasRun`: each connection of the plan
+//! was served or left unbound, the text is that of these connections, by ascending number, the counts are those of
+//! its lines, and the fabric has their links back.
+#![tactic(auto)]
+
+mod giving_back;
+mod ordering;
+mod running;
+mod telling;
+
+pub use running::{Counted, Run, count_plan, serve_plan};

@@ -1,0 +1,11 @@
+mod ArrivalRows
+mod Calls
+mod Counted
+mod Fitting
+mod Keeping
+mod Lines
+mod Making
+mod Rows
+mod Sharing
+mod Telling
+mod Texts

@@ -1,0 +1,8 @@
+//! What holds for all lines.
+
+ghost use Rattle.run_report.specs.Lines.{LinesFit};
+
+/// Each line of an arrival trace can be written, under the policy that judged it. Does nothing.
+pub fn lines_fit()
+    ensures { LinesFit }
+{}

@@ -1,9 +1,0 @@
-mod Calls
-mod Counted
-mod Keeping
-mod Lines
-mod Making
-mod Rows
-mod Sharing
-mod Telling
-mod Texts

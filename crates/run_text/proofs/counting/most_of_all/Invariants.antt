@@ -1,7 +1,0 @@
-use Rattle.std.proofs.Common.{◌≤◌, length, take}
-use Rattle.std.specs.List.{flat_map}
-use Rattle.run_text.specs.Counting.{counted_in}
-use Rattle.run_text.proofs.counting.most_of_all.Given as goal
-
-abbrev pub invariant-loop-one : goal.invariant-loop-one
-invariant-loop-one l = length (flat_map counted_in (take l.one-index l.shown)) ≤ l.most

@@ -1,0 +1,67 @@
+//! Connections that aren't in a pair.
+
+use crate::Part;
+use crate::site::{Said, Site, say_at};
+use mrpc_table::Bytes;
+use scenario::Entry;
+use scenario::keys::{conn, end_a, end_b};
+use toml::{Table, Value};
+
+// Appends why a connection isn't in a pair.
+pub(crate) fn say_pair(out: &mut Bytes, site: &Site<'_>) -> Said<'static> {
+    match site.at {
+        Entry::App(_) => {
+            let number = conn().number(site.entry);
+            say_conn(out, "conn", number, " is at an end of no link")
+        }
+        Entry::Link(_) => say_link(out, site.before(), site.entry),
+        _ => Ok(None),
+    }
+}
+
+fn say_conn(
+    out: &mut Bytes,
+    key: &'static str,
+    number: u64,
+    behind: &'static str,
+) -> Said<'static> {
+    say_at(
+        out,
+        key,
+        &[
+            Part::Text(": connection "),
+            Part::Number(number),
+            Part::Text(behind),
+        ],
+    )
+}
+
+fn say_link(out: &mut Bytes, before: &[Value], entry: &Table) -> Said<'static> {
+    let a = end_a().number(entry);
+    let b = end_b().number(entry);
+    if a == b {
+        let words = ": both of its ends are connection ";
+        return say_at(out, "b", &[Part::Text(words), Part::Number(a)]);
+    }
+    if is_linked(before, a) {
+        return say_conn(out, "a", a, LINKED);
+    }
+    if is_linked(before, b) {
+        return say_conn(out, "b", b, LINKED);
+    }
+    say_at(out, "", &[Part::Text(": no client is at one of its ends")])
+}
+
+const LINKED: &str = " is at an end of a link before it already";
+
+// Whether the connection is at an end of one of the links.
+fn is_linked(links: &[Value], number: u64) -> bool {
+    for item in links {
+        if let Some(link) = item.as_table() {
+            if end_a().number(link) == number || end_b().number(link) == number {
+                return true;
+            }
+        }
+    }
+    false
+}

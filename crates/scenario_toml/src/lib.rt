@@ -1,0 +1,29 @@
+//! The values at the keys of a scenario's TOML tables, and where they are in the text.
+//!
+//! `specs/Values.antt` defines, on the kit's view of a TOML table, which keys a table has and of what type, its texts,
+//! its flags, its lists, and its numbers with their defaults and ranges.
+//!
+//! [`place_of`] finds the span of an entry of a list of tables, of one of its keys, or of a text in a list there. The
+//! kit's `toml` doesn't report where a value is. So `place_of` looks for a line that may be the one, and checks it: the
+//! text up to there must parse as TOML with as many entries. Other spellings aren't found; for an entry of a list in
+//! brackets, for example, it finds the line of the list.
+//!
+//! The crate depends on the kit's `toml` and on `mrpc_table`. The layers above use two contracts: what is read at a key
+//! is what the definitions give, and a span lies within the text.
+#![tactic(auto)]
+
+mod item;
+mod key;
+mod lists;
+mod place;
+mod range;
+mod said;
+mod span;
+mod value;
+
+pub use key::{Key, Shape, has_keys};
+pub use lists::{items_at, tables_at, texts_at};
+pub use place::{Sought, place_of};
+pub use range::{Range, are_within};
+pub use span::Span;
+pub use value::{flag_at, text_at, word_at};

@@ -1,6 +1,0 @@
-use Rattle.std.proofs.Common.{length}
-use Rattle.schema_names.specs.Types.{KnowsTypes, declared_in}
-use Rattle.schema_names.proofs.types.add_enums.Given as goal
-
-abbrev pub invariant-loop-i : goal.invariant-loop-i
-invariant-loop-i l = KnowsTypes l.fn.places (length l.fn.places.messages) l.i (declared_in l.types)

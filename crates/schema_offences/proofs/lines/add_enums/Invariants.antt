@@ -1,5 +1,0 @@
-use Rattle.schema_offences.specs.Lengths.{Covers}
-use Rattle.schema_offences.proofs.lines.add_enums.Given as goal
-
-abbrev pub invariant-loop-i : goal.invariant-loop-i
-invariant-loop-i l = Covers l.fn.files 1 l.i 0 l.lines.items

@@ -1,7 +1,0 @@
-use Rattle.schema_offences.specs.Members.{IsLong}
-use Rattle.schema_offences.specs.Meeting.{Meets, OfFirst, OfElement}
-use Rattle.schema_offences.proofs.messages.note_oneofs.Given as goal
-
--- the violations of the elements so far are recorded
-abbrev pub invariant-loop-i : goal.invariant-loop-i
-invariant-loop-i l = Meets (OfFirst l.i (OfElement l.fn.message.oneofs (λ i. IsLong))) l.initial.first l.first

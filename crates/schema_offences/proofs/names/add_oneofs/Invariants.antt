@@ -1,9 +1,0 @@
-use Rattle.std.proofs.Common.{◌≡◌, ◌++◌, map, take}
-use Rattle.schema_offences.specs.Entries.{entry, entries_of}
-use Rattle.schema_offences.proofs.names.add_oneofs.Given as goal
-
--- the names so far are added
-abbrev pub invariant-loop-oneof : goal.invariant-loop-oneof
-invariant-loop-oneof l =
-    entries_of l.names.items
-    ≡ entries_of l.initial.names.items ++ map (entry l.scope) (take l.oneof-index l.oneofs)

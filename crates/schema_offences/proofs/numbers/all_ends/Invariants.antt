@@ -1,7 +1,0 @@
-use Rattle.std.proofs.Common.{take}
-use Rattle.schema_offences.specs.Those.{AreThose}
-use Rattle.schema_offences.specs.Ranges.{IsEndsOf}
-use Rattle.schema_offences.proofs.numbers.all_ends.Given as goal
-
-abbrev pub invariant-loop-i : goal.invariant-loop-i
-invariant-loop-i l = AreThose IsEndsOf (take l.i l.ranges) l.all.items

@@ -1,0 +1,30 @@
+use Rattle.std.proofs.Common.{◌≡◌, ◌<◌, ◌++◌, ◌∷◌, [], ◌∙◌, ℕ, length, ap, arith, refl, sym, subst}
+use Rattle.std.specs.Prelude.{Some, slice_get}
+use Rattle.schema_validation.proofs.Meetings.{item_at}
+use Rattle.schema_validation.specs.Lengths.{full_length, IsKeptHome}
+use Rattle.proto_ast.specs.declared.joined.Home.{Home}
+use Rattle.schema_validation.proofs.FullLengths.{keeps_enum, enum_home_kept}
+use Rattle.schema_validation.proofs.lines.Lengths.add_enums.Goals as goal
+
+pub loop-i-preserved : goal.loop-i-preserved
+loop-i-preserved c =
+    let xs = c.args.files.now.enums in
+    let l : c.loop-i.i < length xs = omega (arith, ap length c.enums-all.ensures, c.loop-i-test.true) in
+    let at : slice_get xs c.loop-i.i ≡ Some c.index-all-i.result =
+    item_at c.enums-all.result.now xs c.loop-i.i c.index-all-i.result c.enums-all.ensures l c.index-all-i.is in
+    keeps_enum c.args.files.now c.loop-i.self
+    (record { fronts = c.loop-i.self.fronts; messages = c.loop-i.self.messages; enums = c.push.new.self })
+    c.loop-i.i c.index-all-i.result c.requires.formed c.loop-i.invariant at refl refl
+    (c.in_ok-push.ensures.items ∙ ap (λ (n : ℕ). c.loop-i.self.enums.items ++ n ∷ [])
+    (c.full-length.ensures ∙ ap (λ (h : Home). full_length c.loop-i.self h c.index-all-i.result.name) c.home.ensures))
+
+pub full-length-requires : goal.full-length-requires
+full-length-requires c =
+    let F = c.args.files.now in
+    let x = c.index-all-i.result in
+    let l : c.loop-i.i < length F.enums = omega (arith, ap length c.enums-all.ensures, c.loop-i-test.true) in
+    let at : slice_get F.enums c.loop-i.i ≡ Some x =
+    item_at c.enums-all.result.now F.enums c.loop-i.i x c.enums-all.ensures l c.index-all-i.is in
+    subst (IsKeptHome c.loop-i.self) (sym c.home.ensures)
+    (enum_home_kept F (length F.messages) c.loop-i.i c.loop-i.self c.loop-i.invariant c.requires.formed c.loop-i.i x at
+    refl)

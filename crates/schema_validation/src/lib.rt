@@ -1,0 +1,33 @@
+//! Validation of proto files that were read: undefined and duplicate names, numbers out of range, misplaced maps,
+//! limits (Protocol Buffers, proto3 language guide; the limits are this project's own).
+//!
+//! `specs/Members.antt` defines the violations of single messages, enums and services, `specs/Lines.antt` the lines
+//! that names have in a table's text, and `specs/Offences.antt` all violations of files, and which one comes first.
+//! The crate uses `schema_symbols`, which defines the full name of a declaration and the meaning of a reference,
+//! `proto_ast` and `mrpc_table`.
+//!
+//! The layer above relies on the contracts of [`first_offence`] and, for a file alone, [`with_import`]. It also uses
+//! [`form_of`], [`message_of`], [`field_number`] and [`enum_number`], which return what a field, an rpc's type and a
+//! number are in a table.
+#![tactic(auto)]
+
+mod enums;
+mod first;
+mod judge;
+mod laws;
+mod lines;
+mod messages;
+mod name_set;
+mod names;
+mod numbers;
+mod reason;
+mod services;
+mod types;
+
+pub use first::Offence;
+pub use judge::{first_offence, with_import};
+pub use laws::{offences_stand, one_offence};
+pub use numbers::{enum_number, field_number};
+pub use reason::ResolveReason;
+pub use services::message_of;
+pub use types::{Form, TypeOf, form_of};

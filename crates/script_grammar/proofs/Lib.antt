@@ -1,0 +1,12 @@
+mod Deciding
+mod HeadTexts
+mod Hexadecimal
+mod OneFront
+mod OneHead
+mod OneKeyword
+mod Ranges
+mod Rows
+mod Stored
+mod TextLines
+mod Verdicts
+mod Walking

@@ -1,5 +1,0 @@
-mod HeadTexts
-mod OneFront
-mod OneHead
-mod Ranges
-mod TextLines

@@ -1,5 +1,0 @@
-use Rattle.script_text.proofs.Answers.{only_one}
-use Rattle.script_text.proofs.read.read_script.Goals as goal
-
-pub returns-clause-only : goal.returns-clause-only
-returns-clause-only c = only_one c.args.text.now c.read_text.result c.one_script.ensures.script c.one_script.ensures.not_both c.read_text.ensures

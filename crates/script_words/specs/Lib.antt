@@ -1,9 +1,0 @@
-pub mod Forms
-pub mod Keywords
-pub mod Lines
-pub mod Meanings
-pub mod Reading
-pub mod Reasons
-pub mod Rests
-pub mod Sorts
-pub mod Values

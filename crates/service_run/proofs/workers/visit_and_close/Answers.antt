@@ -1,4 +1,0 @@
-use Rattle.service_run.proofs.workers.visit_and_close.Goals as goal
-
-pub returns : goal.returns
-returns g c = c.close_all.ensures c.args.items.items c.in_ok-over.ensures.turned

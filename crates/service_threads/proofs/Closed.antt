@@ -1,0 +1,37 @@
+-- Connections that were visited, and then closed.
+use Rattle.std.proofs.Common.{List, [], ◌∷◌}
+use Rattle.std.specs.Prelude.{All}
+use Rattle.std.specs.List.{AllZip}
+use Rattle.std.proofs.lemmas.List.Elements.{All-head, All-tail}
+use Rattle.mrpc_base.specs.declared.clock.Clock.{Ghosts as ClockMembers}
+use Rattle.mrpc_base.specs.declared.link.Link.{Ghosts as LinkMembers}
+use Rattle.mrpc_base.specs.declared.tickets.Tickets.{Ghosts as TicketMembers}
+use Rattle.tenant_quota.specs.Drawing.{Drawing}
+use Rattle.link_queue.specs.Queueing.{Queueing}
+use Rattle.service_wiring.specs.Turning.{HasTurned, IsDone}
+use Rattle.service_wiring.specs.declared.closed.Closed.{Closed}
+use Rattle.service_threads.specs.Closings.{IsClosedOf, Item}
+use Rattle.service_threads.specs.Parts.{WasClosed}
+
+module _ {C : Type 0} (of_clock : ClockMembers C) (of_quotas : TicketMembers (List Drawing))
+    (of_link : LinkMembers Queueing) where
+  -- each is a later state of the first, and finished
+  pub all-closed : (firsts lasts : List (Item C)) (all : List Closed)
+      → AllZip (HasTurned of_clock of_quotas of_link) firsts lasts → All (IsDone of_clock of_quotas of_link) lasts
+      → AllZip (WasClosed of_clock of_quotas of_link) lasts all
+      → AllZip (IsClosedOf of_clock of_quotas of_link) firsts all
+  all-closed [] [] [] turned done closed = tt
+  all-closed [] [] (x ∷ all) turned done closed = absurd closed
+  all-closed [] (last ∷ lasts) all turned done closed = absurd turned
+  all-closed (first ∷ firsts) [] all turned done closed = absurd turned
+  all-closed (first ∷ firsts) (last ∷ lasts) [] turned done closed = absurd closed
+  all-closed (first ∷ firsts) (last ∷ lasts) (x ∷ all) turned done closed = (
+    record {
+      last = last;
+      turned = turned.0;
+      whole = closed.0.whole;
+      done = All-head (IsDone of_clock of_quotas of_link) last lasts done;
+      parts = closed.0.parts;
+    },
+    all-closed firsts lasts all turned.1 (All-tail (IsDone of_clock of_quotas of_link) last lasts done) closed.1,
+  )

@@ -1,0 +1,29 @@
+//! A bounded queue from one thread to another, whose contracts relate what was pushed to what was popped.
+//!
+//! [`open`] makes a queue and its two ends: a [`Producer`], which pushes items, and a [`Consumer`], which pops
+//! them. Neither takes a lock. The consumer announces what it popped, so the producer knows of free slots, and
+//! can keep some of them for items that must never wait. A queue of [`Piece`]s carries bytes with sentinels
+//! between them, and a [`PieceReader`] reads them into buffers. [`GivenBytes`] is a ghost list of delivered bytes
+//! for contracts.
+//!
+//! The crate uses the ruled array queue of `crossbeam_queue`, `mrpc_table`, and `polling` to wait for room. The
+//! layer above uses one contract: what was popped is a prefix of what was pushed, in order and each item once, as
+//! [`meet`] states for the two ends of one queue. If a consumer finds the queue empty, it has popped every item
+//! that it knew to be pushed.
+#![tactic(auto)]
+
+mod consumer;
+mod credit;
+mod given;
+mod line;
+mod piece;
+mod piece_reader;
+mod producer;
+mod side;
+
+pub use consumer::Consumer;
+pub use given::GivenBytes;
+pub use line::{meet, open};
+pub use piece::{Found, Piece};
+pub use piece_reader::PieceReader;
+pub use producer::Producer;

@@ -1,4 +1,0 @@
-mod Ascending
-mod Plainness
-mod Reading
-mod Walking

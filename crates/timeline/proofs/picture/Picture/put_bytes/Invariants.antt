@@ -1,6 +1,0 @@
-use Rattle.std.proofs.Common.{◌≡◌, ◌++◌, take, flat_map}
-use Rattle.timeline.specs.Pieces.{quoted_byte}
-use Rattle.timeline.proofs.picture.Picture.put_bytes.Given as goal
-
-abbrev pub invariant-loop-byte : goal.invariant-loop-byte
-invariant-loop-byte l = l.self ≡ l.fn.self ++ flat_map quoted_byte (take l.byte-index l.bytes)

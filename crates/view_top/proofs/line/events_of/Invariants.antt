@@ -1,0 +1,14 @@
+use Rattle.std.proofs.Common.{◌≡◌, ◌+◌, ◌≤◌, ◌++◌, length, map, filter_map, vec_len}
+use Rattle.mrpc_table.specs.Lines.{whole_lines}
+use Rattle.view_top.specs.Lines.{happening_of}
+use Rattle.view_top.specs.TimelineViews.{happening}
+use Rattle.view_top.proofs.line.events_of.Given as goal
+
+abbrev pub invariant-loop-line : goal.invariant-loop-line
+invariant-loop-line l = record {
+  told : map happening l.events.items ++ filter_map happening_of (whole_lines l.rest) ≡ filter_map happening_of (whole_lines l.fn.text);
+  few : vec_len l.events + length l.rest ≤ length l.fn.text;
+}
+
+abbrev pub decreases-loop-line : goal.decreases-loop-line
+decreases-loop-line l = length l.rest

@@ -1,0 +1,14 @@
+use Rattle.std.proofs.Common.{◌-◌, ◌≤◌, ◌++◌, List, length, drop, map, vec_len}
+use Rattle.view_top.specs.Rows.{AreRows, Row}
+use Rattle.view_top.specs.TimelineViews.{happening, row}
+use Rattle.view_top.proofs.row.rows_in.Given as goal
+
+abbrev pub invariant-loop-at : goal.invariant-loop-at
+invariant-loop-at l = record {
+  within : l.at ≤ length l.events;
+  rows : (more : List Row) → AreRows (map happening (drop l.at l.events)) more → AreRows (map happening l.events) (map row l.rows.items ++ more);
+  few : vec_len l.rows ≤ l.at;
+}
+
+abbrev pub decreases-loop-at : goal.decreases-loop-at
+decreases-loop-at l = length l.events - l.at
