@@ -16,9 +16,9 @@ use polling::StopFlag;
 use shared_heap::Writer;
 use std::sync::Wait;
 
-/// Runs a client. It executes the lines of its program, closes the ring of its calls, takes its notices up to
-/// their closing, reclaims the block of each, and closes the ring of reclaimed blocks. Waits while a ring is full
-/// or empty, and ends once the stop flag is set. Never allocates.
+/// Runs a client. It executes the lines of its program and closes the ring of its calls. Then it takes its notices up
+/// to their closing, reclaims the block of each, and closes the ring of reclaimed blocks. Waits while a ring is full or
+/// empty, and ends once the stop flag is set. Never allocates.
 pub fn client<R: Wait, F: StopFlag + Drop>(rt: &R, program: &Program, port: AppPort<F>) -> AppEnd
     requires port { IsNew port }
     requires program { IsClientProgram port.writer.heap.words program.now }

@@ -69,8 +69,8 @@ pub fn echo<R: Wait, F: StopFlag + Drop>(
     ensures stopped { IfNone result.sent (IsTrue result.memory ⊎ F.may_be_set port.stop) }
     ensures memory { IfSome result.sent (λ _. result.memory ≡ false) }
 
-    // Unless it was out of memory or saw the flag set, it copied the requests of its notices; the copies determine
-    // its stores and replies. It reclaimed the block of each notice.
+    // Unless it was out of memory or saw the flag set, it made copies of requests of its notices. Notices and copies
+    // determine its stores and replies. It reclaimed the block of each notice.
     ensures echoed { IfSome result.sent (λ sent. Echoed
         (record { table = table.now; heap = port.writer.heap.words; receive = port.reader.heap.words; ring = port.capacity })
         result.notices.taken result.note.stores (map submission_of sent.calls.items) result.reader) }

@@ -3,7 +3,7 @@
 use descriptor_ring::{NumberReceiver, NumberSender, NumbersSent, Receiver, Sender, Sent};
 use shared_heap::{Note, Reader, Writer};
 
-/// The application's side of its connection to the service.
+/// What an application shares with the service.
 #[derive(Drop)]
 pub struct AppPort<F> {
     /// Its heap, to which it stores its messages.

@@ -237,7 +237,7 @@ calls_out h (c ∷ conns) conn seq m = elim (Contains-append_cases (calls_on h c
   | inr later ↦ calls_out h conns conn seq later
 ]
 
--- connections that ascend, and without which there is no event, have all pending calls
+-- connections that ascend, and beside which no connection has an event, have all pending calls
 pub all_standing : (h : History) (conns : List ℕ) → ((conn : ℕ) → Numbered (standing (behind conn h))) → Rise conns
     → ((conn : ℕ) → (Contains conns conn → ⊥) → behind conn h ≡ []) → AreAllStanding h (calls_of h conns)
 all_standing h conns up rise others = record {

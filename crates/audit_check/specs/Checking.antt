@@ -61,8 +61,8 @@ IsNoEventLine T declared text = (x : Happened) → IsWritable T declared x → B
 abbrev pub IsNoPendingLine : List ℕ → Type 0
 IsNoPendingLine text = (s : StandsLine) → IsStandsLine s → Begins (line_of s) text → ⊥
 
--- The first fault of the text is at this line, counted from 1: the lines before it are those of a history and then of
--- pending calls, and what follows is no line, or the line of an event after one of a pending call.
+-- The first fault of the text is at this line, counted from 1. The lines before it are those of a history and then of
+-- pending calls. What follows is no audit line, or is the line of an event after one of a pending call.
 pub record IsFirstBad (T : Table) (declared : Declared) (text : List ℕ) (line : ℕ) : Type 0 where
   pub front : List ℕ
   pub rest : List ℕ

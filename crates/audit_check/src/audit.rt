@@ -24,9 +24,9 @@ use wire_encode::Output;
 
 /// Checks an audit text of at most 16777216 bytes, under a table, the declared policies, and a limit of loads.
 ///
-/// The text is legal if its events are a legal history, followed by no lines of pending calls, or by the lines of all
-/// its pending calls, at legal positions and held as they are. Otherwise the result names the first line that makes it
-/// illegal, and the first rule that is broken there.
+/// The text is legal if its events are a legal history, followed by no lines of pending calls, or by those of all its
+/// pending calls. Such a line must name a legal position, and the level and cost at which its call is held, if it is.
+/// Otherwise the result names the first line that makes the text illegal, and the first rule that is broken there.
 ///
 /// # Errors
 ///

@@ -8,8 +8,8 @@
 //! histories, and the lines after them by which calls are pending and where they may be. It has one checker per
 //! connection, so its time is linear in the text, however many calls are pending.
 //!
-//! The crate depends on `script_grammar` and `policy_declarations`, on the lines of audit texts and on the checker of
-//! one connection. The layer above prints the result.
+//! The crate depends on `mrpc_table`, `script_grammar` and `policy_declarations`, on the lines of audit texts and on
+//! the checker of one connection. The layer above prints the result.
 #![tactic(auto)]
 
 mod audit;

@@ -69,7 +69,7 @@ none-at [] p x le is = cc
 none-at (y ∷ xs) zero x le is = omega arith
 none-at (y ∷ xs) (suc p) x le is = none-at xs p x (omega arith) is
 
--- no call is the first at the position of the one before
+-- a call at the position of the one before isn't the first there
 pub not-first : (u : Under) (past : Behind) (ps : List ℕ) (call : Taken) (q : ℕ) → length (chain past).entries ≤ MAX_ENGINES → q ≡ lowest ps → TellsHeld u past ps call q None
 not-first u past ps call q few same level cost all held =
     let inside = within-chain (chain past).entries q held.entry held.at in

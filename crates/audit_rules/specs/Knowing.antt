@@ -34,19 +34,20 @@ use Rattle.audit_rules.specs.declared.left.Left.TheVariants.{Nothing, Waits, Ove
 abbrev pub under : Table → Checker → Under
 under T c = record { conn = c.conn; table = T; limit = c.limit }
 
--- ---- what may be asked of it
+-- ---- events that it can check
 
--- what is known of an event before it is judged: a copy is a normal tree of a method of the table, and the numbers of a
--- policy are in their ranges
+-- a copy is a normal tree of the message of a method of the table
 abbrev pub IsCopyBy : Table → Taken → TookCopy → Type 0
 IsCopyBy T call (Copy tree) = IsTakenBy T call (Copy tree)
 IsCopyBy T call (Malformed reason place value) = Unit {0}
 
+-- the numbers of the policy are in their ranges
 abbrev pub IsStep : Step → Type 0
 IsStep (Attach at name label policy) = IsPolicy policy
 IsStep (Detach name) = Unit {0}
 IsStep (Upgrade name label policy) = IsPolicy policy
 
+-- what is known of an event before it is checked
 abbrev pub IsReadable : Table → Happening → Type 0
 IsReadable T (Took call) = IsCopyBy T call call.copy
 IsReadable T (Op step) = IsStep step
@@ -69,12 +70,12 @@ IsFree Nothing = Unit {0}
 IsFree (Waits seq) = ⊥
 IsFree (Over seq at ticket cap) = Unit {0}
 
--- the code's own: a call may be refused as malformed only if one awaits that
+-- the code's own: the cause is malformed, or no malformed call awaits its refusal
 abbrev pub IsFreeFor : Cause → Left → Type 0
 IsFreeFor cause.Malformed left = Unit {0}
 IsFreeFor _ left = IsFree left
 
--- the code's own: no obligation has to be met before this event
+-- the code's own: the event is a refusal as malformed, or no malformed call awaits its refusal
 abbrev pub IsFreeBefore : Happening → Left → Type 0
 IsFreeBefore (Refused seq why) left = IsFreeFor why left
 IsFreeBefore _ left = IsFree left
@@ -84,7 +85,7 @@ abbrev pub greatest : List ℕ → ℕ
 greatest [] = 0
 greatest (n ∷ numbers) = max n (greatest numbers)
 
--- a number is the greatest call that an engine has noted since its attachment
+-- the greatest number of a call that an engine has noted since its attachment; 0 if there is none
 abbrev pub IsLatest : Behind → EngineParts → ℕ → Type 0
 IsLatest past e n = n ≡ greatest (noted_calls e.entry.name past)
 
@@ -100,8 +101,8 @@ pub record IsMalformedRefusalDue (past : Behind) (seq : ℕ) : Type 0 where
   pub malformed : HasNoCopy call.copy
   pub number : call.seq ≡ seq
 
--- the last event draws a ticket for the call of this number at the entry of this position, and the ticket isn't below
--- the cap of the entry's quota: the refusal of the call is due
+-- the last event draws a ticket for this call at the entry of this position, and the ticket isn't below the cap of the
+-- entry's quota: the call's refusal is due
 pub record IsQuotaRefusalDue (past : Behind) (seq at ticket cap : ℕ) : Type 0 where
   pub entry : Entry
   pub window : ℕ
@@ -126,7 +127,7 @@ pub record HasRoom (c : Checker) : Type 0 where
   pub latest : 8 ≤ vec_capacity c.latest
   pub calls : MAX_CALLS ≤ deque_capacity c.reached
 
--- the trace is legal so far, and the checker's engines and calls are what it has made
+-- the trace is legal so far, and the checker's engines and calls agree with it
 abbrev pub HasRowOf : Table → Behind → Checker → Type 0
 HasRowOf T past c = IsRowBehind (under T c) past c.engines.items c.attached c.calls c.reached.items c.moment
 
@@ -166,7 +167,7 @@ HasFewVersions past c = All (λ e. e.entry.version ≤ length past + 1) c.engine
 abbrev pub HasReadNoPending : Checker → Type 0
 HasReadNoPending c = (c.told ≡ 0) × (c.position ≡ MAX_ENGINES)
 
--- The state of a checker after a trace: the trace is legal so far, and the checker's fields are what it has made.
+-- The state of a checker after a trace: the trace is legal so far, and the checker's fields agree with it.
 pub record Knows (T : Table) (past : Behind) (c : Checker) : Type 0 where
   pub row : HasRowOf T past c
   pub numbers : HasNumbersOf past c

@@ -18,8 +18,8 @@ TellsHeld u past before call position None = (level cost : ℕ) → All (λ p. p
 TellsHeld u past before call position (Some held) =
     All (λ p. position < p) before × IsHeld u past call position held.0 held.1
 
--- after lines of the first calls, at these positions, a line lists the next one: its number, a legal position that
--- isn't above the one before, the name there, and the level and cost if it is held
+-- after lines of the first calls, at these positions, a line lists the next one. It has the call's number, a legal
+-- position that isn't above those before, the name there, and the level and cost if the call is held
 pub record TellsNext (u : Under) (past : Behind) (before : List ℕ) (seq position : ℕ) (name : List ℕ)
     (held : Option (ℕ × ℕ)) : Type 0 where
   pub call : Taken

@@ -190,8 +190,8 @@ impl Checker {
         }
     }
 
-    // Returns true if, after a link failure, the pending calls are refused in order, and then only operations and
-    // timestamps follow; and if a refusal for the link is that of the first call.
+    // Returns true if the event keeps the rule of a failed link. A refusal for the link has to be that of the first
+    // call. After a failure, any other event has to be an operation or a timestamp, and no call pending.
     fn keeps_link(&self, what: &Happening) -> bool
         ensures { (T : TheTable) (past : Behind) → Knows T past self.now → IsTrue result ↔ EndsWithLink past what.now }
     {

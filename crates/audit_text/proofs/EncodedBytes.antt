@@ -29,7 +29,7 @@ use Rattle.audit_text.proofs.Bytes.{AreBytes, bytes-append, bytes-all}
 
 -- ---- varints
 
--- below this bound the last of so many groups is a byte
+-- below this bound, the last of this many groups is a byte
 abbrev room : ℕ → ℕ
 room zero = 256
 room (suc more) = 128 * room more

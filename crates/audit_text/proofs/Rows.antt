@@ -142,7 +142,7 @@ stands-ready : stands_line 1 3 1 transport None ≡ codes "stands 1 3 1 -\n"
 unfolding digits
 stands-ready = refl
 
--- ---- an upgrade with two calls after the old version
+-- ---- an upgrade after two calls passed the old version
 
 abbrev upgraded : History
 upgraded = happens (Op (Attach 0 (codes "acl") (codes "p1") opening)) ∷ happens (Op (Attach 1 (codes "rl") (codes "rl") (holding 2)))

@@ -1,6 +1,6 @@
--- The events that have an audit line: numbers are in the ranges of their types, names have the form of a name, an
--- operation's policy is the one declared under its label, and a copy is a normal tree whose encoding has fewer than
--- 2^64 bytes (this project's own).
+-- The events that have an audit line (this project's own). Their numbers are in the ranges of their types, and their
+-- names have the form of a name. An operation's policy is the one declared under its label. A copy is a normal tree
+-- whose encoding has fewer than 2^64 bytes.
 use Rattle.std.specs.Prelude.{◌≡◌, ℕ, ◌<◌, ◌^◌, ◌⊎◌, List, IsTrue, length, Option, Some, None}
 use Rattle.mrpc_table.specs.Calls.{message_at}
 use Rattle.mrpc_table.specs.Names.{is_name_form}

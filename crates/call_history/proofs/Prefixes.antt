@@ -70,7 +70,7 @@ pub few-numbers : (below top : ℕ) (calls : List Taken) → Rising below top ca
 few-numbers below top [] h = All-nil (λ seq. seq ≤ top)
 few-numbers below top (call ∷ calls) h = All-cons (λ seq. seq ≤ top) call.seq (map (λ other. other.seq) calls) h.1 (few-numbers call.seq top calls h.2)
 
--- the number of a pending call is not a later one
+-- the number of a pending call is at most the number of accepted calls
 pub stood : (u : Under) (past : Behind) (seq : ℕ) → IsPrefix u past → Contains (map (λ call. call.seq) (standing past)) seq → seq ≤ length (taken past)
 stood u past seq prefix there =
     All-contains (λ n. n ≤ length (taken past)) (map (λ call. call.seq) (standing past)) seq (few-numbers 0 (length (taken past)) (standing past) (rising u past prefix)) there
@@ -104,7 +104,7 @@ refused-few u past seq (cause.Rate name left cost) prefix may = stood u past seq
 refused-few u past seq (cause.Quota name ticket cap) prefix may = stood u past seq prefix may.answered.at.call_stands
 refused-few u past seq cause.Transport prefix may = is-first-few (length (taken past)) (standing past) seq (rising u past prefix) may.link_end.1
 
--- a later number has no fate
+-- a number greater than those of the accepted calls has no fate
 pub fateless : (u : Under) (past : Behind) (seq : ℕ) → IsPrefix u past → length (taken past) < seq → list_any (is_fate_of seq) past ≡ false
 fateless u [] seq prefix above = refl
 fateless u (Took call ∷ past) seq prefix above = fateless u past seq prefix.0 (omega (arith, above, length-append (taken past) (call ∷ [])))
@@ -124,7 +124,7 @@ one-noted : (call top : ℕ) (b : Bool) (calls : List ℕ) → call ≤ top → 
 one-noted call top true calls few rest = All-cons (λ seq. seq ≤ top) call calls few rest
 one-noted call top false calls few rest = rest
 
--- none with a later number
+-- no call with a number greater than those of the accepted calls
 pub noted-few : (u : Under) (past : Behind) (name : List ℕ) → IsPrefix u past → All (λ seq. seq ≤ length (taken past)) (noted_calls name past)
 noted-few u [] name prefix = All-nil (λ seq. seq ≤ 0)
 noted-few u (Op (Attach at other label policy) ∷ past) name prefix =

@@ -1,4 +1,4 @@
--- A timestamp doesn't affect calls, nor does a call that isn't accepted.
+-- A timestamp doesn't affect calls, nor does a rejected submission.
 use Rattle.std.proofs.Common.{◌≡◌, ℕ, ◌<◌, true, ◌∷◌, length, refl, ap, arith}
 use Rattle.call_history.specs.Behind.{Behind, chain, moment, taken, standing, has_failed}
 use Rattle.call_history.specs.Events.{Course}

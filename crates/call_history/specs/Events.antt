@@ -73,7 +73,7 @@ turned e seq outcomes.Redacted c = record c {
 pub data Event : Type 0 where
   -- a call is accepted; a malformed one is refused at once
   accepts : Taken → Event
-  -- a call is submitted and refused, since `MAX_CALLS` calls are pending
+  -- a submission is rejected, since `MAX_CALLS` calls are pending
   turns_away : (method number addr : ℕ) → Event
   operates : Step → Event
   -- the clock reads a timestamp

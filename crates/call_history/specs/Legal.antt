@@ -32,16 +32,17 @@ abbrev pub IsPrefix : Under → Behind → Type 0
 IsPrefix u [] = Unit {0}
 IsPrefix u (last ∷ past) = IsPrefix u past × May u past last
 
--- the latest event accepts a malformed call, whose refusal is owed
+-- the call has no copy: it is malformed
 abbrev pub HasNoCopy : TookCopy → Type 0
 HasNoCopy (Copy tree) = ⊥
 HasNoCopy (Malformed reason place value) = Unit {0}
 
+-- the latest event accepts a malformed call, whose refusal is owed
 abbrev pub AwaitsMalformed : Behind → Type 0
 AwaitsMalformed (Took call ∷ past) = HasNoCopy call.copy
 AwaitsMalformed _ = ⊥
 
--- the latest event draws a ticket that isn't below the cap, and the call's refusal is owed
+-- the ticket isn't below the cap of the quota with this name
 pub record IsOver (past : Behind) (name : List ℕ) (ticket : ℕ) : Type 0 where
   pub policy : Policy
   pub cap : ℕ
@@ -49,6 +50,7 @@ pub record IsOver (past : Behind) (name : List ℕ) (ticket : ℕ) : Type 0 wher
   pub is_cap : cap_of policy ≡ Some cap
   pub over : (ticket < cap) → ⊥
 
+-- the latest event draws a ticket that isn't below the cap, and the call's refusal is owed
 abbrev pub AwaitsQuota : Behind → Type 0
 AwaitsQuota (Drawn seq name window ticket ∷ past) = IsOver past name ticket
 AwaitsQuota _ = ⊥

@@ -49,7 +49,7 @@ pub record MayTake (u : Under) (past : Behind) (call : Taken) : Type 0 where
   pub loads : call.count ≤ u.limit
   pub copy : IsTakenBy u.table call call.copy
 
--- (a) accepted calls are numbered, and a call is refused as `Away` exactly if `MAX_CALLS` calls are pending
+-- (a) accepted calls are numbered, and a submission is rejected (`Away`) exactly if `MAX_CALLS` calls are pending
 abbrev pub IsNumbered : Under → Behind → Happening → Type 0
 IsNumbered u past (Took call) = MayTake u past call
 IsNumbered u past (Away method number addr) = length (standing past) ≡ MAX_CALLS

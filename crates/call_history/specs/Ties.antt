@@ -1,4 +1,4 @@
--- Engines, and calls with their marks, which are what a history has made of a connection (this project's own).
+-- Engines, and calls with their marks, that agree with the trace of a connection (this project's own).
 use Rattle.std.specs.Prelude.{◌≡◌, ◌≢◌, ℕ, ◌+◌, ◌<◌, List, [], ◌∷◌, ◌++◌, All, length, map, insert, remove, set, slice_get, Some}
 use Rattle.engine_core.specs.Chains.{Changes, changed, new_entry, upgraded}
 use Rattle.engine_core.specs.Engines.{EngineParts, chain_of, clocked}
@@ -19,13 +19,13 @@ use Rattle.call_history.specs.Rules.{Under}
 use Rattle.call_history.specs.declared.happening.Happening.TheVariants.{Took, Op, Moment, Redacted}
 use Rattle.call_history.specs.declared.happening.Taken.{Taken}
 
--- an engine has the level and the moment that the history says
+-- an engine has the level and the timestamp that follow from the trace
 pub record IsEngineBehind (past : Behind) (e : EngineParts) : Type 0 where
   pub level : e.level ≡ level e.entry.name past
   pub last : e.last ≡ moment past
 
--- A call is in its form, and its marks say what was noted of it since the attachment of each engine, and nothing that
--- is wrong.
+-- A call is in its form. Its marks agree with what was noted of it since the attachment of each engine, and no mark is
+-- wrong.
 pub record IsCallBehind (conn : ℕ) (past : Behind) (engines : List EngineParts) (attached : ℕ) (s : StandingCall)
     : Type 0 where
   pub is_form : form conn s.call.seq past ≡ Some s.call
@@ -33,14 +33,14 @@ pub record IsCallBehind (conn : ℕ) (past : Behind) (engines : List EngineParts
   pub marked : HasMarksUpTo attached s
   pub true_for : All (λ e. IsTrueFor e.entry s) engines
 
--- the engines, of so many attachments, and the calls with their marks are what the history has made
+-- the engines, after `attached` attachments, and the calls with their marks agree with the trace
 pub record AreTied (conn : ℕ) (past : Behind) (engines : List EngineParts) (attached : ℕ) (calls : List StandingCall)
     : Type 0 where
   pub same_chain : chain_of engines attached ≡ chain past
   pub engines_behind : All (IsEngineBehind past) engines
   pub calls_behind : All (IsCallBehind conn past engines attached) calls
 
--- the number of a call is that of no other of these
+-- no pending call of the list has this number
 abbrev pub IsNumberApart : ℕ → List StandingCall → Type 0
 IsNumberApart seq calls = All (λ s. s.call.seq ≢ seq) calls
 
@@ -49,15 +49,15 @@ abbrev pub AreNumbersApart : List StandingCall → Type 0
 AreNumbersApart [] = Unit {0}
 AreNumbersApart (s ∷ calls) = IsNumberApart s.call.seq calls × AreNumbersApart calls
 
--- what is behind after a turn of an entry for the call of a number, before its refusal
+-- the trace after a turn of an entry for a call, before a refusal of the call
 abbrev pub worked : Entry → ℕ → Outcome → Behind → Behind
 worked e seq outcomes.Redacted past = Redacted seq e.name e.version ∷ past
 worked e seq outcome past = note_behind e.name seq (noted_in outcome) past
 
--- ---- how they go on
+-- ---- after one more event
 
--- In each law, engines and calls are what a trace has made. One event later, the changed ones are what the trace with
--- that event has made.
+-- In each law, engines and calls agree with a trace. After an event, the changed engines and calls agree with the trace
+-- that has that event too.
 
 -- the call has the next number: one more than there are accepted calls
 abbrev pub HasNextNumber : Behind → Taken → Type 0
@@ -78,7 +78,7 @@ TakesOn = (u : Under) (past : Behind) (engines : List EngineParts) (attached : �
     → IsNumberApart call.seq calls → HasNextNumber past call → IsAcceptedCopy u.conn call s → IsUnmarked s
     → AreTied u.conn (Took call ∷ past) engines attached (calls ++ s ∷ [])
 
--- the operation is valid for the chain that the history has made, which it changes
+-- the operation is valid for the chain that follows from the trace
 abbrev pub IsApplicable : Behind → Operation → Type 0
 IsApplicable past operation = Changes (chain past) operation (changed operation (chain past))
 

@@ -69,7 +69,7 @@ pub enum Cause {
 pub enum Happening {
     /// A call was accepted.
     Took(Taken),
-    /// A call was submitted and refused, since `MAX_CALLS` calls were pending.
+    /// A submission was rejected, since `MAX_CALLS` calls were pending.
     Away {
         method: u16,
         number: u32,

@@ -126,8 +126,8 @@ impl History {
         self.records.is_empty()
     }
 
-    /// The record of the event at an index, from 0. The operation and the rule that it names exist, so [`step`] and
-    /// its policy give the names of the event.
+    /// The record of the event at an index, from 0. The operation and the rule that it names exist, so `step` and that
+    /// operation's policy give the names of the event.
     pub fn at(&self, place: usize) -> &Record
         requires { place < length self.now.happenings }
         ensures tells { slice_get self.now.happenings place ≡ Some (told_by self.now.steps result.now) }

@@ -1,13 +1,13 @@
 //! Histories of calls: the events of a connection, the state that they lead to, which histories are legal, and
 //! where calls are on the chain.
 //!
-//! A [`Happening`] is one event of a connection; a history is a list of them. `specs/Behind.antt` computes the
-//! state of a connection from its events: its chain, its timestamp, the level of each bucket, what was noted of a
-//! call, the form of a call, and the pending calls. `specs/Rules.antt` defines which event can come next, rule by
-//! rule, and `specs/Legal.antt` which histories are legal. `specs/Clears.antt` has the policy versions that
-//! cleared fields of a call, `specs/Places.antt` the legal positions of calls, and `specs/Events.antt` the
-//! transitions of a connection. `specs/Draining.antt` defines a drain, `specs/Loads.antt` which loads belong to
-//! the calls, `specs/Frames.antt` which frames were sent, and `specs/Tickets.antt` which tickets were drawn.
+//! A [`Happening`] is one event of a connection; a history is a list of them. `specs/Behind.antt` computes the state of
+//! a connection from its events: the chain, the timestamp, the levels of buckets, the notes and the form of a call, and
+//! the pending calls. `specs/Rules.antt` defines which event can come next, rule by rule, and `specs/Legal.antt` which
+//! histories are legal. `specs/Clears.antt` has the policy versions that cleared fields of a call, `specs/Places.antt`
+//! the legal positions of calls, and `specs/Events.antt` the transitions of a connection. `specs/Draining.antt` defines
+//! a drain, `specs/Loads.antt` which loads belong to the calls, `specs/Frames.antt` which frames were sent, and
+//! `specs/Tickets.antt` which tickets were drawn.
 //!
 //! A [`History`] stores the events of one connection. A [`Record`] names an entry by the operation that set its
 //! policy, so the record of a turn allocates nothing (`specs/Records.antt`).

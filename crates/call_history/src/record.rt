@@ -7,7 +7,7 @@ use crate::happening::Taken;
 pub enum Record {
     /// A call was accepted.
     Took(Taken),
-    /// A call was submitted and refused, since `MAX_CALLS` calls were pending.
+    /// A submission was rejected, since `MAX_CALLS` calls were pending.
     Away {
         method: u16,
         number: u32,

@@ -11,9 +11,9 @@ ghost use Rattle.call_history.specs.declared.happening.Taken.{Taken};
 
 use engine_core::{change_is_changed, stays_chain, unmarked_is_true};
 
-/// Engines and calls that agree with a trace still agree after one more event. An acceptance adds the call with
-/// its copy, an operation changes the engines, time fills their buckets, and a turn marks its call. Any other
-/// event leaves them as they are, and each call may leave.
+/// Engines and calls that agree with a trace still agree after one more event. An acceptance adds the call with its
+/// copy, an operation changes the engines, time fills their buckets, and a turn changes its engine and its call. Any
+/// other event leaves them as they are, and each call may leave.
 pub fn ties_go_on()
     ensures none { (conn : ℕ) → AreTied conn [] [] 0 [] }
     ensures takes { TakesOn }

@@ -17,8 +17,9 @@ use Rattle.chain_upgrade.specs.declared.turned.Turned.TheVariants.{Idle, Moved, 
 use Rattle.chain_upgrade.specs.declared.fault.ChainFault.{ChainFault}
 use Rattle.chain_upgrade.specs.declared.fault.ChainFault.TheVariants.{NoSuch, Taken, At, ChainFull, OtherKind, Memory}
 
--- the engines in the order in which they judge, the number of attachments so far, the pending calls by ascending
--- number, and the row of their numbers and positions; the number of engines is the position for transport
+-- The engines are in the order in which they judge; `attached` is the number of attachments so far. The pending calls
+-- are by ascending number, and the row has their numbers and positions. The number of engines is the position for
+-- transport.
 pub record ChainParts : Type 0 where
   pub engines : List EngineParts
   pub attached : ℕ

@@ -302,7 +302,7 @@ impl Chain {
     }
 
     /// Replaces the policy with a name by another one of its kind. The level pays for as many calls as before,
-    /// rounded down and up to a full bucket. Calls past it return to it.
+    /// rounded down and up to a full bucket. Calls past the policy's position return to that position.
     pub fn upgrade(&mut self, name: Name, policy: Policy) -> Result<(), ChainFault>
         requires ranges { IsPolicy policy }
         requires number { All (λ e. e.entry.version + 1 < 2 ^ 32) self.old.engines }

@@ -1,4 +1,4 @@
--- A timestamp, a call refused as `Away`, a send, and a failure of the link: levels, marks and forms still agree.
+-- A timestamp, a rejected submission, a send, and a failure of the link: levels, marks and forms still agree.
 use Rattle.std.proofs.Common.{◌≡◌, ℕ, ◌+◌, ◌-◌, ◌<◌, List, [], ◌∷◌, ◌++◌, get_or, map, reverse, slice_get, suc, take}
 use Rattle.std.proofs.Common.{zero, add-one, refl, ap, sym, ◌∙◌, subst, arith}
 use Rattle.std.specs.Prelude.{All, Some}
@@ -21,7 +21,7 @@ use Rattle.conn_core.proofs.Fitting.{Fits}
 use Rattle.conn_core.proofs.Lists.{all-both, all-of-map}
 use Rattle.conn_core.proofs.Told.{behind-one}
 
--- ---- a call refused as `Away`
+-- ---- a rejected submission
 
 pub fits-away : (conn method number addr : ℕ) (past : Behind) (c : ChainParts) → Fits conn past c
     → Fits conn (Away method number addr ∷ past) c

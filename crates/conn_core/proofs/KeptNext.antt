@@ -90,7 +90,7 @@ steps-still history history' steps c c' same entries h =
     subst (λ es. AllZip (IsStepOf history'.steps) steps es) (sym entries)
     (subst (λ s. AllZip (IsStepOf s) steps (chain_of c).entries) (sym same) h)
 
--- ---- a call refused as `Away`
+-- ---- a rejected submission
 
 pub kept-away : EventsKeep
     → (conn : ℕ) (T : Table) (limit : ℕ) (c : ChainParts) (history history' : Kept) (ended : Bool) (steps : List ℕ)

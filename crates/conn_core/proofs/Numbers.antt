@@ -41,7 +41,7 @@ stood u past seq prefix there =
     All-contains (λ (n : ℕ). n ≤ length (taken past)) (map (λ (call : Taken). call.seq) (standing past)) seq
     (stand-numbered u past prefix) there
 
--- nothing is noted of a later call
+-- nothing is noted of a call that isn't accepted yet
 pub untold : (u : Under) (past : Behind) (name : List ℕ) (seq : ℕ) → IsPrefix u past → length (taken past) < seq
     → noted name seq past ≡ nothing
 untold u [] name seq prefix above = refl

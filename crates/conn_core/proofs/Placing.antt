@@ -22,7 +22,7 @@ drop-at [] i x is = absurd cc
 drop-at (y ∷ xs) zero x is = let same : y ≡ x = cc in ap (λ z. z ∷ xs) same
 drop-at (y ∷ xs) (suc i) x is = drop-at xs i x is
 
--- none of the first so many entries has the name
+-- none of the first `at` entries has the name
 abbrev pub IsBehind : List ℕ → List EngineParts → ℕ → Type 0
 IsBehind name engines at =
     place_of name (map (λ e. e.entry) engines) ≡ at + place_of name (drop at (map (λ e. e.entry) engines))

@@ -122,7 +122,7 @@ went-turn Knows drawn_of Since a b x y at t same idle step fewer draws =
     (on-both (λ seq outcome. Steps a (turns at seq outcome) b) (λ seq outcome. parts b + redactions outcome
     ≤ parts a) t step fewer)
 
--- the same for a turn in which nothing was noted
+-- likewise, a turn in which nothing was noted
 pub went-unnoted : {Q : Type 0} (Knows : Q → ℕ → Type 0) (drawn_of : Q → ℕ → ℕ → Option (List ℕ)) (Since : Q → Q
     → Type 0) (a b : Connection) (x : Q) (at : ℕ) → PassesBy at a b → Went Knows drawn_of Since a b x x
 went-unnoted Knows drawn_of Since a b x at p =

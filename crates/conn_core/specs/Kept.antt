@@ -125,13 +125,14 @@ abbrev pub RefusesBy : Op → Outcome → Type 0
 RefusesBy step (outcomes.Refused n why) = GivesRule step why
 RefusesBy step _ = Unit {0}
 
--- how many records a note needs, and a turn
+-- how many records a note needs
 abbrev pub records_of : Noted → ℕ
 records_of notes.Nothing = 0
 records_of (notes.Charged left) = 1
 records_of (notes.Drawn window ticket) = 1
 records_of notes.Counted = 1
 
+-- how many records a turn needs
 abbrev pub records_in : Outcome → ℕ
 records_in (outcomes.Passed n) = records_of n
 records_in (outcomes.Held left cost) = 0
@@ -215,7 +216,7 @@ pub record HasRoom (calls : List StandingCall) (entries : List Entry) (room : �
 
 -- ---- a connection
 
--- as a view of its fields
+-- a connection, as contracts see these fields
 abbrev pub seen : ℕ → Table → ℕ → ChainParts → Kept → Bool → Connection
 seen conn table limit chain history ended = record {
   conn = conn;
@@ -226,6 +227,7 @@ seen conn table limit chain history ended = record {
   ended = ended;
 }
 
+-- the invariant of these fields
 pub record IsKept (c : Connection) (steps : List ℕ) (history : Kept) (accepted ms : ℕ) : Type 0 where
   pub connection : IsConnection c
   pub valid : IsValid c.table
@@ -239,8 +241,8 @@ pub record IsKept (c : Connection) (steps : List ℕ) (history : Kept) (accepted
 
 -- ---- drains
 
--- A connection advanced by turns alone. It is the same connection with the same chain, and no frame was sent.
--- The drawn tickets are those of its history, and the trees of its calls have no more parts.
+-- A connection advanced by turns alone. It is the same connection with the same chain, and no frame was sent. The
+-- tickets drawn since are those that its history adds, and the trees of its calls have no more parts than before.
 pub record Went {Q : Type 0} (Knows : Q → ℕ → Type 0) (drawn_of : Q → ℕ → ℕ → Option (List ℕ)) (Since : Q → Q → Type 0)
     (before after : Connection) (old new : Q) : Type 0 where
   pub same : IsSame before after
@@ -249,8 +251,8 @@ pub record Went {Q : Type 0} (Knows : Q → ℕ → Type 0) (drawn_of : Q → �
   pub draws : DrawsTickets Knows drawn_of Since before after old new
   pub fewer : parts after ≤ parts before
 
--- The first call at a position advanced by a turn without a note: no event was added, and the trees of the calls
--- have no more parts.
+-- The first call at a position advanced by a turn without a note: no event was added, and the trees of the calls have
+-- no more parts than before.
 pub record PassesBy (position : ℕ) (before after : Connection) : Type 0 where
   pub seq : ℕ
   pub step : Steps before (turns position seq (outcomes.Passed notes.Nothing)) after

@@ -1,4 +1,4 @@
--- The transitions of a connection, as the clauses of its calls state them (this project's own).
+-- The transitions of a connection, as the clauses of its methods state them (this project's own).
 use Rattle.std.specs.Prelude.{◌≡◌, ℕ, ◌<◌, ◌⊎◌, List, [], ◌++◌, Option, IfSome, IsSomeAnd}
 use Rattle.std.specs.List.{sum_by}
 use Rattle.mrpc_base.specs.declared.tickets.TheConstants.{WINDOWS}
@@ -74,7 +74,7 @@ pub record FailsToSend {L : Type 0} (Refused : L → List ℕ → L → Type 0) 
   pub ready : IsReady (under before) (course before) seq bytes
   pub refused : Refused old (frame_of before.table ready.sent) new
 
--- the failure of the link refuses all calls that are pending by then, which leaves the connection as it is after
+-- a failure of the link in the state `between` refuses the pending calls, and the connection is then `after`
 abbrev pub IsFailureFrom : Connection → Course → Connection → Type 0
 IsFailureFrom before between after = Comes (under before) between fails (course after)
 
@@ -82,9 +82,9 @@ IsFailureFrom before between after = Comes (under before) between fails (course 
 abbrev pub frame_in : Connection → Call → List ℕ
 frame_in before call = frame_of before.table call
 
--- Some steps (`Front`) lead to the first call that is ready, and the link fails at its frame. `Refused` says what a
--- failed send of a frame makes of a link, `handed_of` returns the frames that were handed over, `faults_of` the number
--- of failures, and `Since` says that its second argument is a later state of the first.
+-- A link failed at the frame of the first ready call, after the transitions that `Front` relates; the calls that were
+-- pending then are refused. `Refused` is the relation of a failed send of a frame. `handed_of` returns the sent frames,
+-- and `faults_of` the number of failures. `Since` means that its second argument is a later state of the first.
 pub record FailsAfter {L : Type 0} (Front : Under → Course → Course → Type 0) (Refused : L → List ℕ → L → Type 0)
     (handed_of : L → List (List ℕ)) (faults_of : L → ℕ) (Since : L → L → Type 0) (before after : Connection)
     (old new : L) : Type 0 where
@@ -98,7 +98,7 @@ pub record FailsAfter {L : Type 0} (Front : Under → Course → Course → Type
   pub ready : IsReady (under before) between seq bytes
   pub failed : IsFailureFrom before between after
   pub refused : Refused link (frame_in before ready.sent) new
-  -- that send hands nothing over, and those before it don't fail
+  -- the failed send adds no frame, and the sends before it don't fail
   pub same_handed : handed_of link ≡ handed_of new
   pub same_faults : faults_of link ≡ faults_of old
   pub since : IsLaterState Since old link
@@ -117,14 +117,14 @@ abbrev pub HasDrawnMore : ℕ → ℕ → Connection → Connection → List ℕ
 HasDrawnMore tenant window before after earlier now = (more : List ℕ)
     × (drawn_tickets_on tenant window after ≡ drawn_tickets_on tenant window before ++ more) × (now ≡ earlier ++ more)
 
--- of the tickets of a tenant's window, where they are known, those were drawn that the history has, and no others
+-- if the drawn tickets of a tenant's window are known, exactly those that the history adds were drawn since
 abbrev pub Draws : ℕ → ℕ → Connection → Connection → Option (List ℕ) → Option (List ℕ) → Type 0
 Draws tenant window before after drawn drawn' =
     IfSome drawn' (λ now. IsSomeAnd drawn (λ earlier. HasDrawnMore tenant window before after earlier now))
 
--- What a step makes of the tickets: those are drawn that the history has, in windows of known tenants. `Knows` says
--- which tenants have tickets, `drawn_of` returns the tickets that were drawn, and `Since` says that its second argument
--- is a later state of the first.
+-- The tickets after a transition: exactly those that the history adds were drawn, in windows of known tenants. `Knows`
+-- says which tenants have tickets, and `drawn_of` returns the drawn tickets. `Since` means that its second argument is
+-- a later state of the first.
 pub record DrawsTickets {Q : Type 0} (Knows : Q → ℕ → Type 0) (drawn_of : Q → ℕ → ℕ → Option (List ℕ))
     (Since : Q → Q → Type 0) (before after : Connection) (old new : Q) : Type 0 where
   pub drawn : (tenant window : ℕ) → Knows old tenant → window < WINDOWS
@@ -132,10 +132,11 @@ pub record DrawsTickets {Q : Type 0} (Knows : Q → ℕ → Type 0) (drawn_of : 
   pub knows : AreTenantsKept Knows old new
   pub since : IsLaterState Since old new
 
--- the number of parts of the trees of calls, and of the pending calls
+-- the number of parts of the trees of some calls
 abbrev pub parts_of : List StandingCall → ℕ
 parts_of calls = sum_by (λ s. weight s.call.tree) calls
 
+-- the number of parts of the trees of the pending calls
 abbrev pub parts : Connection → ℕ
 parts c = parts_of c.chain.calls
 

@@ -1,4 +1,4 @@
-//! The submissions that a connection takes, and the results of its calls.
+//! The submissions to a connection, and the results of its methods.
 
 ghost use Rattle.std.specs.Prelude.{◌≡◌};
 

@@ -196,7 +196,7 @@ impl<'t> Conn<'t> {
         Ok(seq)
     }
 
-    /// Records a submission that is refused because 64 calls are pending. `Memory` changes nothing.
+    /// Records a submission that is rejected because 64 calls are pending. `Memory` changes nothing.
     pub fn turn_away(&mut self, ask: Ask) -> Result<(), Memory>
         requires { length self.old.chain.calls ≡ MAX_CALLS }
         ensures away { OnOk result (Steps self.old (turns_away ask.method ask.number ask.addr) self.new) }

@@ -1,14 +1,14 @@
 //! A connection: it accepts calls, judges them by its chain of policies while operators change the chain, and
 //! sends them.
 //!
-//! One thread owns a [`Conn`]. It copies a call's arguments once into private memory, keeps the pending calls on
-//! the chain, and records every event. Each of its calls makes transitions in the sense of `call_history`'s
-//! relation `Comes`: none, one or many, as the clauses state. `specs/Connections.antt` defines what contracts see
-//! of a connection and its invariant; `specs/Steps.antt` what the results of its calls mean.
+//! One thread owns a [`Conn`]. It copies a call's arguments once into private memory, keeps the pending calls on the
+//! chain, and records every event. Each of its methods makes transitions in the sense of `call_history`'s relation
+//! `Comes`: none, one or many, as the clauses state. `specs/Connections.antt` defines what contracts see of a
+//! connection and its invariant; `specs/Steps.antt` what the results of its methods mean.
 //!
-//! The crate uses the chain (`chain_upgrade`), histories (`call_history`), the bounded reader (`graph_copy`) and
-//! the encoder (`wire_encode`). The layers above rely on one contract: the history of a connection is legal, and
-//! the frames that its calls send on a link are the frames that they add to the history.
+//! The crate uses the chain (`chain_upgrade`), histories (`call_history`), the bounded reader (`graph_copy`) and the
+//! encoder (`wire_encode`). The layers above rely on one contract: the history of a connection is legal, and the frames
+//! that its methods send on a link are those that they add to the history.
 #![tactic(auto)]
 
 mod answers;

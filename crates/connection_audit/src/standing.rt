@@ -39,7 +39,8 @@ fn holding(calls: &Conn<'_>, place: u32, position: u32) -> Option<Holding>
 {
     calls.is_connection();
     let chain = calls.chain();
-    // The pending calls with smaller numbers are at this position or a later one; no other call is.
+    // Calls with smaller numbers are at this position or a later one, and all calls at later positions have smaller
+    // numbers. So the call is the first here exactly if `place` calls are at later positions.
     if place != chain.cut(position + 1) {
         return None;
     }

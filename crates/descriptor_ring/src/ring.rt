@@ -234,7 +234,7 @@ impl Receiver {
         ensures all { OnNone result (IsPrefix self.old.told self.old.taken) }
         ensures unclosed { OnEmpty result (λ lesson. self.old.told_closed ≡ false) }
         // What was taken and what it has observed as sent are in one order. If it has observed the closing sentinel,
-        // it takes nothing after that.
+        // it takes nothing but the items that it has observed as sent.
         ensures in_order { Agree self.new.told self.new.taken }
         ensures no_more { IsTrue self.old.told_closed → IsPrefix self.new.taken self.new.told }
 

@@ -36,8 +36,8 @@ pub fn each_call_is_counted_once<L: Link>()
     standing_goes_on();
 }
 
-/// If no policy ever holds a call, none is pending once no call can advance: on a connection, if no scheduled
-/// operation names a policy that may hold one, and at the end of a run, if its plan has no such policy.
+/// If no policy ever holds a call, none is pending once no call can advance. It holds on a connection if no scheduled
+/// operation names a policy that may hold one, and at the end of a run if its plan has no such policy.
 pub fn none_stands_unheld<C: Clock, L: Link>()
     ensures connection { (s : Submissions) → IsConnection s.conn → IsServed s → All StepNeverHolds s.steps.now
         → s.conn.chain.row ≡ [] }

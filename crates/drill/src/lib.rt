@@ -11,9 +11,9 @@
 //!
 //! The plan depends on `run_plan` for plans and on `policy_access` for the rules, which it reads as the scenario reader
 //! does. The laws depend on `run_driver` for reports, `run_report` for counts, `service` for connections, `mem_fabric`
-//! for the ends of a link, `conn_core` for the invariant of a connection, and on the laws of histories in
-//! `call_history`, of frames in `frame_transport` and of hellos in `schema_binding`. The layer above prints these
-//! numbers in the line of a drill.
+//! for the ends of a link, and `conn_core` for the invariant of a connection. They use the laws of histories in
+//! `call_history`, of frames in `frame_transport` and of hellos in `schema_binding`. The layer above prints the counts
+//! in the line of a drill.
 #![tactic(auto)]
 
 mod application;

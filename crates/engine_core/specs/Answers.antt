@@ -34,8 +34,8 @@ pub data Answer : Type 0 where
   -- fields must be cleared from it first
   redact : Answer
 
--- The answer of an entry to a call: by its policy, the level of its bucket (if it has one), the timestamp, the call
--- in its present form, and what was noted of the call since the attachment.
+-- The answer of an entry to a call in its present form. It depends on the policy, the level of the bucket (if there is
+-- one), the timestamp, and what was noted of the call since the attachment.
 pub data Answers (policy : Policy) (level moment : ℕ) (form : Call) (past : Past) (answer : Answer) : Type 0 where
   -- access: the first rule that matches, otherwise the default, allows or denies the call
   allows : (p : AccessPolicy) → policy ≡ Access p → (verdict p form).allow ≡ true → answer ≡ pass

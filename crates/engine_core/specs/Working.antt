@@ -22,17 +22,17 @@ use Rattle.engine_core.specs.declared.outcome.Why.TheVariants.{Denied}
 use Rattle.engine_core.specs.declared.outcome.Outcome.{Outcome}
 use Rattle.engine_core.specs.declared.outcome.Outcome.TheVariants.{Passed, Refused, Redacted}
 
--- a mark of the call says that this version of the entry's policy allowed it
+-- by a mark of the call, this version of the entry's policy allowed it
 abbrev pub IsMarkedAllowed : Entry → StandingCall → Type 0
 IsMarkedAllowed entry s = is_allowed s.marks entry.attach entry.version ≡ true
 
 -- a turn of an engine, for a call with its marks
 pub record IsTurn (e : EngineParts) (moment : ℕ) (s : StandingCall) (outcome : Outcome) : Type 0 where
-  -- where the policy allows a call of which a mark says that it did, the turn is that of an entry of which the marks
-  -- say what was noted
+  -- if the policy allows the call whenever a mark means that this version allowed it, the outcome is that of an entry
+  -- with the notes of the marks
   pub comes : (IsMarkedAllowed e.entry s → IsAllowing e.entry.policy s.call)
       → ComesOut e.entry.policy e.level moment s.call (past_of s.marks e.entry.attach) outcome
-  -- a call that the policy has allowed passes, whatever the policy says of it
+  -- a call with a mark that this version of an access policy allowed it passes, without a new verdict
   pub allowed : IsMarkedAllowed e.entry s → IsAccess e.entry.policy → outcome ≡ Passed Nothing
   -- a call is denied by one of the rules, or by the default
   pub rule : (p : AccessPolicy) (noted : Noted) (rule : ℕ) → e.entry.policy ≡ Access p
@@ -57,7 +57,7 @@ pub record LeavesCall (policy : Policy) (outcome : Outcome) (before after : Call
 abbrev pub IsAllowance : Policy → Outcome → Type 0
 IsAllowance policy outcome = IsAccess policy × (outcome ≡ Passed Nothing)
 
--- ---- what a turn of an engine makes of the marks of a call
+-- ---- the effect of an engine's turn on the marks of a call
 
 -- the call has no mark of this attachment
 abbrev pub HasNoMarkOf : ℕ → StandingCall → Type 0
@@ -78,7 +78,7 @@ abbrev pub IsOnlyAllowance : Entry → Outcome → StandingCall → StandingCall
 IsOnlyAllowance entry outcome before after = (version : ℕ) → is_allowed before.marks entry.attach version ≡ false
     → is_allowed after.marks entry.attach version ≡ true → IsAllowance entry.policy outcome × (version ≡ entry.version)
 
--- marks that other engines allowed the call are unchanged, but a redaction takes them all away
+-- marks that other engines allowed the call are unchanged, but a redaction removes them all
 abbrev pub AreOtherAllowancesKept : Entry → Outcome → StandingCall → StandingCall → Type 0
 AreOtherAllowancesKept entry outcome before after = (attach version : ℕ) → attach ≢ entry.attach
     → is_allowed after.marks attach version
@@ -99,12 +99,13 @@ abbrev pub HasNoMoreOtherMarks : Entry → StandingCall → StandingCall → Typ
 HasNoMoreOtherMarks entry before after =
     length (other_marks entry.attach after.marks) ≤ length (other_marks entry.attach before.marks)
 
--- marks that were true for an entry are true for it, unless another entry has its attachment number
+-- marks that were true for an entry `e` are still true for it, unless `e` has the attachment number of `entry` without
+-- being `entry`
 abbrev pub AreMarksStillTrue : Entry → StandingCall → StandingCall → Type 0
 AreMarksStillTrue entry before after =
     (e : Entry) → (e.attach ≡ entry.attach → e ≡ entry) → IsTrueFor e before → IsTrueFor e after
 
--- what a turn of an engine of this entry makes of the marks
+-- the effect of a turn of this entry's engine on the marks
 pub record LeavesMarks (entry : Entry) (outcome : Outcome) (before after : StandingCall) : Type 0 where
   pub noted : IsSilent entry.policy (past_of before.marks entry.attach) → HasJoinedNote entry outcome before after
   pub others : AreOtherNotesKept entry before after
@@ -117,10 +118,10 @@ pub record LeavesMarks (entry : Entry) (outcome : Outcome) (before after : Stand
   pub room : HasNoMoreOtherMarks entry before after
   pub stays_true : AreMarksStillTrue entry before after
 
--- ---- what a turn of an engine makes of the tickets
+-- ---- the effect of an engine's turn on the tickets
 
--- Of the parameters below, `Knows` says which tenants have tickets, `drawn_of` returns the tickets that were drawn of a
--- tenant's window, and `Since` says that its second argument is a later state of the first.
+-- The parameters below: `Knows` is true for the tenants that have tickets. `drawn_of` returns the tickets that were
+-- drawn from a tenant's window. `Since` means that its second argument is a later state of the first.
 
 -- a turn draws from one tenant's window at most: the drawn tickets of each other one are unchanged
 abbrev pub AreOtherTicketsKept : {Q : Type 0} → (Q → ℕ → Type 0) → (Q → ℕ → ℕ → Option (List ℕ)) → Policy → Noted → Q
@@ -138,11 +139,11 @@ abbrev pub ArePolicyTenantsKept : {Q : Type 0} → (Q → ℕ → Type 0) → Q 
 ArePolicyTenantsKept Knows before after =
     (policy : Policy) → KnowsTenantOf (Knows before) policy → KnowsTenantOf (Knows after) policy
 
--- whatever the one before is a later state of, so is the one after
+-- if `before` is a later state of a first one, so is `after`
 abbrev pub IsLaterState : {Q : Type 0} → (Q → Q → Type 0) → Q → Q → Type 0
 IsLaterState {Q} Since before after = (first : Q) → Since first before → Since first after
 
--- what a turn makes of the tickets: it draws one, which is new, or changes nothing
+-- the effect of a turn on the tickets: it draws one, which is new, or changes nothing
 pub record LeavesTickets {Q : Type 0} (Knows : Q → ℕ → Type 0) (drawn_of : Q → ℕ → ℕ → Option (List ℕ))
     (Since : Q → Q → Type 0) (policy : Policy) (noted : Noted) (before after : Q) : Type 0 where
   pub drawn : TellsDraw (drawn_of before) (drawn_of after) policy noted

@@ -46,8 +46,8 @@ pub(crate) fn judge(
     Outcome::Passed(Noted::Nothing)
 }
 
-// Marks a call that the policy allows, and returns whether it did. `note` is the engine's mark so far; it isn't that
-// this version allowed the call.
+// Marks a call if the policy allows it, and returns whether it does. `note` is the content of the engine's mark so
+// far, if there is one; it must not be that this version allowed the call.
 pub(crate) fn allow(
     access: &Access,
     attach: u32,
@@ -175,7 +175,7 @@ pub(crate) fn is_past(note: Option<Note>) -> bool
     )
 }
 
-// Whether an optional mark is that an access policy of this version allowed the call.
+// Whether there is a mark that this version of an access policy allowed the call.
 pub(crate) fn allows(note: Option<Note>, version: u32) -> bool
     ensures { result ≡ is_allowed_by version note }
 {
@@ -185,7 +185,7 @@ pub(crate) fn allows(note: Option<Note>, version: u32) -> bool
     }
 }
 
-// Whether an attachment noted a call.
+// Whether a charge, a ticket or a count of a call was noted for an attachment.
 pub(crate) fn is_noted(call: &Standing, attach: u32) -> bool
     ensures noted { OnTrue result (past_of call.now.marks attach ≢ nothing) }
     ensures none { OnFalse result (past_of call.now.marks attach ≡ nothing) }

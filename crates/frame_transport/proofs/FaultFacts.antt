@@ -173,7 +173,7 @@ has-take place n bs None h none = λ fault is. none fault (fault-of_take place n
 pub has_at : (place place' : ℕ) (bs cs : List ℕ) (fault : Option FeedFault) → place ≡ place' → bs ≡ cs → HasFault place bs fault → HasFault place' cs fault
 has_at place place' bs cs fault p e h = subst (λ (n : ℕ). HasFault n cs fault) p (subst (λ (xs : List ℕ). HasFault place xs fault) e h)
 
--- running out of memory is no fault of a stream
+-- `Memory` is no fault of a stream
 pub not_memory : (place : ℕ) (bs : List ℕ) → IsFaultAt place bs Memory → ⊥
 not_memory place bs (long there large is) = cc
 not_memory place bs (no_kind there small wrong is) = cc

@@ -76,7 +76,7 @@ kept_advanced taken waiting end begun behind piece new now_begun a k room adv =
       room = omega (arith, k.ends, ends, adv.count);
     }
 
--- a fault that was found is at the end of the whole stream with the piece
+-- a fault that was found stays if more bytes follow; no fault so far stays if none follow
 fault_of_all : (fault : Option FeedFault) (place : ℕ) (xs ys : List ℕ) → HasFault place xs fault → (fault ≡ None → ys ≡ []) → HasFault place (xs ++ ys) fault
 fault_of_all None place xs ys h clean = has_at place place xs (xs ++ ys) None refl (sym (ap (λ (bs : List ℕ). xs ++ bs) (clean refl) ∙ append-nil xs)) h
 fault_of_all (Some fault) place xs ys h clean = fault-append place xs ys fault h

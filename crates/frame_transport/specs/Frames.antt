@@ -53,7 +53,7 @@ kind_in bytes = slice_index bytes 4
 abbrev pub version_in : List ℕ → ℕ
 version_in bytes = slice_index bytes 5
 
--- A frame that starts with these bytes at this offset is at fault: its length is too long, or else its kind doesn't
+-- A frame that starts with these bytes at this offset is at fault. Its length is too long, or else its kind doesn't
 -- exist, or else its kind doesn't have its version. Each field counts as soon as it is complete.
 pub data IsFaultAt (place : ℕ) (bytes : List ℕ) (fault : FeedFault) : Type 0 where
   long : 4 ≤ length bytes → MAX_PAYLOAD < length_in bytes → fault ≡ TooLong place (length_in bytes)
@@ -110,7 +110,7 @@ abbrev pub AlwaysEnds : Type 0
 AlwaysEnds = (place : ℕ) (stream : List ℕ) → All (λ byte. byte < 256) stream
     → (fault : Option FeedFault) × Ends place stream fault
 
--- in at most one way
+-- and at most one of the two: what the stream has, a first fault or none so far, is unique
 abbrev pub EndsOnce : Type 0
 EndsOnce = (place : ℕ) (stream : List ℕ) (fault other : Option FeedFault) → Ends place stream fault
     → Ends place stream other → fault ≡ other

@@ -29,8 +29,8 @@ has_ended link = link.ended
 abbrev pub failures_of : {W : Type 0} → ByteLink W → ℕ
 failures_of link = link.failures
 
--- the second link is a later state of the first: it is over the same sink, and as long as no send has failed, the sink
--- gained exactly the frames sent since, concatenated, and none of its writes failed
+-- The second link is a later state of the first. It is over the same sink. As long as no send has failed, the sink
+-- gained exactly the frames sent since, concatenated, and none of its writes failed.
 pub record IsLater {W : Type 0} (written : W → Option (List ℕ)) (faults : W → ℕ) (old new : ByteLink W) : Type 0 where
   pub same_sink : sink_name new ≡ sink_name old
   pub more : List (List ℕ)

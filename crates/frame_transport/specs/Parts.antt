@@ -21,7 +21,7 @@ pub record IsHeaderOf (bytes : List ℕ) (h : Header) : Type 0 where
   pub conn : h.conn ≡ big_number 4 (drop 8 bytes)
   pub number : h.number ≡ big_number 4 (drop 12 bytes)
 
--- the bytes of the header: the first 16 of the two parts, or all where they are fewer
+-- the bytes of the header: the first 16 of the two parts, or all if they are fewer
 abbrev pub header_part : List ℕ → List ℕ → List ℕ
 header_part begun piece = take HEADER_LEN (begun ++ piece)
 

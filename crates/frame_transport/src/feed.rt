@@ -110,7 +110,7 @@ impl Feed {
         Some(frame)
     }
 
-    /// The frame at index `i` among those that weren't taken yet; `None` if there are fewer. It isn't taken.
+    /// The whole frame at index `i`, from 0, among those that weren't taken yet; `None` if there is none. It stays.
     pub fn peek(&self, i: usize) -> Option<&Frame>
         ensures some { IfSome result (λ frame. (frames : List Frame) (rest : List ℕ)
             → Splits self.now.place self.now.bytes frames rest → slice_get frames i ≡ Some frame.now) }

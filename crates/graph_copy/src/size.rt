@@ -1,9 +1,8 @@
 //! How long the encoding of a copied graph can be.
 //!
 //! If at most 16384 words of a graph are loaded, its encoding has at most 16 bytes for each of them. So whoever
-//! forwards it knows beforehand how much room it needs. The crate has no code. It depends on `graph_form` (what is
-//! loaded of a graph, and which tree that is), on `wire_base` (how a tree is encoded) and on `mrpc_table`. Its one
-//! contract for the layers above is the law below.
+//! forwards it knows beforehand how much room it needs. The module has only the law below. `graph_form` defines what is
+//! loaded of a graph, and which tree that is; `wire_base` defines how a tree is encoded.
 
 ghost use Rattle.std.specs.Prelude.{ℕ, ◌*◌, ◌≤◌, length};
 ghost use Rattle.mrpc_table.specs.Valid.{IsValid};

@@ -64,7 +64,7 @@ number-zero T H TheBool = inl (fine-number T H TheBool 0 (omega arith))
 nowhere : (H words : ℕ) → LiesIn H 0 words → ⊥
 nowhere H words h = let a = h.from_one in omega (arith, a)
 
--- a zero word of a run is valid as a number; in a text it may be invalid UTF-8
+-- a zero word of a run is valid, unless it ends a text that isn't UTF-8
 run-fine : (T : Table) (H : ℕ) (k : Kind) (left : ℕ) (before : List ℕ)
     → (k ≡ Text → left ≤ 8 → IsUtf8 (before ++ take left (word_bytes 0))) → IsFine T H (run_word k left before) 0
 run-fine T H k left before text Narrow bad = let a = pow_pos (8 * left) in let b = bad.1 in omega (arith, a, b)

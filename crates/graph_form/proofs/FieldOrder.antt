@@ -1,4 +1,4 @@
--- The properties of a valid table on which the normal form of a graph's tree rests: in each message the numbers rise,
+-- The properties of a valid table on which the normal form of a graph's tree rests. In each message the numbers rise,
 -- no key is a message, and the slots are in ascending order of numbers.
 use Rattle.std.proofs.Common.{◌≡◌, ◌≢◌, ℕ, zero, suc, ◌<◌, Bool, List, [], ◌∷◌, length, get_or, All, Some, true}
 use Rattle.std.proofs.Common.{false, cond, if◌then◌else◌, refl, ap, subst, ◌∙◌, arith, slice_get, option_map}

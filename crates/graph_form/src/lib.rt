@@ -1,5 +1,5 @@
-//! Graphs in words: how an unmarshalled message lies in a heap of 64-bit words, which words are loaded for it and in
-//! which order, which of them are invalid, and which tree they form.
+//! Graphs in words: how an unmarshalled message lies in a heap of 64-bit words. The crate defines which words are
+//! loaded for it and in which order, which of them are invalid, and which tree they form.
 //!
 //! The layout is this project's own. The crate depends on `mrpc_table`. Its one contract for the layers above: a
 //! type, an address and the loads determine the placed tree.

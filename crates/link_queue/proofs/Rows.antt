@@ -105,7 +105,7 @@ no_byte_twice h = cc (h.in_order)
 no_byte_lost : BringsBack (Bytes (8 ∷ []) ∷ []) None (7 ∷ 8 ∷ []) false Working → ⊥
 no_byte_lost h = cc (h.in_order)
 
--- a failure is reported only of a link that failed, and out of memory only if it was
+-- a failure is reported only of a link that failed, and out of memory only if the writer was
 failure_told : IsNewsOf HasFailed Failed
 failure_told = refl
 

@@ -52,7 +52,8 @@ ends_once (Mark End ∷ pieces) = has_no_bytes pieces
 ends_once (Mark Failed ∷ pieces) = ends_once pieces
 ends_once (Mark Memory ∷ pieces) = ends_once pieces
 
--- what a writer may report of an inner link besides its end: that it failed or was out of memory, if that is so
+-- what a writer may report of an inner link besides its end: that it failed or its writer was out of memory, if that is
+-- so
 abbrev pub IsNewsOf : Health → News → Type 0
 IsNewsOf health End = ⊥
 IsNewsOf health Failed = health ≡ HasFailed
@@ -75,11 +76,11 @@ may_hold ended (Some (Mark Memory)) = false
 
 -- ---- what a link and its writer pushed and popped
 
--- Two queues connect a link and its writer. The link pushes frames into the queue to the writer, the sentinel
--- `Finish` when its sending side is shut down, and finally the sentinel `Close`. The writer forwards the frames
--- to the inner link. Into the queue back it pushes what the inner link receives: bytes, the sentinel `End` when
--- the other side has finished, and the sentinel `Failed` or `Memory` when the inner link failed or was out of
--- memory.
+-- Two queues connect a link and its writer. The link pushes frames into the queue to the writer, the sentinel `Finish`
+-- when its sending side is shut down, and finally the sentinel `Close`. The writer forwards the frames to the inner
+-- link. Into the queue back it pushes the bytes that the inner link receives, and the sentinel `End` when the other
+-- side has finished. It pushes the sentinel `Failed` when the inner link failed, and `Memory` when the writer was out
+-- of memory.
 
 -- What a link that isn't closed has pushed into the queue to its writer. That queue has `capacity` slots, and
 -- `free` of them are known to be free. At most `most` frames are queued, and `finished` is whether the sending
@@ -94,9 +95,9 @@ pub record QueuesUp (most capacity free : ℕ) (put : List (Piece Order)) (finis
   pub unclosed : is_open put ≡ true
   pub finishes : has_finished put ≡ finished
 
--- What a link that isn't closed has popped from the queue back, and what it returned to its caller. It delivered
--- the bytes `given`, `ended` is whether it returned the end of the stream, `health` is what it knows of the
--- inner link, and `faults` is how many sends and receives failed.
+-- What a link that isn't closed has popped from the queue back, and what it returned to its caller. It delivered the
+-- bytes `given`, and `ended` is whether it returned the end of the stream. `health` is what it knows of the inner link,
+-- and `faults` is how many sends and receives failed.
 pub record HearsBack (taken : List (Piece News)) (given : List ℕ) (ended : Bool) (health : Health)
     (faults : ℕ) : Type 0 where
   -- if it returned the end, it has popped `End` and delivered every byte that it popped

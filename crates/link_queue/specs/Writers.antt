@@ -44,6 +44,6 @@ module _ {L : Type 0} {g : Ghosts L} where
   abbrev pub has_failed : WriterEnd L g → Type 0
   has_failed w = w.inner.health ≡ Failed
 
-  -- it was out of memory
+  -- the writer was out of memory
   abbrev pub lacked_memory : WriterEnd L g → Type 0
   lacked_memory w = w.inner.health ≡ Memory

@@ -4,12 +4,11 @@
 //! arrived. A [`QueueWriter`], in a thread of its own, forwards the frames to the inner link and returns the
 //! bytes that it receives.
 //!
-//! The crate uses `spsc_queue` for the queues in both directions, `polling` for an idle writer, `mrpc_base` for
-//! links, `mrpc_table` for lists of bytes, and `atomic_table` for the identity of the queues. The layer above
-//! uses one contract, once the link was closed and the writer has ended. By [`WriterEnd::meet`], the frames that
-//! the inner link sent are a prefix of those pushed into the queue, in order, and all of them unless the inner
-//! link failed or memory ran out. The bytes that the link delivered are a prefix of those that the inner link
-//! received.
+//! The crate uses `spsc_queue` for the queues in both directions, `polling` for an idle writer, `mrpc_base` for links,
+//! `mrpc_table` for lists of bytes, and `atomic_table` for the identity of the queues. The layer above uses one
+//! contract, once the link was closed and the writer has ended. By [`WriterEnd::meet`], the frames that the inner link
+//! sent are a prefix of those pushed into the queue, in order. They are all of them unless the inner link failed or the
+//! writer was out of memory. The bytes that the link delivered are a prefix of those that the inner link received.
 #![tactic(auto)]
 
 mod inner;

@@ -23,10 +23,10 @@ pub(crate) enum News {
 /// The health of an inner link.
 #[derive(Clone, Copy, PartialEq, Eq)]
 pub enum Health {
-    /// It hasn't failed, nor was it out of memory.
+    /// It hasn't failed, and its writer wasn't out of memory.
     Working,
     /// It failed.
     Failed,
-    /// It was out of memory.
+    /// Its writer was out of memory.
     Memory,
 }

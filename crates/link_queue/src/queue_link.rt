@@ -220,7 +220,7 @@ impl<'r, R: Wait> Link for QueueLink<'r, R> {
 
     ghost itself = { λ _. (refl, refl, refl) };
 
-    // A failed send means nothing further.
+    // Nothing more is known after a failed send.
     ghost refused = { λ _ _ _. ⊤ };
 
     fn send(&mut self, frame: &[u8]) -> Handed

@@ -33,7 +33,7 @@ pub struct QueueWriter<'r, R, L: Link> {
     held: Option<Piece<News>>,
     // The buffer for the next bytes, once it is allocated.
     buffer: Vec<u8>,
-    // Whether it reported to the link that the inner link failed or was out of memory.
+    // Whether it reported to the link that the inner link failed or the writer was out of memory.
     told: bool,
     closed: bool,
     ghost passes: { PassesOn (taken_of orders) (passed_on inner) closed inner.health },
@@ -89,8 +89,8 @@ impl<'r, R: Wait, L: Link> QueueWriter<'r, R, L> {
         }
     }
 
-    /// Forwards the frames of the queue, in order, until its link is closed, and returns what the inner link
-    /// receives. After the inner link failed or was out of memory, it pops further frames without forwarding them.
+    /// Forwards the frames of the queue, in order, until its link is closed, and returns what the inner link receives.
+    /// After the inner link failed or the writer was out of memory, it pops further frames without forwarding them.
     pub fn run(self) -> WriterEnd<L>
         ensures start { start_of result ≡ writer_start self.entry }
         ensures forward { end_forward result ≡ writer_forward self.entry }
@@ -181,7 +181,7 @@ impl<'r, R: Wait, L: Link> QueueWriter<'r, R, L> {
         }
     }
 
-    // Reports to the link, once, that the inner link failed or was out of memory.
+    // Reports to the link, once, that the inner link failed or the writer was out of memory.
     fn tell(&mut self)
         ensures closed { self.new.closed ≡ self.old.closed }
         ensures start { writer_start self.new ≡ writer_start self.old }

@@ -11,7 +11,7 @@ use crate::queue_link::Passed;
 use mrpc_base::Link;
 use spsc_queue::{Consumer, Piece, Producer};
 
-/// The state of a writer after it ended: the inner link, and whether it was out of memory.
+/// The state of a writer after it ended: the inner link, and whether the writer was out of memory.
 pub struct WriterEnd<L: Link> {
     pub(crate) inner: Inner<L>,
     pub(crate) orders: Consumer<Piece<Order>>,
@@ -84,7 +84,7 @@ impl<L: Link> WriterEnd<L> {
         self.inner.health == Health::Failed
     }
 
-    /// Whether it was out of memory.
+    /// Whether the writer was out of memory.
     pub fn memory(&self) -> bool
         ensures { IsTrue result ↔ lacked_memory self.now }
     {
@@ -98,7 +98,7 @@ impl<L: Link> WriterEnd<L> {
         requires backward { passed.backward ≡ end_backward self.old }
 
         // The frames sent since are a prefix of those pushed into the queue, and all of them unless the inner link
-        // failed or was out of memory.
+        // failed or the writer was out of memory.
         ensures handed { L.handed (link_of self.new) ≡ L.handed (start_of self.new) ++ handed_since self.new }
         ensures in_order { IsPrefix (handed_since self.new) passed.handed }
         ensures all_handed { (has_failed self.new → ⊥) → (lacked_memory self.new → ⊥)

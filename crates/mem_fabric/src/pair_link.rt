@@ -27,9 +27,9 @@ const END_PLACES: usize = 1;
 #[derive(Drop)]
 pub(crate) struct EndMark;
 
-/// One end of an in-memory link. Contracts see it as a `PairEnd`: the frames that it sent, the bytes that it
-/// received, and whether either side has finished; the numbers of the sends and receives that shall fail, how
-/// many were made and how many failed; and its two queues.
+/// One end of an in-memory link. Contracts see it as a `PairEnd`: the frames that it sent, the bytes that it received,
+/// and whether either side has finished. It also has the numbers of the sends and receives that shall fail, how many
+/// were made and how many failed, and its two queues.
 pub struct PairLink<'r, R> {
     rt: &'r R,
     alloc: Global,
@@ -167,7 +167,7 @@ impl<'r, R: Wait> Link for PairLink<'r, R> {
 
     ghost itself = { λ _. (refl, refl, refl, refl) };
 
-    // A failed send means nothing further.
+    // Nothing more is known after a failed send.
     ghost refused = { λ _ _ _. ⊤ };
 
     fn send(&mut self, frame: &[u8]) -> Handed
@@ -194,7 +194,7 @@ impl<'r, R: Wait> Link for PairLink<'r, R> {
         let Ok(copy) = Bytes::from_slice(self.alloc, frame) else {
             return Handed::Memory;
         };
-        // Waits while the queue holds the most pieces.
+        // Waits while the queue holds `MOST_PIECES` pieces.
         self.out
             .put_leaving(self.rt, END_PLACES, Piece::Bytes(copy));
         Handed::Done

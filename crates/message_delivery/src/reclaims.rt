@@ -36,8 +36,8 @@ pub enum Reclaimed {
 }
 
 impl Reclaims {
-    /// Takes the available numbers and reclaims each block; `given` is the number of blocks sent to the application
-    /// so far. Judges at most as many numbers as the program reclaims plus the blocks that were sent.
+    /// Takes the available numbers and reclaims each block; `given` is the number of blocks sent to the application so
+    /// far. In total, at most as many numbers are judged as the program reclaims plus the blocks that were sent.
     pub fn reclaim<R: Wait>(
         &mut self,
         rt: &R,

@@ -12,9 +12,9 @@ use crate::{Came, Handed, Link};
 use std::alloc::Global;
 use std::marker::Model;
 
-/// A link in memory. Contracts see it as a `Linking`: the frames sent, the bytes received and those remaining, the
-/// lengths and the numbers of failing sends and receives that it was made with, how many sends and receives there were
-/// and failed, and whether either side has finished.
+/// A link in memory. Contracts see it as a `Linking`: the frames sent, the bytes received and those remaining. It also
+/// has the lengths and the numbers of failing sends and receives that the link was made with. Further it has how many
+/// sends and receives there were and failed, and whether either side has finished.
 #[derive(Drop)]
 pub struct MemLink {
     alloc: Global,

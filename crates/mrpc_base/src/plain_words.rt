@@ -10,7 +10,7 @@ use crate::{Room, Stores, Words};
 use std::alloc::{AllocError, Global};
 use std::marker::Model;
 
-// Room for stores is reserved in steps of this many, which allocates nothing.
+// Room for at least this many stores is made at once if they can be counted. It allocates nothing.
 const ROOM_AT_ONCE: u64 = 1 << 16;
 
 /// The words of a heap in memory. One holder loads and stores them, and races simulate the stores of others. Contracts
@@ -62,7 +62,8 @@ fn can_count(made: u64, waiting: u64, stores: u64) -> bool
     }
 }
 
-// Room for at least this many stores. It returns more if they can be counted, so that room is seldom made.
+// Room for at least `stores` stores: `ROOM_AT_ONCE` if that is more and can be counted, so that room is seldom made.
+// `None` if not even `stores` can be counted.
 fn room_for(made: u64, waiting: u64, stores: u64) -> Option<u64>
     ensures enough { IfSome result (λ room. stores ≤ room) }
     ensures counted { IfSome result (λ room. made + waiting + room < 2 ^ 64) }

@@ -2,7 +2,7 @@
 
 ghost use Rattle.std.specs.Prelude.{◌≡◌, ◌≢◌, ◌<◌, ◌⊎◌, List, [], ◌∷◌, ◌++◌, ℕ, Option, IfSome, IsSomeAnd};
 
-/// How many windows a quota has. A draw for any later window uses the last one.
+/// How many windows a quota has. Callers of `draw` use the last one for any later window.
 pub const WINDOWS: u64 = 1024;
 
 /// Draws the tickets of the tenants' quotas.

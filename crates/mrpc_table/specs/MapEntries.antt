@@ -1,5 +1,5 @@
 -- The entries of a map: each key once, by ascending key, with the value of its last entry (Protocol Buffers,
--- "Encoding": "Maps"; the order of keys is that of this project's normal form).
+-- "Encoding": "Maps"). The order of keys is that of this project's normal form.
 use Rattle.std.specs.Prelude.{ℕ, List, [], ◌∷◌}
 use Rattle.std.specs.Ordering.{nat_cmp}
 use Rattle.std.specs.declared.cmp.Ordering.{Ordering}

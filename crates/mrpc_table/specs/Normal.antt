@@ -1,6 +1,6 @@
--- The trees of a message, and which of them are in normal form: numbers ascend, no field with implicit presence has its
--- default, no repeated field or map is empty, a map's keys ascend, a oneof has at most one member (Protocol Buffers,
--- "Field Presence", "Maps", "Oneof"; the normal form is this project's own).
+-- The trees of a message, and which of them are in normal form. Numbers ascend, and no field with implicit presence has
+-- its default. No repeated field or map is empty, a map's keys ascend, and a oneof has at most one member (Protocol
+-- Buffers, "Field Presence", "Maps", "Oneof"; the normal form is this project's own).
 use Rattle.std.specs.Prelude.{◌≡◌, ◌≢◌, ◌==◌, ℕ, ◌+◌, ◌<◌, ◌≤◌, max, List, [], All, Option, Some, option_map, find, slice_get, unwrap_or, cond}
 use Rattle.std.specs.Str.{IsUtf8}
 use Rattle.std.specs.Ordering.{nat_cmp}

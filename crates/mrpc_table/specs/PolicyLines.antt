@@ -23,8 +23,8 @@ order_of Known = 3
 order_of Path = 4
 order_of Default = 5
 
--- a fault names the first line at fault with its first reason, by the reasons of each line; running out of memory
--- depends on no line
+-- a fault names the first line at fault with its first reason, by the reasons of each line; `Memory` can come with any
+-- lines
 abbrev pub IsFaultOf : (ℕ → RuleReason → Type 0) → RuleFault → Type 0
 IsFaultOf IsAgainst (fault.At line reason) = IsFirstFault IsAgainst order_of line reason
 IsFaultOf IsAgainst fault.Memory = Unit {0}

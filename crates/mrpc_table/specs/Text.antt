@@ -1,5 +1,5 @@
--- The canonical text of a table (this project's own): enums by ascending full name, each with its values, messages by
--- ascending full name, each with its fields, and the methods, a line for each.
+-- The canonical text of a table (this project's own), with a line for each part. Enums come by ascending full name,
+-- each with its values, then messages by ascending full name, each with its fields, and then the methods.
 use Rattle.std.specs.Prelude.{ℕ, ℤ, List, [], ◌∷◌, ◌++◌, codes, option_map, slice_get, unwrap_or}
 use Rattle.std.specs.List.{flat_map, enumerate_from, join_with_byte}
 use Rattle.std.specs.Fmt.{decimal, signed_decimal}

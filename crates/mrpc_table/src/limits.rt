@@ -42,7 +42,7 @@ pub const MAX_DEPTH: u32 = 32;
 /// The most numbers of a path.
 pub const MAX_PATH: usize = 32;
 
-/// The least words of a heap; word 0 is never used.
+/// The fewest words of a heap; word 0 is never used.
 pub const MIN_HEAP: u64 = 4;
 
 /// The most words of a heap.

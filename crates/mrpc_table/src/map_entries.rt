@@ -70,7 +70,7 @@ fn add_entry(kept: &mut Entries, entry: (Value, Value), key: Kind) -> Result<(),
     }
 }
 
-// Appends an entry unless its key is the same.
+// Appends an entry unless `same`, when another entry with its key replaces it.
 fn keep_unless(kept: &mut Entries, entry: (Value, Value), same: bool) -> Result<(), Memory>
     ensures { OnOk result
         (kept.new.items ≡ (if same then kept.old.items else kept.old.items ++ entry ∷ [])) }

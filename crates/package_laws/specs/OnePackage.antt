@@ -36,7 +36,7 @@ pub record IsOneFile (F : Joined) (G : File) : Type 0 where
 
 -- ---- names
 
--- No type at the top level of a file has the name of a part of the file's package: in a file that doesn't see the
+-- No type at the top level of a file has the name of a part of the file's package. In a file that doesn't see the
 -- type, the name would mean a package.
 pub record NoTypeIsAPart (F : Joined) : Type 0 where
   pub messages : (m : MessageDecl) → Contains F.messages m → m.parent ≡ None

@@ -1,4 +1,4 @@
-//! Laws of files of one package. These functions do nothing; their clauses hold.
+//! Laws of files of one package. The functions have no effect: each clause is a law.
 
 ghost use Rattle.std.specs.Prelude.{List};
 ghost use Rattle.mrpc_table.specs.declared.table.Table.{Table};

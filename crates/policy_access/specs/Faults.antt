@@ -55,7 +55,7 @@ is_default_line (Default allow) = true
 abbrev pub is_default : List ℕ → Bool
 is_default line = option_map_or is_default_line (line_of line) false
 
--- Some of the lines is a default's.
+-- One of the lines is a default's.
 abbrev pub has_default : List (List ℕ) → Bool
 has_default lines = list_any is_default lines
 

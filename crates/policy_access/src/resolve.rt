@@ -175,9 +175,9 @@ fn calls_in(
     }
 }
 
-// The calls that a rule selects, resolved in the table. The reasons are `Number` for an index of more than 16 bits or
-// a value out of range, `Path` for a method or a field that the table doesn't have or an operation that doesn't fit,
-// and `Word` for a malformed value. If the method is unknown, a value that has no form at all counts first.
+// The calls that a rule selects, resolved in the table. The reason is `Number` for an index of more than 16 bits or a
+// value out of range. It is `Path` for a method or a field that the table doesn't have, or an operation that doesn't
+// fit, and `Word` for a malformed value. If the method is unknown, a value that has no form at all counts first.
 pub(crate) fn about_in(
     alloc: Global,
     table: &Table,

@@ -157,7 +157,7 @@ fn bytes_value(alloc: Global, word: &[u8]) -> Result<Result<Operand, PartReason>
 }
 
 // Parses a value for a field of the kind: `Word` if it is malformed, `Number` if it is out of range. Numbers are
-// digits with an optional `-`. A text is in quotes. Bytes are `x` and lower-case hexadecimal digits.
+// digits after an optional `-`. A text is in quotes. Bytes are lower-case hexadecimal digits after an `x`.
 pub(crate) fn operand_of(
     alloc: Global,
     kind: Kind,

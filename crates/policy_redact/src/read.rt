@@ -79,9 +79,9 @@ fn read_lines(alloc: Global, lines: &[Bytes], table: &Table) -> Result<Redact, R
 /// Reads the redacting policy from its lines, or returns their first fault. Each line is `clear method INDEX [reply]
 /// PATH`, and there are 1 to 64. Methods and paths refer to the table; the last number of a path is any field.
 ///
-/// The reasons are `Word` for a malformed line, for a 65th line, and at line 1 if there is no line, `Number` for an
-/// index above 65535, and `Path` for a method or a field that the table doesn't have. `RuleFault::Memory` means out
-/// of memory. It takes time in proportion to the text, except that fields are looked up by search.
+/// The reason is `Word` for a malformed line, for a 65th line, and at line 1 if there is no line. It is `Number` for
+/// an index above 65535, and `Path` for a method or a field that the table doesn't have. `RuleFault::Memory` means
+/// out of memory. Reading takes time in proportion to the text, except that fields are looked up by search.
 pub fn read_redact(alloc: Global, lines: &Lines, table: &Table) -> Result<Redact, RuleFault>
     requires { IsValid table.now }
     // The result is the policy of the lines.

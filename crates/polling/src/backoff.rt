@@ -1,8 +1,8 @@
 //! Backoff of a thread that polls and finds nothing to do.
 //!
 //! The thread yields a few times first, to react quickly. Then it sleeps, twice as long each time up to a limit, to
-//! cost little when idle. Nobody wakes a sleeper, since each sleep is short. It depends on the standard library alone.
-//! The layers above use one contract: which step of the backoff comes next. No clause is about time.
+//! cost little when idle. Nobody wakes a sleeper, since each sleep is short. A thread that need not react soon skips
+//! the yields.
 
 ghost use Rattle.std.specs.Prelude.{◌≡◌, ◌<◌, ◌≤◌, ◌+◌, ◌*◌, min};
 ghost use Rattle.polling.specs.declared.backoff.TheConstants.{FIRST_SLEEP, LONGEST_SLEEP, MOST_YIELDS};

@@ -1,10 +1,10 @@
 //! What a thread that polls uses: a backoff, and the stop flag of a run.
 //!
-//! A [`Pauses`] says which wait comes next while a thread finds no work. The threads of a run share one flag. A thread
-//! that runs out of memory sets it, and all others end where they wait: [`StopFlag`] is the trait of such a flag,
-//! [`RunFlag`] the flag of a run, and [`NeverStops`] one that is never set. The crate depends on the standard library
-//! alone. The layers above use two contracts: which wait comes next, and that a flag is found set only where it may be.
-//! No clause speaks of time.
+//! A [`Pauses`] determines the next step while a thread finds no work: to yield, or to sleep. The threads of a run
+//! share one flag. A thread that is out of memory sets it, and all others then end where they wait. [`StopFlag`] is the
+//! trait of such a flag, [`RunFlag`] the flag of a run, and [`NeverStops`] one that is never found set. The crate
+//! depends on the standard library alone. The layers above use two contracts: which step of the backoff comes next, and
+//! that a flag is found set only if it may be. No clause is about time.
 #![tactic(auto)]
 
 mod backoff;

@@ -1,9 +1,8 @@
 //! The stop flag of a run.
 //!
-//! The threads of a run share one flag. A thread that is out of memory sets it, and all others then end at their next
+//! The threads of a run share one flag. A thread that is out of memory sets it, and all others then end where they
 //! wait. [`StopFlag`] is the trait that the threads use, [`RunFlag`] the flag of a run, and [`NeverStops`] a flag that
-//! is never set. It depends on the standard library alone. The layers above use one contract: a flag is found set only
-//! if it may be.
+//! is never found set.
 
 ghost use Rattle.std.specs.Prelude.{IsTrue};
 

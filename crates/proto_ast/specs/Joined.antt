@@ -1,4 +1,4 @@
--- Files that are resolved together, as if their texts were concatenated: each kind of declaration is in one list, and
+-- Files that are resolved together, as if their texts were concatenated. Each kind of declaration is in one list, and
 -- the offsets of a later file come after those of the earlier ones. A file alone is a special case.
 use Rattle.std.specs.Prelude.{◌≡◌, ℕ, List, [], ◌∷◌, Option, Some, None, slice_get, Contains}
 use Rattle.mrpc_table.specs.Names.{parts_of}

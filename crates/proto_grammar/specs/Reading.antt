@@ -84,7 +84,7 @@ unexpected x = fault_at (if is_no_token x.means then reasons.Token else reasons.
 abbrev pub wrong : {X : Type 0} → Lexeme → Result X ProtoFault
 wrong x = Err (unexpected x)
 
--- the code returned what reading defines, or ran out of memory
+-- the code returned what reading defines, or is out of memory
 abbrev pub Fails : {X : Type 0} → ProtoFault → Result X ProtoFault → Type 0
 Fails fault.Memory read = Unit {0}
 Fails e read = read ≡ Err e

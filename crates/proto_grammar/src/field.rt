@@ -81,9 +81,9 @@ pub enum MapState {
     Key(NameState),
     /// The value of the outermost map is being read.
     Value(Word, NameState),
-    /// A key of a nested map is being read, at this depth, after the key of the outermost map.
+    /// A key of a map in this many others is being read, after the key of the outermost map.
     InnerKey(Word, usize, NameState),
-    /// A value of a nested map is being read, at this depth.
+    /// A value of a map in this many others is being read.
     InnerValue(Word, usize, NameState),
     /// This many maps are still open.
     Close(Word, usize),

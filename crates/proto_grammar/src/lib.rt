@@ -5,7 +5,7 @@
 //! statement. A part is read token by token. Its state, such as [`FieldState`], records how much of it is read; a
 //! function such as [`field_step`] reads one more token. [`ProtoFault`] is the fault of a token. The crate uses the
 //! tokens of `proto_lexer`, the declarations of `proto_ast`, and `mrpc_table`. The layer above relies on one
-//! contract: each step returns what `specs/Reading.antt` defines for the token, or runs out of memory. `proto_schema`
+//! contract: each step returns what `specs/Reading.antt` defines for the token, or `Memory`. `proto_schema`
 //! combines the parts into statements, and proves that what is read this way is what the grammar defines.
 #![tactic(auto)]
 

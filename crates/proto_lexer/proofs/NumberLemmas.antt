@@ -420,7 +420,7 @@ record Fraction_front (bytes : List ℕ) : Type 0 where
   pub is : bytes ≡ part ++ rest
   pub long : fraction_len bytes ≡ length part
   pub what : (part ≡ []) ⊎ ((digits : List ℕ) × (part ≡ 46 ∷ digits) × (list_all is_decimal_digit digits ≡ true))
-  -- a point has a digit after it
+  -- if a digit follows the point, the part has a digit
   pub some : (cs : List ℕ) → bytes ≡ 46 ∷ cs → begins is_decimal_digit cs ≡ true
       → (digits : List ℕ) × (part ≡ 46 ∷ digits) × (list_all is_decimal_digit digits ≡ true) × (is_some digits ≡ true)
 

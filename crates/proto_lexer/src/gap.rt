@@ -42,7 +42,7 @@ fn block_end(text: &[u8], at: usize) -> Option<usize>
     None
 }
 
-// The offset just after the comment that starts with the slash at `at`; `None` if no comment starts there.
+// The offset just after the comment that starts with the slash at `at`; `None` if no complete comment starts there.
 #[tactic(auto, using(crate::proofs::Walks::slash_lemmas))]
 fn comment_end(text: &[u8], at: usize) -> Option<usize>
     requires { at < length text.now }

@@ -1,5 +1,5 @@
--- The declarations of the statements so far are valid: indices are within their lists, a closed oneof has a field and
--- a closed enum a value, and names have the forms of names.
+-- The declarations of the statements so far are well-formed. Indices are within their lists, a closed oneof has a field
+-- and a closed enum a value, and names have the forms of names.
 use Rattle.std.proofs.Common.{◌≡◌, ◌⊎◌, inl, inr, ℕ, zero, suc, ◌+◌, ◌<◌, ◌≤◌, Bool, true, false, List, [], ◌∷◌, ◌++◌}
 use Rattle.std.proofs.Common.{length, length-append, refl, ap, subst, sym, ◌∙◌, arith}
 use Rattle.std.specs.Prelude.{Option, Some, None, slice_get, IfSome, Contains}

@@ -1,5 +1,5 @@
 -- The declarations lie within the text. Each token but the last starts before the text's end and ends there at the
--- latest; each name and number of the file starts where a token starts, and ends where one ends.
+-- latest. Each name and number of the file starts where a token starts, and ends where one ends.
 use Rattle.std.proofs.Common.{◌≡◌, ℕ, zero, suc, ◌<◌, ◌≤◌, Bool, true, false, List, [], ◌∷◌, ◌++◌, length, ap, subst, sym, ◌∙◌, arith}
 use Rattle.std.specs.Prelude.{Option, Some, None, All}
 use Rattle.std.proofs.lemmas.List.Elements.{All-nil, All-cons, All-head, All-tail, All-append, All-push}

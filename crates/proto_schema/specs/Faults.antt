@@ -29,7 +29,7 @@ CanGoOn xs = (ys : List Lexeme) × (file : File) × Forms (xs ++ ys) file
 abbrev pub IsTokenAt : List Lexeme → ℕ → Lexeme → Type 0
 IsTokenAt ts k x = slice_get ts k ≡ Some x
 
--- the tokens before this one can go on, and with it they can't
+-- the tokens before this one can be continued to a complete text, and with it they can't
 pub record BreaksAt (ts : List Lexeme) (k : ℕ) (x : Lexeme) : Type 0 where
   pub here : IsTokenAt ts k x
   pub before : CanGoOn (take k ts)
@@ -41,7 +41,7 @@ Begins ts k d = Says (take k ts) d
 
 -- ---- what a break means
 
--- may follow `import`, for the reason `Import`
+-- after `import`, not a fault with the reason `Import`
 abbrev pub is_path : Meaning → Bool
 is_path (string path) = true
 is_path the_end = true
@@ -51,15 +51,15 @@ is_path m = says m (codes "public")
 abbrev pub IsOtherThan : Lexeme → List ℕ → Type 0
 IsOtherThan x word = says x.means word ≡ false
 
--- a token, and not text that is none
+-- it is a token
 abbrev pub IsToken : Lexeme → Type 0
 IsToken x = is_no_token x.means ≡ false
 
--- no token
+-- it is no token
 abbrev pub IsNoToken : Lexeme → Type 0
 IsNoToken x = is_no_token x.means ≡ true
 
--- it can't follow `import`
+-- after `import`, a fault with the reason `Import`
 abbrev pub IsNoPath : Lexeme → Type 0
 IsNoPath x = is_path x.means ≡ false
 

@@ -1,4 +1,4 @@
-//! Laws of proto files. These functions do nothing; their clauses hold.
+//! Laws of proto files. The functions have no effect: each clause is a law.
 
 ghost use Rattle.std.specs.Prelude.{◌≡◌, ◌⊎◌, ℕ, List, length};
 ghost use Rattle.proto_schema.specs.Faults.{IsTextOf, HasFault};
@@ -37,15 +37,15 @@ pub fn file_or_fault()
     one_list();
 }
 
-/// A file that was read is valid: its indices are within its lists, each oneof has a field, each enum a value, and
-/// its names have the forms of names. Its names and numbers start in the order of its lists, no two at the same
+/// A file that was read is well-formed: its indices are within its lists, each oneof has a field, each enum a value,
+/// and its names have the forms of names. Its names and numbers start in the order of its lists, no two at the same
 /// offset.
 pub fn file_is_ordered()
     ensures formed { (text : List ℕ) (F : File) → IsTextOf text F → IsFormed F }
     ensures ordered { (text : List ℕ) (F : File) → IsTextOf text F → IsOrdered F }
 {}
 
-/// A file that was read is also valid and in order as a file that is resolved alone.
+/// A file that was read is also well-formed and in order as a file that is resolved alone.
 pub fn alone_is_ordered()
     ensures formed { (text : List ℕ) (F : File) → IsTextOf text F → Together.IsFormed (alone F) }
     ensures ordered { (text : List ℕ) (F : File) → IsTextOf text F → Together.IsOrdered (alone F) }

@@ -10,9 +10,9 @@
 //! returns is the text's first one (`fault`). A text reads as at most one file ([`one_file`]), has at most one first
 //! fault ([`one_fault`]), and has exactly one of the two ([`file_or_fault`]).
 //!
-//! The file is valid, and its names and numbers start in the order of its lists (`Order` of `proto_ast`,
-//! [`file_is_ordered`]); so it is as a file that is resolved alone (`Together` of `proto_ast`,
-//! [`alone_is_ordered`]). They lie within the text (`Within` of `proto_ast`, [`file_is_within`]).
+//! The file is well-formed, and its names and numbers start in the order of its lists (`Order` of `proto_ast`,
+//! [`file_is_ordered`]). The same is true of it as a file that is resolved alone (`Together` of `proto_ast`,
+//! [`alone_is_ordered`]). Its names and numbers lie within the text (`Within` of `proto_ast`, [`file_is_within`]).
 #![tactic(auto)]
 
 mod draft;

@@ -56,7 +56,7 @@ fn is_text(token: &Token) -> bool
     token.kind == Kind::Text
 }
 
-// True if this is not a token, or one only inside the braces of an option.
+// True if this is no token, or a token that may only occur inside the braces of an option.
 fn is_none(token: &Token) -> bool
     ensures { (text : List ℕ) → result ≡ is_no_token (lexeme text token.now).means }
 {

@@ -1,4 +1,4 @@
--- Joined files are valid.
+-- Joined files are well-formed.
 use Rattle.std.proofs.Common.{◌≡◌, ℕ, suc, ◌+◌, ◌<◌, ◌≤◌, List, [], ◌∷◌, length, get_or, map, All, Contains, Option}
 use Rattle.std.proofs.Common.{Some, None, option_map, slice_get, IfSome, refl, ap, sym, ◌∙◌, subst, arith}
 use Rattle.std.proofs.lemmas.Option.{slice_get_within}
@@ -28,7 +28,7 @@ use Rattle.proto_set.proofs.Finding.{length-gathered}
 use Rattle.proto_set.proofs.Standing.{head_item}
 use Rattle.proto_set.proofs.Ordering.{parent_back, below_of}
 
--- ---- a shifted declaration is as valid as before
+-- ---- a shifted declaration is as well-formed as before
 
 type_name : (n : ℕ) (w : Word) → HasTypeName w → HasTypeName (shift_word n w)
 type_name n w (relative h) = relative h

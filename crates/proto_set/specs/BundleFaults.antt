@@ -19,8 +19,8 @@ pub record HasTooFew (bytes : List ℕ) : Type 0 where
   pub text : bytes ≡ header_line path size ++ behind
   pub fewer : length behind < size
 
--- Why an input breaks off after these files, given the remainder: the set has no file; something follows the 64th
--- file; the remainder starts with no header line; or fewer bytes follow than the header line states.
+-- Why an input breaks off after these files, given the remainder. The set has no file, or something follows the 64th
+-- file. Or the remainder starts with no header line, or fewer bytes follow than its header line states.
 pub data BreaksOff (files : List File) (rest : List ℕ) : Type 0 where
   no_file : files ≡ [] → rest ≡ [] → BreaksOff files rest
   too_many : length files ≡ MAX_FILES → rest ≢ [] → BreaksOff files rest

@@ -8,11 +8,11 @@ use Rattle.proto_set.specs.Paths.{HaveRightPaths, IsFirstRefused}
 abbrev pub SpellsOnce : Type 0
 SpellsOnce = (input : List ℕ) (files others : List File) → Spells input files → Spells input others → files ≡ others
 
--- never is an input the text of files and has a file that can't be read
+-- no input both is the text of files and has a first file that can't be read
 abbrev pub NeverSpellsAndBreaks : Type 0
 NeverSpellsAndBreaks = (input : List ℕ) (files : List File) (k : ℕ) → Spells input files → IsBundleFault input k → ⊥
 
--- an input with the first line is such a text or has a file that can't be read
+-- an input with the first line is such a text or has a first file that can't be read
 abbrev pub SpellsOrBreaks : Type 0
 SpellsOrBreaks = (input : List ℕ) → IsBundle input
     → ((files : List File) × Spells input files) ⊎ ((k : ℕ) × IsBundleFault input k)

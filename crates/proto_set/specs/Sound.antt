@@ -4,8 +4,8 @@ use Rattle.proto_ast.specs.Order.{IsFormed, IsOrdered}
 use Rattle.proto_set.specs.declared.part.Part.{Part}
 use Rattle.proto_ast.specs.Within.{IsWithin}
 
--- A file with an index among this many: it is valid and in order, and lies within its text. It sees itself, and only
--- files that exist.
+-- A file with an index among this many: it is well-formed and in order, and lies within its text. It sees itself, and
+-- only files that exist.
 pub record IsSound (files place : ℕ) (p : Part) : Type 0 where
   pub formed : IsFormed p.file
   pub ordered : IsOrdered p.file

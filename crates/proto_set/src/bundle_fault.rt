@@ -9,8 +9,8 @@ use thiserror::Error;
 /// Why no set of files was read. Files are counted from 1.
 #[derive(Clone, Copy, Debug, Error)]
 pub enum BundleFault {
-    /// The first file that can't be read: its header line is malformed, fewer bytes follow than it states, the set
-    /// has no file at all (then `file` is 1), or the file is the 65th, which no byte may start.
+    /// The first file that can't be read: its header line is malformed, or fewer bytes follow than it states. If the
+    /// set has no file at all, `file` is 1. If any byte follows the 64th file, `file` is 65.
     #[error("file {file} doesn't stand there")]
     Bundle { file: u32 },
     /// Out of memory.

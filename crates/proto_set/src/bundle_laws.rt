@@ -1,4 +1,4 @@
-//! Laws of all inputs. These functions do nothing; their clauses hold.
+//! Laws of all inputs, and of all lists of files. The functions have no effect: each clause is a law.
 
 ghost use Rattle.std.specs.Prelude.{◌≡◌, ◌<◌, ◌^◌, ℕ, Some};
 ghost use Rattle.std.specs.Fmt.{decimal};
@@ -16,7 +16,7 @@ pub fn one_bundle()
     ensures one_fault { BreaksOnce }
 {}
 
-/// Every list of files has valid paths or a first file with an invalid path, and never both.
+/// Every list of files has valid paths or a first file whose path is rejected, and never both.
 pub fn one_refused()
     ensures once { RefusedOnce }
     ensures never_both { NeverRightAndRefused }

@@ -1,4 +1,4 @@
-//! Laws of the imports of a set. These functions do nothing; their clauses hold.
+//! Laws of the imports of a set. The functions have no effect: each clause is a law.
 
 ghost use Rattle.std.specs.Prelude.{◌≡◌, ℕ, ◌<◌, List, length};
 ghost use Rattle.proto_ast.specs.declared.file.Span.{Span};

@@ -1,4 +1,4 @@
-//! Laws of joined files. These functions do nothing; their clauses hold.
+//! Laws of joined files. The functions have no effect: each clause is a law.
 
 ghost use Rattle.std.specs.Prelude.{◌≡◌, ℕ, List, [], ◌∷◌, All};
 ghost use Rattle.proto_ast.specs.Joined.{alone};
@@ -10,7 +10,7 @@ ghost use Rattle.proto_set.specs.Joining.{joined, IsInText};
 ghost use Rattle.proto_set.specs.Sound.{AreSound};
 ghost use Rattle.proto_set.specs.Texts.{IsInTextOf};
 
-/// Files that were read are valid together once they are joined, and in order.
+/// Files that were read are well-formed together once they are joined, and in order.
 pub fn joined_is_ordered()
     ensures formed { (ps : List Part) → AreSound ps → IsFormed (joined ps) }
     ensures ordered { (ps : List Part) → AreSound ps → IsOrdered (joined ps) }

@@ -10,10 +10,10 @@
 //! [`reach`] returns the files that the root reaches, in the order in which they are resolved, exactly if no import is
 //! at fault, and else the first fault.
 //!
-//! [`join`] joins such files as if their texts were concatenated: the declarations of all files in one list each, with
-//! the offsets of each file after the texts of the earlier ones (`specs/Joining.antt`). Joined files are valid and in
-//! order ([`joined_is_ordered`]), one joined file is that file alone ([`joined_alone`]), and an offset lies in the text
-//! of at most one file ([`places_apart`]), which [`file_at`] finds.
+//! [`join`] joins such files as if their texts were concatenated (`specs/Joining.antt`). There is one list of the
+//! declarations of all files for each kind; the offsets of each file come after the texts of the earlier ones. Joined
+//! files are well-formed and in order ([`joined_is_ordered`]), and one joined file is that file alone
+//! ([`joined_alone`]). An offset lies in the text of at most one file ([`places_apart`]), which [`file_at`] finds.
 //!
 //! The crate depends on `mrpc_table` and `proto_ast`, and knows nothing of names and types. The layer above uses three
 //! contracts: those of the bundle, of the imports and of the joined files, each with the law that it has one result or

@@ -28,8 +28,8 @@ fn is_path_byte(byte: u8) -> bool
     matches!(byte, b'A'..=b'Z' | b'a'..=b'z' | b'0'..=b'9' | b'_' | b'-' | b'.' | b'/')
 }
 
-/// Returns the index, from 0, of the first file whose path is rejected: it is invalid, or an earlier file has it.
-/// Compares each path with all earlier ones.
+/// Returns the index, from 0, of the first file whose path is rejected: it is invalid, or an earlier file has it. It
+/// takes time in proportion to the bytes of the paths and the square of the number of files.
 pub fn first_refused(files: &[Packed]) -> Option<usize>
     ensures first { IfSome result (IsFirstRefused (files_of files.now)) }
     ensures none { IfNone result (HaveRightPaths (files_of files.now)) }

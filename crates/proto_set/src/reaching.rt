@@ -15,8 +15,8 @@ use mrpc_table::MAX_FILES;
 use std::alloc::Global;
 
 /// Returns the files that the first one of a set reaches, in the order in which they are resolved, and the files
-/// visible to each; or the first fault of the set's imports; or `Memory` if it runs out of memory. Takes time by the
-/// number of imports, each with the length of its path.
+/// visible to each. The error is the first fault of the set's imports, or `Memory` if it runs out of memory. Takes
+/// time by the number of imports, each with the length of its path.
 pub fn reach(alloc: Global, members: &[Member]) -> Result<Reach, ImportFault>
     requires some { 0 < length members.now }
     requires few { length members.now ≤ MAX_FILES }

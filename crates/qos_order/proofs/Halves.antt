@@ -192,7 +192,7 @@ same_entries entries front back sorted all n state moved last =
     let both = IsPermutation-append state.unsorted front back (sorted ++ drop n back) state.moved (first_moved back sorted n moved) in
     subst (λ (xs : List Weight). IsPermutation xs all) (sym state.split) (IsPermutation-trans (state.unsorted ++ back) (front ++ (sorted ++ drop n back)) all both last)
 
--- at most one entry is valid if it is in range
+-- a list of at most one entry is valid if that is in range
 pub sound-short : (xs : List Weight) → length xs ≤ 1 → All (λ w. IsWeight w.weight) xs → IsSound xs
 sound-short [] short ranged = sound-nil
 sound-short (x ∷ []) short ranged = sound-more [] x sound-nil (ranged 0 x (omega arith)) (λ there. omega (arith, there.1))

@@ -109,7 +109,7 @@ pub record IsWhole (wheel : WheelState) (turn : Turn) : Type 0 where
   pub stays : turn.leaves ≡ false
   pub counts : IfSome (first_seat wheel) (λ s. s.account.visits < 2 ^ 40)
 
--- each of the turns gives its whole grant
+-- each of the turns is such a turn
 abbrev pub AreWhole : WheelState → List Turn → Type 0
 AreWhole wheel [] = Unit {0}
 AreWhole wheel (turn ∷ turns) = IsWhole wheel turn × AreWhole (turned wheel turn) turns
@@ -129,8 +129,8 @@ rounds_in wheel turns conn =
     option_map_or (λ a. a.rounds) (account_of (wheel_after wheel turns) conn) 0
     - option_map_or (λ a. a.rounds) (account_of wheel conn) 0
 
--- if no rounds are kept at first and each turn gives its whole grant, the visits of two connections differ by at most
--- one
+-- Let no rounds be kept at first. If no connection leaves, no account is at its limit and each turn gives its whole
+-- grant, the visits of two connections on the wheel differ by at most one.
 abbrev pub VisitsAreEven : Type 0
 VisitsAreEven = (wheel : WheelState) (turns : List Turn) (conn other : ℕ) → IsWheel wheel → NothingKept wheel
     → AreWhole wheel turns

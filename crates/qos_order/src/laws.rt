@@ -11,10 +11,9 @@ pub fn visits_balance()
     ensures wheel { TurnsBalance }
 {}
 
-/// Shares are proportional to weights over any stretch of visits that starts with no rounds kept, in which no
-/// connection leaves, no account is at its limit and each grant is given in full. The visits of two connections on
-/// the wheel differ by at most one, and their rounds are in proportion to their weights up to one visit. Does
-/// nothing.
+/// Consider a stretch of visits that starts with no rounds kept, in which no connection leaves, no account is at its
+/// limit and each grant is given in full. Then the visits of two connections on the wheel differ by at most one, and
+/// their rounds are in proportion to their weights up to one visit. Does nothing.
 pub fn even_shares()
     ensures visits { VisitsAreEven }
     ensures rounds { SharesAreEven }

@@ -18,8 +18,8 @@ use Rattle.receive_core.specs.declared.arrival.Arrival.TheVariants.{None as NoFr
 use Rattle.receive_core.specs.declared.arrival.DropCause.{DropCause}
 use Rattle.receive_core.specs.declared.opened.Opened.{Opened}
 
--- A receiver: its connection, the bytes that were fed and are in no taken frame, the held blocks and holes of
--- its heap, and the call of the first frame if it was decoded already.
+-- A receiver: its connection, the fed bytes that are in no taken frame, and the held blocks and holes of its heap. It
+-- also has the call of the first frame if that was decoded already.
 pub record Receiving : Type 0 where
   pub conn : ℕ
   pub fed : Fed
@@ -102,7 +102,7 @@ TakesCall T old new f o stores after (Arrived kind method number block tree) = G
     × IsPlaced T (message_of_frame T f) tree old.heap new.heap stores after block
 TakesCall T old new f o stores after _ = ⊥
 
--- nothing has changed, except that the call of the first frame may be decoded
+-- nothing has changed, except perhaps the decoded call of the first frame
 pub record HasStayed (old new : Receiving) : Type 0 where
   pub conn : new.conn ≡ old.conn
   pub fed : new.fed ≡ old.fed

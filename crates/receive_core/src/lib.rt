@@ -1,9 +1,9 @@
 //! The receive path: the frames of a stream become messages in a heap that an application reads.
 //!
-//! Bytes are fed to an [`Inbound`] as they arrive. Each [`Inbound::turn`] takes the first whole frame: it decodes
-//! the payload, judges the call by a policy, and places the message in a block of the heap, or drops the frame
-//! for the first cause. If no hole of the heap is large enough, the frame stays first until blocks are reclaimed.
-//! A waiting frame isn't decoded again but judged again, so the policy of the turn in which it arrives counts.
+//! Bytes are fed to an [`Inbound`] as they arrive. Each [`Inbound::turn`] takes the first whole frame: it decodes the
+//! payload and judges the call by a policy. Then it places the message in a block of the heap, or drops the frame for
+//! the first cause. If no hole of the heap is large enough, the frame stays first until blocks are reclaimed. A waiting
+//! frame isn't decoded again but judged again, so the policy of the turn in which it arrives counts.
 //!
 //! `specs/Fates.antt` defines what becomes of a frame, `specs/Turns.antt` what a turn does to the receiver, and
 //! `specs/Life.antt` the trace of a receiver and the invariant that each call preserves. The crate uses

@@ -123,7 +123,7 @@ impl Extents {
         largest(&self.holes)
     }
 
-    /// Allocates a block of at least 1 word, from the start of the first hole that is large enough.
+    /// Allocates a block of `words` words, at least 1, at the start of the first hole that is large enough.
     pub fn take(&mut self, words: u64) -> Result<Block, TakeFault>
         requires some { 1 ≤ words }
         requires numbers { self.old.next < 2 ^ 64 - 1 }

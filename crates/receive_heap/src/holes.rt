@@ -38,7 +38,7 @@ pub(crate) fn largest(holes: &[Span]) -> u64
     most
 }
 
-// Removes words from the start of a hole.
+// Removes the first `words` words of a hole.
 pub(crate) fn cut(holes: &mut Vec<Span>, index: usize, words: u64)
     requires holes { AreHoles holes.old.items }
     requires some { 1 ≤ words }

@@ -1,4 +1,4 @@
--- Each line has an effect on its connection, or none; and if it sends, each of its sends can fail.
+-- Each line leads its connection to a next state, perhaps the same one; and if it sends, each of its sends can fail.
 use Rattle.std.proofs.Common.{◌≡◌, inl, inr, ℕ, ◌+◌, ◌<◌, ◌≤◌, ◌^◌, true, false, List, [], ◌∷◌, ◌++◌, length, refl, sym, ap, ◌∙◌, subst, arith}
 use Rattle.std.specs.Prelude.{Option, Some, None, option_map, slice_get}
 use Rattle.std.proofs.lemmas.Bool.{cases_lt}

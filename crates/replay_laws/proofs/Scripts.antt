@@ -44,7 +44,7 @@ pub record Laws : Type 0 where
   pub sound : (s : Script) (lines others : List Line) (st : State) → IsScript s → s.lines ≡ lines ++ others
       → Leads s start lines st → All (IsSoundOn s st.history) st.opened
 
--- something follows from the script up to a sending that fails behind so many that were sent
+-- something follows from the script up to a send that fails after `n` sends
 pub record FailsAfter (s : Script) (n : ℕ) : Type 0 where
   pub tried : Call
   pub end : State

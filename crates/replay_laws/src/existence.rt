@@ -17,8 +17,8 @@ use graph_form::{loads_end_malformed, malformed_graphs_keep_the_limit, sound_tre
 use policy_redact::gets_smaller;
 use replay_run::{one_follows, what_follows_is_sound};
 
-/// A script has exactly one history, with its loads and pending calls: in full, and up to a send that fails, for each
-/// number of sends before it that is smaller than the number of sends in full.
+/// A script has exactly one history in full, with its loads and pending calls. It also has exactly one up to a send
+/// that fails, for each number of sends before it that is smaller than the number of sends in full.
 pub fn one_history()
     ensures whole { (s : Script) → IsScript s → HasOneEnd s }
     ensures until { (s : Script) (end : State) (sent : ℕ) → IsScript s → Follows s end

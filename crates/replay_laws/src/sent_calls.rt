@@ -15,9 +15,9 @@ ghost use Rattle.replay_laws.specs.SetFirst.{IsPlain, IsSetFirst, allowed_copies
 use call_history::{connections_are_apart, histories_go_on, standing_goes_on};
 use replay_run::{a_drained_connection_is_settled, what_follows_is_sound};
 
-/// If a chain was set up before the first call, with access and count policies alone, the link hasn't failed and no
-/// call is pending, then the frames of a connection are those of the copies that all entries allow, in order. On such a
-/// chain no call is pending once no call can advance, as after a drain.
+/// Let a chain be set up before the first call, with access and count policies alone. If the link hasn't failed and no
+/// call is pending, the frames of the connection are those of the copies that all entries allow, in order. On a chain
+/// with such policies no call is pending once no call can advance, as after a drain.
 pub fn allowed_calls_are_sent()
     ensures frames { (u : Under) (past : Behind) → IsLegalBehind u past → IsSetFirst past
         → All (λ e. IsPlain e.policy) (chain past).entries → has_failed past ≡ false → standing past ≡ []
@@ -29,9 +29,9 @@ pub fn allowed_calls_are_sent()
     standing_goes_on();
 }
 
-/// If a script is run in full, each connection whose chain was set up before its first call, with access and count
-/// policies alone, and which is drained after its last submission, has the frames of the copies that all entries allow,
-/// in order.
+/// Let a script be run in full, and drain a connection after its last submission. If its chain was set up before its
+/// first call, with access and count policies alone, its frames are those of the copies that all entries allow, in
+/// order.
 pub fn allowed_calls_of_a_script_are_sent()
     ensures { (s : Script) (end : State) (conn : ℕ) → IsScript s → Follows s end → IsDrainedLast s conn
         → IsSetFirst (behind conn end.history) → All (λ e. IsPlain e.policy) (chain (behind conn end.history)).entries

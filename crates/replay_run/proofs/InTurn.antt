@@ -1,4 +1,4 @@
--- If all quotas know their tickets, they drew them in turn; so a run ends as its script says.
+-- If all quotas know their tickets, they drew them in turn; so a run ends as its script defines.
 use Rattle.std.proofs.Common.{◌≡◌, ℕ, ◌-◌, ◌<◌, ◌≤◌, ◌^◌, ◌⊎◌, inl, inr, Bool, true, false, cond, nat_lt, List, []}
 use Rattle.std.proofs.Common.{◌∷◌, ◌++◌, length, map, refl, sym, ap, ◌∙◌, subst, append-nil, length-append}
 use Rattle.std.proofs.Common.{arith}

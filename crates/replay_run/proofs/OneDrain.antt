@@ -1,4 +1,4 @@
--- Two drains of a connection agree up to the end of the shorter one: each turn has the same outcome if tickets are in
+-- Two drains of a connection agree up to the end of the shorter one. Each turn has the same outcome if tickets are in
 -- turn, and calls are sent in the same order.
 use Rattle.std.proofs.Common.{◌≡◌, ℕ, ◌+◌, ◌<◌, ◌⊎◌, inl, inr, List, length, refl, sym, ap, ◌∙◌, subst, arith}
 use Rattle.std.specs.Prelude.{None, Some}

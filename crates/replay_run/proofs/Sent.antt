@@ -40,7 +40,7 @@ moved c calls same = ap (λ (n : ℕ). record {
 pub keeps-by : (c : Connection) (calls : Calls) → IsSame c.calls calls → IsResting c.heap → Keeps c (with_calls c calls)
 keeps-by c calls same rests = record { same = same; rests = rests; told = refl }
 
--- judged as its script says
+-- judged by the table and the limit of its script
 pub under-of : (s : Script) (c : Connection) → IsOf s c → under_in c.calls ≡ under s c.calls.conn
 under-of s c of_script = (λ i. record { conn = c.calls.conn; table = of_script.table i; limit = of_script.limit i })
 

@@ -22,9 +22,9 @@ use Rattle.call_history.specs.declared.happening.Happening.{Happening}
 use Rattle.call_history.specs.declared.happening.Taken.{Taken}
 use Rattle.replay_run.specs.Tickets.{AreInTurn}
 
--- An open connection: its number, the size of its heap in words, the stores made to it so far, each a place and a
--- value, the races queued for its next submission, in the order in which they are made, the loads of its calls so far,
--- and its state.
+-- An open connection: its number, the size of its heap in words, and the stores made to it so far, each a place and a
+-- value. With it are the races queued for its next submission, in the order in which they are made, the loads of its
+-- calls so far, and its state.
 pub record Opened : Type 0 where
   pub conn : ℕ
   pub words : ℕ

@@ -146,7 +146,7 @@ pub record IsListed (load place value : ℕ) (old new : Heap) : Type 0 where
 
 -- ---- submissions
 
--- a call was loaded from a heap, before the remaining races are made
+-- a call was accepted, by loads from a heap, or rejected; the remaining races aren't made yet
 pub data Submits (ask : Ask) (before after : Calls) (old new : Heap) : Type 0 where
   accepted : (seq : ℕ) → Accepts old.size ask seq (since old.loads new.loads) before after
       → new.loads ≡ old.loads ++ since old.loads new.loads → new.size ≡ old.size
@@ -202,8 +202,8 @@ pub record BreaksOn (T : Table) (conn : ℕ) (tried : Call) (old new : Course) (
 
 -- ---- the effect of a line on its connection
 
--- the line was run on the connection: the next state is what the script says, with the tickets that it drew and the
--- frames that it sent
+-- the line was run on the connection: the next state is the one that the script defines, with the tickets that the line
+-- drew and the frames that it sent
 pub record DoneOn (s : Script) (l : Line) (old new : Connection) (quotas quotas' : Counters)
     (wire wire' : Option (List ℕ)) : Type 0 where
   pub does : Does s l (opened_of old) (opened_of new)

@@ -37,7 +37,7 @@ struct Run<'t> {
 }
 
 /// Runs a script. After each line it writes the audit lines of the resulting events, and the frames of the calls that
-/// are sent; at the end it writes the lines of pending calls.
+/// are sent. At the end it writes the lines of pending calls.
 ///
 /// # Errors
 ///
@@ -108,8 +108,8 @@ fn finish<K: Sink>(alloc: Global, tenants: u32, run: &mut Run<'_>, out: &mut K) 
     tell_standing(alloc, &run.connections, out)
 }
 
-// Returns true if the tickets of a tenant were counted in each window. A quota reports how many were drawn when it
-// draws one more; no draw follows this.
+// Returns true only if the tickets of a tenant were counted in each window. A quota reports how many were drawn when
+// it draws one more; no draw follows this.
 fn has_counted(tickets: &mut PlainTickets, tenant: u32) -> bool
     requires { tenant < tickets.old.tenants }
     ensures counted { IsTrue result → HasCounted tickets.old tenant }

@@ -21,8 +21,8 @@ policy_in form.Attach meanings = Some (name_at meanings 4)
 policy_in form.Upgrade meanings = Some (name_at meanings 3)
 policy_in _ meanings = None
 
--- the line that words mean; none if the policy that it names isn't declared, and none for declarations and `close`
--- (places and positions above 64 bits are all equal, since no heap and no chain has them); words are counted from 0
+-- The line that words mean; none if the policy that it names isn't declared, and none for declarations and `close`.
+-- Words are counted from 0. Places and positions above 64 bits are all equal, since no heap and no chain has them.
 abbrev pub line_in : Declared → Form → List Meaning → Option Line
 line_in d form.Conn m = Some (line.Conn (number_at m 1) (number_at m 2))
 line_in d form.Store m = Some (line.Store (number_at m 1) (magnitude (unbounded_at m 2)) (number_at m 3))

@@ -319,8 +319,8 @@ fn item<'a>(
     }
 }
 
-// Reads what the first line of a text means after these lines, with the lines of its block if it has one, and returns
-// it with the remainder; or returns its fault. The fault's lines are counted from 1 at that line.
+// Reads what the first line of a text means after these lines, with the lines of its block if it has one. Returns it
+// with the remainder, or returns its fault. The fault's lines are counted from 1 at that line.
 pub(crate) fn first_change<'a>(
     alloc: Global,
     loads: u64,

@@ -6,9 +6,9 @@
 //! line that words mean, `specs/Offences.antt` the faults of a line, and `specs/Texts.antt` which text is which script,
 //! and the first fault of any other text.
 //!
-//! The crate depends on `mrpc_table`, `engine_core`, `script_grammar`, `script_grammar` and `policy_declarations`. Its
-//! one contract for the layers above: a text is exactly one script, or has exactly one first fault, and [`read_script`]
-//! returns it; each line of a script is legal after those before it.
+//! The crate depends on `mrpc_table`, `engine_core`, `script_grammar` and `policy_declarations`. Its one contract for
+//! the layers above: a text is exactly one script, or has exactly one first fault, and [`read_script`] returns it. Each
+//! line of a script is legal after those before it.
 #![tactic(auto)]
 
 mod body;

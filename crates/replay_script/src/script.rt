@@ -25,7 +25,7 @@ pub enum Line {
         place: u32,
         value: u64,
     },
-    /// Submits a call of a method, whose message is at this address of the heap: a request if the number is 0,
+    /// Submits a call of a method, whose message is at this address of the heap. It is a request if the number is 0,
     /// otherwise a reply to the request with that number.
     Submit {
         conn: u32,

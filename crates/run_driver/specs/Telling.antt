@@ -21,7 +21,7 @@ use Rattle.telemetry.specs.Totals.{IsCountOf}
 use Rattle.telemetry.specs.declared.counts.Counts.{Counts}
 use Rattle.run_driver.specs.Running.{HasFailed, NeverFailed, Shows, by_number}
 
--- A bound connection can be reported: it is that of an application of the plan, its arrivals were judged by the
+-- A bound connection can be reported. It is that of an application of the plan, its arrivals were judged by the
 -- application's table and policy, and its calls are of the same table.
 pub record IsTellableBound (plan : Plan) (conn : ℕ) (b : BoundConn) : Type 0 where
   pub app : Application

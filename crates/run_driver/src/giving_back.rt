@@ -8,7 +8,7 @@ use service::ServedConn;
 use std::mem;
 
 // Gives the links of connections back, each with its connection. Everything else that the connections own is left to
-// the end of the process: a long run has a million objects, and dropping each of them takes a tenth of its time.
+// the end of the process. A long run has a million objects, and dropping each of them takes a tenth of its time.
 // Doesn't allocate.
 pub(crate) fn give_back<F: Fabric>(fabric: &mut F, conns: Vec<ServedConn<'_, F::L>>)
     requires { length conns.items ≤ F.away fabric.old }

@@ -14,7 +14,7 @@ pub enum Role {
     Client(Program),
     /// Runs the lines of its program for each request delivered to it.
     Server(Program),
-    /// Replies to each request with the request's own message.
+    /// Replies to requests with their own messages, where these can be replies.
     Echo,
 }
 

@@ -1,4 +1,4 @@
-//! The report of a run, besides its audits (this project's own format).
+//! The report of a run (this project's own format).
 //!
 //! [`run_text`] returns the whole text for a run's connections, and the counts of its lines. [`run_counts`] returns
 //! these counts and makes no text. The text of a bound connection has its events, its arrivals, its false reclaims,
@@ -9,8 +9,9 @@
 //!
 //! `specs/Told.antt` defines the whole text, `specs/Telling.antt` the parts of a connection's text,
 //! `specs/Lines.antt` the lines, and `specs/Counting.antt` what each line counts as. The crate depends on connections,
-//! on `message_delivery` and the handshake for what it reports, on `telemetry`, and on the lines of `audit_text` and
-//! `connection_audit`. The layers above use one contract: the text is that of the connections that the run left.
+//! on `message_delivery` and the handshake for what it reports, on the encoding of messages, on `telemetry`, and on the
+//! lines of `audit_text` and `connection_audit`. The layers above use one contract: the text is that of the connections
+//! that the run left.
 #![tactic(auto)]
 
 mod arrival_laws;

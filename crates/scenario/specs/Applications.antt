@@ -79,9 +79,9 @@ ends_of link = number_in end_a link ∷ number_in end_b link ∷ []
 abbrev pub all_ends : List Members → List ℕ
 all_ends entries = flat_map ends_of entries
 
--- attachments from a position on, each of a declared policy under its own name
+-- ---- chains
 
--- attachments from a place on, each of a declared policy under its own name
+-- attachments from a position on, each of a declared policy under its own name
 abbrev pub AreAttached : List NamedPolicy → ℕ → List (List ℕ) → List Op → Type 0
 AreAttached declared at [] [] = Unit {0}
 AreAttached declared at (name ∷ names) (o ∷ ops) =

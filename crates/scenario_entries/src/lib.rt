@@ -7,9 +7,9 @@
 //! of their faults (`specs/Owning.antt`).
 //!
 //! The crate depends on `scenario` and its dependencies, on `policy_access` and `policy_redact` for the lines of
-//! policies, on `policy_declarations` for declarations, on `run_plan`, and on `proto_schema` and `schema_resolve` for
-//! the law that a schema has one table. The reader of whole scenarios uses one contract: the result of a list is what
-//! its entries mean, and its fault is their first.
+//! policies, on `policy_declarations` for declarations, and on `run_plan`. It depends on `proto_schema` and
+//! `schema_resolve` for the law that a schema has one table. The reader of whole scenarios uses one contract: the
+//! result of a list is what its entries mean, and its fault is their first.
 #![tactic(auto)]
 
 mod chain;

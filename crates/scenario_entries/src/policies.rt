@@ -89,8 +89,8 @@ fn quota_in(declared: &Declarations, entry: &Table) -> Option<Policy>
     }
 }
 
-// The policy of an entry of a kind, given what its lines mean; `None` if the tenant of a quota isn't declared, or the
-// lines have no meaning.
+// The policy of an entry of a kind, given what its lines mean. `None` if the tenant of a quota isn't declared, or if
+// the kind has lines and no policy is given for them.
 fn policy_in(
     declared: &Declarations,
     kind: Kind,

@@ -190,7 +190,7 @@ module _ {X Y : Type 0} (R : X → Y → Type 0) where
   each_at (w ∷ xs) (z ∷ ys) zero x e at = (z, refl, subst (λ (v : X). R v z) (same_Some w x at) e.0)
   each_at (w ∷ xs) (z ∷ ys) (suc i) x e at = each_at xs ys i x e.1 at
 
-  -- lists with the same unique meanings are equal
+  -- a list whose items have one meaning each has one list of meanings
   pub each_one : (xs : List X) → ((x : X) (y z : Y) → Contains xs x → R x y → R x z → y ≡ z) → (ys zs : List Y) → Each R xs ys → Each R xs zs → ys ≡ zs
   each_one [] one [] [] e f = refl
   each_one [] one (y ∷ ys) zs e f = absurd e

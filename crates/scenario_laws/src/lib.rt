@@ -4,9 +4,10 @@
 //! a lemma for each reason (`proofs/`). A text means at most one plan. A text never has neither a plan nor a fault: if
 //! it has no first fault, no entry has a fault, and each entry has a meaning by itself.
 //!
-//! The crate reads nothing. It depends on the definitions of `scenario`, on the laws of declarations and faults in
-//! `scenario_entries`, on those of chains in `engine_core`, of words in `script_grammar`, and of the texts of policies
-//! in `policy_access` and `policy_redact`. The layers above use one contract: a plan that a text means may be run.
+//! The crate reads nothing. It depends on the definitions of `scenario`, and on the laws of declarations and faults in
+//! `scenario_entries`. It uses the laws of chains in `engine_core`, of words in `script_grammar`, and of the texts of
+//! policies in `policy_access` and `policy_redact`. The layers above use one contract: a plan that a text means may be
+//! run.
 #![tactic(auto)]
 
 mod laws;

@@ -188,8 +188,8 @@ fn early_of(
     }
 }
 
-// The role and the own schema of an application that has its keys and whose numbers are in range, or the first reason
-// of faults in these, its connection and the policies that it names.
+// The role and the own schema of an application, or the first reason of faults in these, its connection and the
+// policies that it names. The application has its keys, and its numbers are in range.
 fn early_in(
     alloc: Global,
     above: Above<'_, '_, '_>,
@@ -266,8 +266,8 @@ struct Late<'a> {
     submitted: u64,
 }
 
-// The chain of an application whose policies are declared, or the first reason of faults in the chain, the policy
-// that judges deliveries, its links and the number of calls submitted up to it.
+// The chain of an application and the number of calls submitted up to it, or the first reason of faults in these, the
+// policy that judges deliveries, and its links. The policies of the application are declared.
 fn late_in<'a>(
     alloc: Global,
     above: Above<'a, '_, '_>,

@@ -96,7 +96,7 @@ fn own_policies(
 }
 
 // The application's own schema with the policies in use, or the first reason of faults in it and in the policies that
-// the application names; `None` if it has no schema.
+// the application names. `None` if the application has no schema.
 pub(crate) fn own_in(
     alloc: Global,
     above: Above<'_, '_, '_>,

@@ -46,7 +46,7 @@ fn policy_in<'a>(step: &StepText<'a>) -> Option<&'a [u8]>
 }
 
 impl<'a> Steps<'a> {
-    // Appends what a line means.
+    // Appends what a line means. A count that is less than an earlier one is a fault of the lines.
     fn keep(&mut self, step: StepText<'a>) -> Result<(), Memory>
         ensures told { OnOk result (self.new.told.items ≡ self.old.told.items ++ step.entry ∷ []) }
         ensures more { OnOk result (self.old.most ≤ count_in step.entry

@@ -1,7 +1,7 @@
 //! The values at the keys of a scenario's TOML tables, and where they are in the text.
 //!
-//! `specs/Values.antt` defines, on the kit's view of a TOML table, which keys a table has and of what type, its texts,
-//! its flags, its lists, and its numbers with their defaults and ranges.
+//! `specs/Values.antt` defines what the kit's view of a TOML table has: which keys and of what type, texts, flags,
+//! lists, and numbers with their defaults and ranges.
 //!
 //! [`place_of`] finds the span of an entry of a list of tables, of one of its keys, or of a text in a list there. The
 //! kit's `toml` doesn't report where a value is. So `place_of` looks for a line that may be the one, and checks it: the

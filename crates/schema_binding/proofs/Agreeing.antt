@@ -24,7 +24,7 @@ pub service_refusal : (T U : Table) (service : List ℕ) (version m n : ℕ) →
 service_refusal T U service version m n count_m count_n not_both =
     no_service (ltb 0 m) (ltb 0 n) (offers_is T service m count_m) (offers_is U service n count_n) (λ e f. not_both (ltb-true 0 m e) (ltb-true 0 n f)) refl
 
--- why they don't agree, or running out of memory
+-- why they don't agree, or `Memory`
 abbrev pub MayRefuse : Table → Table → List ℕ → ℕ → AgreeFault → Type 0
 MayRefuse T U service version fault = (fault ≡ NoMemory) ⊎ Refuses T U service version fault
 

@@ -14,7 +14,7 @@ use Rattle.schema_binding.proofs.Order.{message_name_is}
 
 -- ---- tests
 
--- `==` on two texts decides whether their meanings are equal
+-- `==` on two texts decides whether two lists that equal them are equal
 pub equal_texts : (xs ys a b : List ℕ) (r : Bool) → a ≡ xs → b ≡ ys → r ≡ bytes_eq xs ys → IsTrue r ↔ (a ≡ b)
 equal_texts xs ys a b r is_a is_b e = (
   λ h. is_a ∙ (bytes_eq-Decides xs ys).0 (sym e ∙ h) ∙ sym is_b,

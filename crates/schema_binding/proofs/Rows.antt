@@ -1,5 +1,5 @@
--- Agreement and differences of small tables, as terms: one table is a message M with a field a, and the method Get of
--- the service S on it; in another the field is named b, and a third has both fields.
+-- Agreement and differences of small tables, as terms. One table is a message M with a field a, and the method Get of
+-- the service S on it. In another the field is named b, and a third has both fields.
 use Rattle.std.proofs.Common.{◌≡◌, ◌≢◌, ℕ, zero, suc, false, List, [], ◌∷◌, codes, get_or, Some, inr, refl, sym, ap, subst, ◌∙◌, arith}
 use Rattle.std.specs.Prelude.{Contains, IsTrue}
 use Rattle.std.specs.Fmt.{digits}

@@ -62,8 +62,8 @@ pub record Prints (T : Table) (type : List ℕ) (number : ℕ) (text : FieldText
 abbrev pub of_type : List ℕ → List ℕ
 of_type name = codes "message:" ++ name
 
--- the message types that both tables reach: the inputs and outputs of the methods of the service that both have, and
--- the types of the fields in them whose number both know, if it is the same type in both, and so on
+-- The message types that both tables reach: the inputs and outputs of the methods of the service that both have. From
+-- these on, also the types of the fields whose number both know, if it is the same type in both.
 pub data BothReach (T U : Table) (service : List ℕ) : List ℕ → Type 0 where
   as_input : (s : Signature) → Contains (methods_of T service) s → Contains (methods_of U service) s
       → BothReach T U service s.input
@@ -73,7 +73,7 @@ pub data BothReach (T U : Table) (service : List ℕ) : List ℕ → Type 0 wher
       → Prints T outer number ours → Prints U outer number theirs → ours.kind ≡ of_type inner
       → theirs.kind ≡ of_type inner → BothReach T U service inner
 
--- in a type that both reach, the texts print a number that both know differently
+-- in a type that both reach, both know a number, and the texts print its fields differently
 pub record Differs (T U : Table) (service type : List ℕ) (number : ℕ) : Type 0 where
   pub reached : BothReach T U service type
   pub ours : FieldText

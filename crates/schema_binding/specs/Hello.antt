@@ -28,7 +28,7 @@ pub record IsHello (payload service : List ℕ) (T : Table) : Type 0 where
 abbrev pub IsLine : List ℕ → Type 0
 IsLine bytes = All (λ byte. byte ≢ 10) bytes
 
--- The first line at fault, counted from 1: the first one, which lacks its line feed or is no full name, or one of the
+-- The first line at fault, counted from 1. It is line 1, which lacks its line feed or is no full name, or one of the
 -- lines of the table's text after it, or the line after them.
 pub data IsBadAt (payload : List ℕ) (line : ℕ) : Type 0 where
   no_line_feed : IsLine payload → line ≡ 1 → IsBadAt payload line
@@ -38,7 +38,7 @@ pub data IsBadAt (payload : List ℕ) (line : ℕ) : Type 0 where
       → IsFullName service
       → IsFirstFault text at reason → line ≡ at + 1 → IsBadAt payload line
 
--- what a fault means of a payload; running out of memory depends on no payload
+-- what a fault means of a payload; `Memory` can come with any payload
 abbrev pub IsFaultOf : List ℕ → HelloFault → Type 0
 IsFaultOf payload (Bad line) = IsBadAt payload line
 IsFaultOf payload Memory = Unit {0}

@@ -35,7 +35,7 @@ pub record IsPair (T U : Table) (i j : ℕ) : Type 0 where
   pub theirs : j < length U.messages
   pub same : message_name T i ≡ message_name U j
 
--- the texts print a number that both know differently
+-- both know a number, and the texts print its fields differently
 pub record PrintOther (T U : Table) (i j number : ℕ) : Type 0 where
   pub ours : FieldText
   pub theirs : FieldText
@@ -76,7 +76,7 @@ IsLabel T oneofs (Map key) = IsKnown T key
 IsLabel T oneofs (Member o) = o < length oneofs
 IsLabel T oneofs _ = Unit {0}
 
--- the least number that is printed differently
+-- the least number whose fields the texts print differently
 pub record IsLeastOther (T U : Table) (i j number : ℕ) : Type 0 where
   pub here : PrintOther T U i j number
   pub least : (n : ℕ) → PrintOther T U i j n → number ≤ n

@@ -80,7 +80,7 @@ IsClosed T U r = (i j : ℕ) → partner_of r i ≡ Some j → HasNext T U r i j
 abbrev pub IsSameIn : Table → Table → Reached → ℕ → Type 0
 IsSameIn T U r i = (j number : ℕ) → partner_of r i ≡ Some j → PrintOther T U i j number → ⊥
 
--- this is the least number that they print differently
+-- this is the least number whose fields the texts print differently
 abbrev pub IsLeastIn : Table → Table → Reached → ℕ → ℕ → Type 0
 IsLeastIn T U r i number = (j : ℕ) × (partner_of r i ≡ Some j) × IsLeastOther T U i j number
 

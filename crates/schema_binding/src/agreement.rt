@@ -24,10 +24,10 @@ pub struct Agreed {
     pub methods: u32,
 }
 
-/// Compares two tables on a service; `version` is that of the peer's hello. Under version 1 they agree if their
-/// canonical texts are equal. Under version 2 they agree if the service's methods are the same, and so is each field
-/// that both know in each message type that both reach. Takes time linear in the methods and the fields, except that
-/// each field is found by a binary search.
+/// Compares two tables on a service; `version` is that of the peer's hello. Both must have a method of the service.
+/// Under version 1 they then agree if their canonical texts are equal. Under version 2 they then agree if the service's
+/// methods are the same, and so is each field that both know in each message type that both reach. Takes time linear in
+/// the methods and the fields, except that each field is found by a binary search.
 pub fn agree(
     alloc: Global,
     ours: &Table,

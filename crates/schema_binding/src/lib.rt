@@ -2,10 +2,9 @@
 //!
 //! [`hello`] writes the frame that opens a connection, with the service and the table of its sender, and [`on_hello`]
 //! reads its payload. [`agree`] compares two tables on a service, under the version of the peer's hello. This crate
-//! depends on `mrpc_table` for tables, on `table_text` and `table_text`, which write and read their text, on
-//! `frame_transport` for the frame, and on `thiserror` for its faults. The layers above use two contracts. A payload is
-//! read to its service and table, or to its first line at fault. Two tables agree on a service, or there is exactly one
-//! first difference.
+//! depends on `mrpc_table` for tables, on `table_text`, which writes and reads their text, on `frame_transport` for the
+//! frame, and on `thiserror` for its faults. The layers above use two contracts. A payload is read to its service and
+//! table, or to its first line at fault. Two tables agree on a service, or there is exactly one first difference.
 #![tactic(auto)]
 
 mod agreement;

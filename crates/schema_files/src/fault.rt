@@ -20,7 +20,7 @@ pub enum FilesReason {
     Proto(ProtoReason),
     /// An import is at fault.
     Import(ImportReason),
-    /// A name or a number is a violation.
+    /// A name or a number violates a schema rule.
     Resolve(ResolveReason),
 }
 

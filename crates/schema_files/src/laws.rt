@@ -1,4 +1,4 @@
-//! Laws of sets of files. These functions do nothing; their clauses hold.
+//! Laws of sets of files. The functions have no effect: each clause is a law.
 
 ghost use Rattle.std.specs.Prelude.{◌≡◌, ℕ, ◌<◌, List, length};
 ghost use Rattle.mrpc_table.specs.declared.table.Table.{Table};

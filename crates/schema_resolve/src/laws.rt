@@ -30,8 +30,8 @@ pub fn one_offence()
     schema_validation::one_offence();
 }
 
-/// A valid file in order has a table or a first violation, and so have such files that are resolved together. None
-/// has both.
+/// A well-formed file in order has a table or a first violation, and so have such files that are resolved together.
+/// None has both.
 pub fn table_or_offence()
     ensures not_neither { (F : File) → IsFormed (alone F) → IsOrdered (alone F)
         → ((T : Table) → Resolves F T → ⊥) → ((q : ResolveReason) (s : Span) → HasOffence F q s → ⊥) → ⊥ }

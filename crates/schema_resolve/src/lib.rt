@@ -5,7 +5,7 @@
 //! defines the table of files. The crate uses `schema_validation`, `schema_symbols`, `proto_ast`, `table_text`,
 //! `mrpc_table` and `thiserror`. The layer above relies on the contracts of [`resolve`], for a file alone, and of
 //! [`resolve_together`]. A table that they return is that of the file or files, and a violation that they return is
-//! the first one. Valid files in order, such as all files that were read, have exactly one of the two
+//! the first one. Well-formed files in order, such as all files that were read, have exactly one of the two
 //! ([`table_or_offence`]).
 #![tactic(auto)]
 

@@ -16,9 +16,9 @@ use schema_symbols::Scopes;
 use schema_validation::first_offence;
 use std::alloc::Global;
 
-/// Returns the table of files that are resolved together, or the first violation: the one that starts first, and
-/// among several at the same offset the first one in the list of [`ResolveReason`]. Returns `Memory` if it runs out
-/// of memory.
+/// Returns the table of files that are resolved together, or the first violation. That is the one that starts first;
+/// of several at the same offset, the first one in the list of [`ResolveReason`] counts. Returns `Memory` if it runs
+/// out of memory.
 ///
 /// The methods have indices from 0, in the order of the files. An `optional` message is plain. A repeated field of
 /// numbers, bools or enums is packed unless it has the option `packed = false`.

@@ -1,4 +1,4 @@
-//! A law of tables. This function does nothing; its clause holds.
+//! A law of tables. The function has no effect; its clause is the law.
 
 ghost use Rattle.std.specs.Prelude.{◌≡◌};
 ghost use Rattle.mrpc_table.specs.Text.{table_text};

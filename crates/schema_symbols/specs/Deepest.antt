@@ -35,7 +35,7 @@ IsFirstOf F file all answer =
     (λ first. Contains all first × Sees F file first.file
     × ((d : Declared) → Contains all d → Sees F file d.file → first.start ≤ d.start))
 
--- the first of two declarations
+-- the one of two declarations that starts first
 abbrev pub earlier_of : Option Declared → Declared → Declared
 earlier_of None d = d
 earlier_of (Some other) d = if nat_le other.start d.start then other else d

@@ -1,4 +1,4 @@
-//! Laws of names. These functions do nothing; their clauses hold.
+//! Laws of names. The functions have no effect: each clause is a law.
 
 ghost use Rattle.std.specs.Prelude.{◌≡◌, ◌<◌, ℕ, List};
 ghost use Rattle.proto_ast.specs.Joined.{Joined};

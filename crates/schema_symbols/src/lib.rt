@@ -5,7 +5,8 @@
 //! table, [`Scopes`], is made of files that were read; clauses see it as those files. The layer above relies on three
 //! contracts. [`Scopes::find`] returns the first message or enum that a reference names among those visible to its
 //! file, or none if it names none. [`Scopes::number`] returns the same number for two scopes exactly if their full
-//! names are equal ([`one_number`]). [`Scopes::is_package`] returns true for the name of a package.
+//! names are equal ([`one_number`]). [`Scopes::is_package`] returns true exactly for the name of a package or of a
+//! prefix of one.
 //!
 //! These calls take time by the length of their input, by the depth of nesting, by the number of files, and by the
 //! logarithm of the number of types. The crate uses `mrpc_table` and `proto_ast`.

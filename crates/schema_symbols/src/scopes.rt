@@ -39,7 +39,7 @@ impl<'a> Model for Scopes<'a> {
     ghost invariant = { AreScopes };
 }
 
-// The first of two declarations.
+// The one of two declarations that starts first.
 fn first_of(known: Option<Declared>, declared: Declared) -> Declared
     ensures { result ≡ earlier_of known declared }
 {

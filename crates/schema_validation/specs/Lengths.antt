@@ -1,5 +1,5 @@
 -- The code's own: the lengths of full names and of the lines of a table's text, capped at the largest number of 64
--- bits, and the lines that were added up to a declaration.
+-- bits. Also: the lines that were added before a declaration.
 use Rattle.std.specs.Prelude.{◌≡◌, ◌⊎◌, ℕ, pos, ◌+◌, ◌<◌, ◌≢◌, List, [], ◌∷◌, ◌++◌, codes, length, map, take, sum_by, Option, Some, None, slice_get, Contains, FitsSigned}
 use Rattle.std.proofs.Common.{suc, get_or}
 use Rattle.std.specs.Int.{w32}

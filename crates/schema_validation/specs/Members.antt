@@ -60,7 +60,7 @@ pub data TypeOffends (F : Joined) (file : ℕ) (scope : List (List ℕ)) (f : Fi
     (s : Span) : Type 0 where
   unknown_type : (w : Word) → f.kind ≡ Named w → IsNoType F file scope w q s → TypeOffends F file scope f q s
   bad_key : (k v : Word) → f.kind ≡ Map k v → KeyOffends F file scope k q s → TypeOffends F file scope f q s
-  -- for a map whose value is a map, only the outer key is checked
+  -- of the types of a map whose value is a map, only the outer key is checked
   bad_outer_key : (k : Word) → f.kind ≡ NestedMap k → KeyOffends F file scope k q s → TypeOffends F file scope f q s
   unknown_value : (k v : Word) → f.kind ≡ Map k v → IsNoType F file scope v q s → TypeOffends F file scope f q s
   misplaced : IsMisplaced f → Is MapPlace f.name.span q s → TypeOffends F file scope f q s

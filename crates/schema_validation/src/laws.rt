@@ -1,4 +1,4 @@
-//! Laws of violations. These functions do nothing; their clauses hold.
+//! Laws of violations. The functions have no effect: each clause is a law.
 
 ghost use Rattle.std.specs.Prelude.{◌≡◌};
 ghost use Rattle.proto_ast.specs.Order.{Part};

@@ -15,8 +15,8 @@ pub enum ResolveReason {
     NumberRange,
     /// A field number that an earlier field of the message has.
     DuplicateNumber,
-    /// A name that is declared earlier in its scope (the values of an enum are in the scope that encloses it), or a
-    /// type with the name of a package or of a prefix of one.
+    /// A name that is declared earlier in its scope, or a type with the name of a package or of a prefix of one. The
+    /// values of an enum are in the scope that encloses it.
     DuplicateName,
     /// The number or name of a field, or of an enum's value, is reserved there.
     Reserved,

@@ -6,9 +6,9 @@
 //! and the faults of one word, and `specs/Lines.antt` those of a line. [`read_front`] reads the preamble: a first
 //! line that names the format, the limit of loads, and the table (`specs/Fronts.antt`).
 //!
-//! The crate depends on `mrpc_table` and `table_text`. The layers above use two contracts: the words of a line have
-//! exactly one list of values, or exactly one first reason; and a text has exactly one preamble, or exactly one first
-//! fault in it.
+//! The crate depends on `mrpc_table` and `table_text`. The layers above use two contracts. The words of a line have
+//! exactly one list of values, or exactly one first reason. A text has exactly one preamble, or exactly one first fault
+//! in it.
 #![tactic(auto)]
 
 mod fault;

@@ -40,7 +40,7 @@ module _ {C L : Type 0} (of_clock : ClockMembers C) (of_link : LinkMembers L) (p
     pub served : WasServed of_clock of_link plan clock e.conn s
     pub same_link : (first : L) → of_link.since first e.link → of_link.since first s.link
 
-  -- A run is over: these were the states of the connections before the threads, the bound ones were served, and their
+  -- A run is over. These were the states of the connections before the threads, the bound ones were served, and their
   -- seats were split from the whole, which has all shares.
   pub record HaveRun (ends : List (Opened L)) (standings : List (Standing L)) (met : List (Met L))
       (seats : List Drawing) : Type 0 where

@@ -26,8 +26,8 @@ use Rattle.service.specs.Served.{ArePairs, IsNewLink, WasRefused, hello_in}
 use Rattle.service.specs.declared.greeting.Greeted.{Greeted}
 use Rattle.service.specs.declared.greeting.Introduced.{Introduced}
 
--- Why a connection isn't bound, given what its link gave, its failures and whether it has ended: what was received
--- shows the cause, unless its own hello wasn't sent because its link failed at it.
+-- Why a connection isn't bound, given what its link gave, the link's failures and whether it has ended. What was
+-- received shows the cause, unless the connection's own hello wasn't sent because its link failed at it.
 pub record WasLeft (service : List ℕ) (T : Table) (given given' : Option (List ℕ)) (faults faults' : ℕ)
     (said ended : Bool) (why : Unbound) : Type 0 where
   pub stream : List ℕ

@@ -32,10 +32,10 @@ use std::alloc::Global;
 use std::sync::Wait;
 use std::thread::Threads;
 
-/// Runs a plan over the links of a fabric, to the end of each connection: opens the link of each pair, makes the
+/// Runs a plan over the links of a fabric, to the end of each connection. It opens the link of each pair, makes the
 /// handshake at both ends, and serves each bound connection with its application. Blocks until all connections are
-/// finished. `Fabric` if the fabric failed to open a link. `Memory` if any thread ran out of memory; links that were
-/// opened are then dropped.
+/// finished. `Fabric` if the fabric failed to open a link, and `Memory` if any thread ran out of memory; links that
+/// were opened are then dropped.
 pub fn serve<'t, R: Threads + Wait + Sync, F: Fabric, C: Clock, G: Gate, O: ReadyOrder>(
     rt: &'t R,
     alloc: Global,

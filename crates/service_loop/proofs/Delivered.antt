@@ -112,7 +112,7 @@ neither notices blocks (inr none) = none-some blocks (sym none)
 
 -- ---- returned numbers
 
--- the common items of two lists, in either order
+-- an item between two lists can be moved behind both
 swapped : (xs ys : List ℕ) (x : ℕ) → IsPermutation ((xs ++ x ∷ []) ++ ys) ((xs ++ ys) ++ x ∷ [])
 swapped xs ys x = subst (λ zs. IsPermutation zs ((xs ++ ys) ++ x ∷ [])) (sym (append_assoc xs (x ∷ []) ys))
     (subst (IsPermutation (xs ++ (x ∷ ys))) (sym (append_assoc xs ys (x ∷ [])))

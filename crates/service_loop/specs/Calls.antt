@@ -34,7 +34,7 @@ ask_of d = record { method = d.method; number = d.number; addr = d.addr; after =
 abbrev pub asked : Taken → Ask
 asked call = record { method = call.method; number = call.number; addr = call.addr; after = call.after }
 
--- how often a submission was rejected
+-- how often a submission was rejected because `MAX_CALLS` calls were pending
 abbrev pub turned_away : Behind → ℕ
 turned_away [] = 0
 turned_away (Away method number addr ∷ past) = turned_away past + 1

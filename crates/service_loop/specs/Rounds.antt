@@ -76,8 +76,8 @@ module _ {C Q L : Type 0} (of_clock : ClockMembers C) (of_quotas : TicketMembers
     pub tickets : (first : Q) → of_quotas.since first old.tickets → of_quotas.since first new.tickets
     pub weight : weight_of_share new.share ≡ weight_of_share old.share
 
-  -- A connection advances: its link was handed the frames of its history, the tickets of its history were drawn, it
-  -- ended only if the link's count of failures rose, and what was delivered came from the link.
+  -- A connection advances. Its link was handed the frames of its history, and the tickets of its history were drawn. It
+  -- ended exactly if the link's count of failures rose, and what was delivered came from the link.
   pub record GoesOn (old new : Endpoint C Q L) : Type 0 where
     pub handed : Hands old.submissions.conn new.submissions.conn (of_link.handed old.link) (of_link.handed new.link)
     pub draws : DrawsTickets of_quotas.knows of_quotas.drawn of_quotas.since old.submissions.conn new.submissions.conn old.tickets

@@ -11,7 +11,7 @@ use Rattle.service_loop.specs.Steps.{AreSteps, CountsAscend, HaveCome, all_taken
 use Rattle.service_loop.specs.declared.due_step.DueStep.{DueStep}
 use Rattle.service_loop.specs.declared.submissions.Submissions.{Submissions}
 
--- The calls of a connection so far: their loads are those of the reader, and they are the submissions taken from the
+-- The calls of a connection so far. Their loads are those of the reader. The calls are the submissions taken from the
 -- ring, all of them or, if the connection has ended, a prefix. The operations applied are a prefix of the scheduled
 -- ones, each in its place.
 pub record Serves (conn : Connection) (reader : Reading) (ring : Receiving) (steps : List DueStep)

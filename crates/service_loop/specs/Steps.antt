@@ -41,8 +41,8 @@ steps_in [] = []
 steps_in (Op step ∷ past) = steps_in past ++ (step, length (taken past)) ∷ []
 steps_in (_ ∷ past) = steps_in past
 
--- An operation with a count was applied at the right number of taken calls: at its count or, if the final number of
--- calls is known and lower, at that number.
+-- An operation with a count was applied when as many calls were taken as its count, or as the final number of calls, if
+-- that is known and lower.
 abbrev pub IsInPlace : Option ℕ → ℕ → ℕ → Type 0
 IsInPlace None count taken = taken ≡ count
 IsInPlace (Some all) count taken = (taken ≡ count) ⊎ ((taken ≡ all) × (all < count))

@@ -81,9 +81,9 @@ impl<'t> Deliveries<'t> {
         }
     }
 
-    /// Makes the part of a round that concerns deliveries: reclaims the blocks whose numbers came back, receives from
-    /// the link once, handles one frame, and sends notices while their rings have room. Returns whether anything was
-    /// done. The only error is `Memory`; afterwards the heap and the rings are the same ones, and nothing more is
+    /// Makes the part of a round that concerns deliveries. It reclaims the blocks whose numbers came back, receives
+    /// from the link once, handles one frame, and sends notices while their rings have room. Returns whether anything
+    /// was done. The only error is `Memory`; afterwards the heap and the rings are the same ones, and nothing more is
     /// known of them.
     pub fn round<R: Wait, L: Link>(
         &mut self,
@@ -97,8 +97,8 @@ impl<'t> Deliveries<'t> {
         ensures on { OnOk result (DeliversOn (L.given link.old) (L.given link.new) self.old self.new) }
         ensures same { AreSameDeliveries self.old self.new }
 
-        // The link counts as failed if its count of failures rises, and as ended if it reported its end. What counts
-        // as ended stays so.
+        // The link comes to count as failed exactly if its count of failures rises. It counts as ended only if it
+        // reported its end. What counts as ended stays so.
         ensures cause { OnOk result (HasCause
             ((self.old.arrivals.stream ≢ Stream.Failed) × (self.new.arrivals.stream ≡ Stream.Failed))
             (L.faults link.old) (L.faults link.new)) }

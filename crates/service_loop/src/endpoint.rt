@@ -194,8 +194,8 @@ impl<'t, C: Clock, Q: Tickets, L: Link> Endpoint<'t, C, Q, L> {
         self.deliveries.stop();
     }
 
-    /// Whether it gets no further round: both rings of the application were taken to their closing, the last drain is
-    /// done, and the rings of notices and of block numbers were closed.
+    /// Whether it gets no further round. Then both rings of the application were taken to their closing, the last
+    /// drain is done, and the rings of notices and of block numbers were closed.
     pub fn is_over(&self) -> bool
         ensures { result ≡ true → IsOver C.Clock Q.Tickets L.Link self.now }
     {

@@ -107,8 +107,8 @@ impl<'t> Submissions<'t> {
         }
     }
 
-    /// Makes the part of a round that concerns calls: applies the operations that are due, passes the clock's
-    /// timestamp to the connection, takes at most one call if there is room for another pending one, and judges and
+    /// Makes the part of a round that concerns calls. It applies the operations that are due, and passes the clock's
+    /// timestamp to the connection. It takes at most one call if there is room for another pending one, and judges and
     /// sends what can advance. After the closing of the ring it applies all remaining operations and ends the link's
     /// sending side; from then on there is nothing to do. If the link has no room for all that could be sent, it does
     /// nothing until a later round, so that no send blocks. A link that fails ends the connection, and further

@@ -15,7 +15,7 @@ use Rattle.service_threads.specs.Parts.{WasClosed}
 
 module _ {C : Type 0} (of_clock : ClockMembers C) (of_quotas : TicketMembers (List Drawing))
     (of_link : LinkMembers Queueing) where
-  -- each is a later state of the first, and finished
+  -- each is a later state of its initial one, and finished unless it ran out of memory
   pub all-closed : (firsts lasts : List (Item C)) (all : List Closed)
       → AllZip (HasTurned of_clock of_quotas of_link) firsts lasts → All (IsDone of_clock of_quotas of_link) lasts
       → AllZip (WasClosed of_clock of_quotas of_link) lasts all

@@ -48,9 +48,9 @@ echo_on o = record {
   ring = o.app.ring;
 }
 
--- what the application of a role did: the stores and calls of a client are those of its program, those of a server
--- are its program's for each request that it was notified of, and those of an echo its copies'; each gave back the
--- block of each notice, and a client those of its program before
+-- What the application of a role did. The stores and calls of a client are those of its program. Those of a server are
+-- its program's for each request that it was notified of, and those of an echo are its copies'. Each gave back the
+-- block of each notice, and a client those of its program before.
 abbrev pub DidAs : Role → Echo → BoundConn → Type 0
 DidAs (role.Client program) e b = HasMade (stores_of program) (submits_of 0 program)
     (reclaims_of program ++ blocks_of b.notices.taken b.blocks.taken) b
@@ -119,8 +119,8 @@ module _ {C L : Type 0} (of_clock : ClockMembers C) (of_link : LinkMembers L) wh
     pub table : b.submissions.conn.table ≡ table_of opening.plan opening.app
     pub limit : b.submissions.conn.limit ≡ opening.plan.loads
     pub steps : b.submissions.steps.now ≡ opening.begun.steps
-    -- its calls are those that its application submitted, in order, all of them or, if the connection has ended, a
-    -- prefix; its loads are fresh, and all scheduled operations were applied where they were due
+    -- Its calls are those that its application submitted, in order, all of them or, if the connection has ended, a
+    -- prefix. Its loads are fresh, and all scheduled operations were applied where they were due.
     pub served : IsServed b.submissions
     pub finished : b.submissions.finished ≡ true
     pub known : b.submissions.reader.known ≡ b.note.stores

@@ -66,8 +66,8 @@ pub fn meet_each<'t, R: Wait + 't, C: Clock, L: Link + Drop>(
     Ok(all)
 }
 
-/// Reconciles the parts of one connection after its threads were joined: each ring with what its sender left, the
-/// heap reader with the application's last note, and the link writer with its queue. The connection ends if only its
+/// Reconciles the parts of one connection after its threads were joined. Each ring gets what its sender left, the heap
+/// reader the application's last note, and the link writer what its queue left. The connection ends if only its
 /// writer knew that the link failed. `Memory` if one of the threads ran out of memory.
 pub fn meet<'t, R: Wait + 't, C: Clock, L: Link + Drop>(
     _rt: &R,

@@ -82,7 +82,7 @@ pub struct Left<'t, L: Link> {
 
 /// Runs applications, the writers of links and `workers` workers in parallel, each to its end, and returns what they
 /// leave. A thread that runs out of memory sets the stop flag, so that all end. `Memory` if the workers saw the flag,
-/// or if starting a thread or storing a result ran out of memory; an application's own result records whether it ran
+/// or if starting a thread or storing a result ran out of memory. An application's own result records whether it ran
 /// out of memory.
 pub fn run_threads<
     't,

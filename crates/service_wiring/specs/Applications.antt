@@ -20,7 +20,7 @@ use Rattle.service_wiring.specs.declared.applications.Job.{Job}
 
 -- ---- what it is given
 
--- An application can be run: its port is new, its program suits its role and its heap, its table is valid, and the
+-- An application can be run. Its port is new, its program suits its role and its heap, its table is valid, and the
 -- sizes of heaps and rings are in range.
 pub record IsJob (job : Job) : Type 0 where
   pub port : IsNew job.port
@@ -41,14 +41,16 @@ module _ {F : Type 0} (port : AppPort F) (end : AppEnd) (left : AppSent) where
         (reclaims_of program ++ blocks_of end.notices.taken end.blocks.taken) left
     pub reader : end.reader ≡ port.reader
 
-  -- A server does so for each request that it is notified of.
+  -- A server makes the stores and submits the replies of its program for each request that it is notified of. It gives
+  -- back the blocks of its notices. It reads nothing.
   pub record DidServer (program : List ProgramLine) : Type 0 where
     pub stores : end.note.stores ≡ all_served_stores program end.notices.taken
     pub sent : HasSent port.sender.ring port.reclaims.ring (all_served_replies program 0 end.notices.taken)
         (blocks_of end.notices.taken end.blocks.taken) left
     pub reader : end.reader ≡ port.reader
 
-  -- An echo replies to each request that it is notified of with the request's own message, if its method has a reply.
+  -- An echo replies to requests that it is notified of with their own messages, if they have a reply (`HasReply` of
+  -- `app_stub`). It gives back the blocks of its notices.
   pub record DidEcho (T : Table) : Type 0 where
     pub echoed : Echoed (record {
       table = T;

@@ -6,8 +6,8 @@ use Rattle.link_queue.specs.declared.marks.Health.TheVariants.{Failed}
 use Rattle.service_loop.specs.declared.endpoint.Endpoint.{Endpoint}
 use Rattle.service_wiring.specs.declared.closed.Closed.{Closed}
 
--- The parts are those of the connection. Its link left the frames sent and the bytes received, whether these had
--- ended, and whether the link knew of a failure, as it does if it counted one of its own.
+-- The parts are those of the connection. Its link left the frames sent, the bytes received, and whether these had
+-- ended. It also left whether it knew of a failure, as it does if it counted one of its own.
 pub record IsLeftOf {C : Type 0} (e : Endpoint C (List Drawing) Queueing) (left : Closed) : Type 0 where
   pub submissions : left.submissions ≡ e.submissions
   pub deliveries : left.deliveries ≡ e.deliveries

@@ -28,8 +28,8 @@ abbrev pub programmed_by : Role → ℕ
 programmed_by (role.Client program) = length (reclaims_of program)
 programmed_by _ = 0
 
--- the initial state of a connection: what arrived with its hello, and the reader of the heap of its messages; its
--- seats at the quotas of tenants, its scheduled operations, its clock, and its link
+-- The initial state of a connection: what arrived with its hello, and the reader of the heap of its messages. With them
+-- are its seats at the quotas of tenants, its scheduled operations, its clock, and its link.
 pub record Beginning (C L : Type 0) : Type 0 where
   pub arrivals : Arrivals
   pub life : Life
@@ -74,7 +74,7 @@ module _ {C L : Type 0} (plan : Plan) (app : Application) (first : Beginning C L
         ≡ Some job.port.blocks.ring
     pub reclaims_ring : item.deliveries.reclaims.numbers.ring ≡ job.port.reclaims.ring
 
--- Its link is a queue without pushes or pops, and whose other end is the writer's, before the link.
+-- Its link is a queue without pushes or pops. The queue's other end is the writer's, before the link.
 pub record IsWiredLink {R L : Type 0} {g : LinkMembers L} (link : L) (queue : Queueing) (writer : QueueWriter R L g)
     : Type 0 where
   pub handed : queue.handed ≡ []

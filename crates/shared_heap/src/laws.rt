@@ -12,8 +12,8 @@ pub fn loads_change_no_more()
 
 /// How the loads of calls are fresh, call by call. If nothing was loaded, they are. Now let the loads of some calls
 /// be fresh for what a reader knows, and let the reader make the loads of one more call. That call is after at most
-/// the stores that the reader knows, such as those of a note that it met. Then the loads of all calls are fresh for
-/// what the reader then knows. They stay fresh for each longer list of stores.
+/// as many stores as the reader knew before, such as those of a note that it met. Then the loads of all calls are
+/// fresh for what the reader then knows. They stay fresh for every list of stores that extends this one.
 pub fn calls_are_fresh()
     ensures none { (stores : List (ℕ × ℕ)) → Fresh [] stores }
     ensures one_more { (calls : List CallLoads) (after : ℕ) (loads : List (ℕ × ℕ)) (old new : Reading)

@@ -101,7 +101,8 @@ impl<T> Producer<T> {
         self.put_reserved(rt, item);
     }
 
-    /// Whether at least `places` slots are known to be free, after it read the consumer's announcement. Never blocks.
+    /// Whether at least `places` slots are known to be free. If fewer are, it reads the consumer's announcement first.
+    /// Doesn't wait for room. Free slots stay free until the next push.
     pub fn has_free<R: Wait>(&mut self, rt: &R, places: usize) -> bool
         ensures free { result ≡ true → places ≤ free_of self.new }
         ensures waiting { result ≡ false → capacity_of self.old < length (put_of self.old) + places }

@@ -123,7 +123,7 @@ impl<T> Lesson<T, Side<T>> for Takes {
     ghost fact = { λ v items. IsPrefix v.told (v.taken ++ items) };
 }
 
-// Of both ends together.
+// Of both ends together: what was pushed is what was popped, followed by the queued items.
 pub(crate) struct Compares;
 
 impl<T> Lesson<T, Side<T>> for Compares {

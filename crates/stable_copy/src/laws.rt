@@ -11,9 +11,9 @@ ghost use Rattle.stable_copy.specs.Untouched.{StandsUntouched};
 
 use graph_form::reading_determines_outcome;
 
-/// A reader made loads at an address, and they have an outcome. A sound graph within the limit lay there after as
-/// many stores as the reader knew at first, and no later store of the writer's list goes to it. Then the loads are
-/// those of that graph, and the outcome is a copy of its tree.
+/// A reader made loads at an address, and they have an outcome. A sound graph within the limit lay there after some
+/// first stores, all of which the reader knew before, and no later store of the writer's list goes to it. Then the
+/// loads are those of that graph, and the outcome is a copy of its tree.
 pub fn untouched_graph_is_copied()
     ensures { (T : Table) (msg address limit after : ℕ) (old new : Reading) (own all : List (ℕ × ℕ)) (P : Placed)
         (outcome : Outcome)

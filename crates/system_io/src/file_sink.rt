@@ -56,7 +56,7 @@ impl<R: Files + Drop> FileSink<R>
 where
     R::File: Lock,
 {
-    /// A sink without a write, and without a file.
+    /// A sink before its first write, without an open file.
     pub fn new(files: R) -> Self
         ensures no_file { IsNone result.file }
         ensures faults { result.faults ≡ 0 }

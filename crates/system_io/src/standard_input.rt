@@ -26,7 +26,7 @@ impl<R: Read + Drop> Model for StandardInput<R> {
 }
 
 impl<R: Read + Drop> StandardInput<R> {
-    /// A source without a read.
+    /// A source before its first read.
     pub fn new(reader: R) -> Self
         ensures left { result.left ≡ R.remaining reader }
         ensures faults { result.faults ≡ 0 }

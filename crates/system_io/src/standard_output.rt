@@ -27,7 +27,7 @@ impl<W: Write + Drop> Model for StandardOutput<W> {
 }
 
 impl<W: Write + Drop> StandardOutput<W> {
-    /// A sink without a write.
+    /// A sink before its first write.
     pub fn new(writer: W) -> Self
         ensures written { result.written ≡ W.contents writer }
         ensures faults { result.faults ≡ 0 }

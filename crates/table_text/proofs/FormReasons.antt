@@ -263,7 +263,7 @@ duplicate_said lines fs b line (method i sv n x y) s says e =
 
 -- ---- UnknownType
 
--- a line declares a type exactly if it has the type's prefix
+-- a line declares a type exactly if it is `message ` or `enum ` followed by the type's full name
 pub message_behind : (line n : List ℕ) → Says line (message n) → behind (codes "message ") line ≡ Some n
 message_behind line n h = ap (behind (codes "message ")) (text_is line ∙ ap spaced h.0)
 

@@ -1,4 +1,4 @@
--- Parts of lists, and lists with one element more. `table_text`, which reads the lines, uses both too.
+-- Parts of lists, and lists with one element more. The writer and the reader of lines both use them.
 use Rattle.std.proofs.Common.{◌≡◌, ℕ, suc, ◌+◌, ◌==◌, Bool, true, false, cond, List, [], ◌∷◌, ◌++◌, length, refl, ap, ◌∙◌, arith}
 use Rattle.std.specs.List.{enumerate_from, slice_split, onto_first}
 

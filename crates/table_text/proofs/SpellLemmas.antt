@@ -1,4 +1,4 @@
--- Lines and their words: a line that is parsed is spelled in one way, and each spelling is parsed.
+-- Lines and their words: a line that is parsed is spelled as `LineIs` defines, and a line of this spelling is parsed.
 use Rattle.std.proofs.Common.{◌≡◌, ◌≢◌, ℕ, suc, ℤ, pos, negsuc, ◌^◌, ◌<◌, ◌≤◌, ◌==◌, ◌&&◌, Bool, true, false, cond}
 use Rattle.std.proofs.Common.{List, [], ◌∷◌, ◌++◌, codes, Option, Some, None, refl, ap, sym, subst, ◌∙◌, arith, inl}
 use Rattle.std.proofs.Common.{inr, ◌⊎◌}

@@ -1,5 +1,5 @@
--- The faults of a line in a text that is no canonical text of a table, given the lines before it; and the first line at
--- fault with its first reason (this project's own).
+-- The faults of a line in a text that is no canonical text of a table, given the lines before it. Then the first line
+-- at fault with its first reason (this project's own).
 use Rattle.std.specs.Prelude.{◌≡◌, ◌≢◌, ℕ, ℤ, pos, ◌+◌, ◌<◌, ◌≤◌, true, false, List, [], ◌∷◌, ◌++◌, length, take, map, sum, All, Contains, count_by, FitsSigned, Some, slice_get}
 use Rattle.std.specs.Prelude.{Bool}
 use Rattle.std.specs.Int.{w32}
@@ -67,7 +67,7 @@ is_key_kind _ = false
 -- the line is at fault for a reason: `lines` are all lines of the text, and `before` are the forms of those before the
 -- line
 pub data Offends (lines : List (List ℕ)) (before : List Form) (line : List ℕ) (reason : TableReason) : Type 0 where
-  -- the line has no form
+  -- the line has none of the forms
   no_form : ((f : Form) → Says line f → ⊥) → reason ≡ Syntax → Offends lines before line reason
   -- it is out of order: enums come first, then messages, and methods last
   enum_behind_message : (name other : List ℕ) → Says line (enum name) → Contains before (message other)
@@ -134,7 +134,7 @@ pub data Offends (lines : List (List ℕ)) (before : List Form) (line : List ℕ
       → Says line (method index service name input output)
       → Contains before (method other service name other_input other_output) → reason ≡ Duplicate
       → Offends lines before line reason
-  -- no line of the text declares a type that the line uses
+  -- the line uses a type that no line of the text declares
   unknown_type : (f type : Form) → Says line f → Contains (types_used f) type
       → ((other : List ℕ) → Contains lines other → Says other type → ⊥) → reason ≡ UnknownType
       → Offends lines before line reason
@@ -196,7 +196,7 @@ order_of Limit = 6
 abbrev pub IsFirstFault : List ℕ → ℕ → TableReason → Type 0
 IsFirstFault text line reason = first.IsFirstFault (IsAgainst text) order_of line reason
 
--- what a fault means of a text; running out of memory depends on no text
+-- what a fault means of a text; `Memory` can come with any text
 abbrev pub IsFaultOf : List ℕ → TableFault → Type 0
 IsFaultOf text (fault.At line reason) = IsFirstFault text line reason
 IsFaultOf text fault.Memory = Unit {0}

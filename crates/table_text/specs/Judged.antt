@@ -164,7 +164,7 @@ is_number b (Field f) = not (has_field_number f.number)
 is_number b (Method m) = lacks_zero b.open_part || not (is_index m.index (length b.methods))
 
 -- Duplicate: an earlier line has the name of a type, of a value in its enum, of a field in its message or of a method
--- in its service; the previous field has the number
+-- in its service. Or the previous field has the number.
 abbrev pub is_type_before : Before → List ℕ → Bool
 is_type_before b name = is_among name b.enums || is_among name b.messages
 
@@ -265,7 +265,7 @@ end_fault b rest =
     else if lacks_zero b.open_part then Some Number
     else None
 
--- the first reason for which the line after i whole lines is at fault
+-- the first reason for which the line after i whole lines, or the end of the text, is at fault
 abbrev pub fault_behind : List (List ℕ) → List ℕ → ℕ → Option TableReason
 fault_behind lines rest i =
     option_map_or
@@ -282,7 +282,7 @@ pub record IsFirstJudged (text : List ℕ) (line : ℕ) (reason : TableReason) :
   pub here : fault_at text (line - 1) ≡ Some reason
   pub none_before : (i : ℕ) → i + 1 < line → fault_at text i ≡ None
 
--- what a fault means of a text by the tests; running out of memory depends on no text
+-- what a fault means of a text by the tests; `Memory` can come with any text
 abbrev pub IsJudgedOf : List ℕ → TableFault → Type 0
 IsJudgedOf text (fault.At line reason) = IsFirstJudged text line reason
 IsJudgedOf text fault.Memory = Unit {0}

@@ -13,17 +13,17 @@ use thiserror::Error;
 pub enum TableReason {
     /// A line has the wrong form or is out of order, a label doesn't go with its kind, or an enum has no value.
     Syntax,
-    /// A field number is outside 1 to 536870911 or within 19000 to 19999, an enum value isn't a signed 32-bit number,
-    /// an enum has no value 0, or the index of a method isn't the next one.
+    /// A field number is outside 1 to 536870911 or within 19000 to 19999, or an enum value isn't a signed 32-bit
+    /// number. Also: an enum has no value 0, or the index of a method isn't the next one.
     Number,
     /// A name or a field number occurs twice.
     Duplicate,
-    /// No line of the text declares the message or enum.
+    /// A line uses a message or an enum that no line of the text declares.
     UnknownType,
     /// The key of a map is neither integral, nor a bool, nor a string.
     MapKey,
-    /// A limit is exceeded: 256 messages, enums or methods, 128 fields of a message, 1024 values of an enum, 64 bytes
-    /// of a name, 255 bytes of a full name, or 65536 bytes of text.
+    /// A limit is exceeded. The limits are 256 messages, enums or methods, 128 fields of a message, and 1024 values of
+    /// an enum; 64 bytes of a name, 255 bytes of a full name, and 65536 bytes of text.
     Limit,
 }
 

@@ -13,7 +13,7 @@ use crate::{KindWord, LabelWord, Line, behind, line_of};
 use mrpc_table::{MAX_TEXT, Memory, cut};
 use std::alloc::Global;
 
-// The suffixes of the whole lines of a text that have a prefix.
+// What follows a prefix, in each whole line of a text that has it.
 fn names_behind(alloc: Global, prefix: &[u8], text: &[u8]) -> Result<Places, Memory>
     ensures { IfOk result (λ p. Holds p (filter_map (behind prefix.now) (whole_lines text.now))) }
 {
@@ -99,7 +99,7 @@ fn add_kind(alloc: Global, names: &mut Places, kind: &KindWord) -> Result<(), Me
     }
 }
 
-// The suffixes of the near lines that have a prefix, and those of the far lines that are used.
+// What follows a prefix, in each whole near line that has it, and in each far one if it is one of the used names.
 fn names_within(
     alloc: Global,
     prefix: &[u8],

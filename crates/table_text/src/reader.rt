@@ -18,8 +18,8 @@ use mrpc_table::{
 };
 use std::alloc::Global;
 
-// A table while its text is read. It has the types that the text names, and the names so far: of enums, of messages, of
-// methods with their services, of the values or fields of the open part, and of its oneofs.
+// A table while its text is read, with the types that the text names. It also has the names so far: of enums, messages
+// and methods with their services, of the values or fields of the open part, and of its oneofs.
 pub(crate) struct Reader {
     pub known_enums: Places,
     pub known_messages: Places,
@@ -142,7 +142,7 @@ impl Reader {
         }
     }
 
-    // Whether no line declares a type that the line uses.
+    // Whether the line uses a type that no line declares.
     fn is_unknown(&self, line: &Line) -> bool
         ensures { (t : Types) → IsKept t self.now → result ≡ is_unknown t line.now }
     {

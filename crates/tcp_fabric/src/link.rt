@@ -201,7 +201,7 @@ impl<'r, R: Wait + Clock, S: Socket + Drop> Link for SocketLink<'r, R, S> {
 
     ghost itself = { λ _. (refl, refl) };
 
-    // A failed send means nothing further.
+    // Nothing more is known after a failed send.
     ghost refused = { λ _ _ _. ⊤ };
 
     fn send(&mut self, frame: &[u8]) -> Handed

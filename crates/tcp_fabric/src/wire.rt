@@ -198,7 +198,7 @@ fn after_failure(incoming: Incoming) -> Incoming
     }
 }
 
-// Yields to other threads, and sleeps after some calls. Returns the number of calls so far.
+// Yields to other threads, or sleeps after `TURNS_AWAKE` yields. Returns the number of yields so far.
 fn pause<R: Clock>(rt: &R, turns: u32) -> u32 {
     if turns < TURNS_AWAKE {
         thread::yield_now();

@@ -106,7 +106,7 @@ impl Seats {
         seats
     }
 
-    /// The law of tickets: for each seat that has all shares of its quota, the tickets of each window are 0, 1, 2 and
+    /// The law of tickets, for each seat that has all shares of its quota. The tickets of each window are 0, 1, 2 and
     /// so on, each once, provided that they are fewer than 2^64.
     pub fn tickets_are_distinct(&self)
         ensures { All (λ seat. seat.share ≡ all_shares → AllOnce WINDOWS seat.draws) self.now }

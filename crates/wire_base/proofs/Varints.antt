@@ -30,7 +30,7 @@ groups-step i n h large =
     let e : 9 - i ≡ suc (9 - (i + 1)) = omega arith in
     ap (λ m. groups m n) e ∙ groups-large (9 - (i + 1)) n large
 
--- the remaining number stays below what its position allows
+-- the remaining number, times the power of its position, stays at most the whole number
 pub rest-small : (i n v : ℕ) → n * 128 ^ i ≤ v → n / 128 * 128 ^ (i + 1) ≤ v
 rest-small i n v h =
     let power : 128 ^ (i + 1) ≡ 128 ^ i * 128 = pow-add 128 i 1 in

@@ -1,5 +1,5 @@
--- The encoding of a tree (Protocol Buffers, "Encoding"): the records of each field in the order of the
--- tree, with shortest varints; a packed field is one record, a map is one record for each entry.
+-- The encoding of a tree (Protocol Buffers, "Encoding"): the records of each field in the order of the tree, with
+-- shortest varints. A packed field is one record, and a map is one record for each entry.
 use Rattle.std.specs.Prelude.{ℕ, zero, suc, ◌+◌, ◌-◌, ◌*◌, ◌/◌, ◌%◌, ◌^◌, List, [], ◌∷◌, ◌++◌, length, if◌then◌else◌, nat_lt, Bool, true, false}
 use Rattle.std.specs.Int.{w32, w64, to_le_bytes}
 use Rattle.mrpc_table.specs.Node.{Node, no_fields, field, Content, one, many, pairs, Item, number, run, node, Items, no_items, item, Pairs, no_pairs, pair}

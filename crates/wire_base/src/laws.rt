@@ -9,7 +9,8 @@ ghost use Rattle.wire_base.specs.declared.records.Record.{Record};
 ghost use Rattle.wire_base.specs.declared.fault.WireReason.{WireReason};
 ghost use Rattle.wire_base.specs.declared.fault.WireFault.{WireFault};
 
-/// The shortest varint of a number has one to ten bytes, and is read back as the number at any offset.
+/// The shortest varint of a number has one to ten bytes. At any offset it is read back as the number if that is below
+/// 2^64.
 pub fn varint_is_read_back()
     ensures some { (v : ℕ) → 1 ≤ length (varint v) }
     ensures ten { (v : ℕ) → length (varint v) ≤ MAX_VARINT }

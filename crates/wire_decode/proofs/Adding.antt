@@ -54,7 +54,7 @@ pub most-pushed : (m n : ℕ) (c : Content) (t : Node) → n ≤ m → NumbersAr
 most-pushed m n c no_fields le h = (le, tt)
 most-pushed m n c (field k d t) le h = (h.0, most-pushed m n c t le h.1)
 
--- the number of the last field is unchanged by another content
+-- the order of the numbers stays if the last field gets another content
 pub rise_from-swapped : (last n : ℕ) (c d : Content) (t : Node) → NumbersAscend last (push_field t n c) → NumbersAscend last (push_field t n d)
 rise_from-swapped last n c d no_fields h = h
 rise_from-swapped last n c d (field m e t) h = (h.0, rise_from-swapped m n c d t h.1)

@@ -56,7 +56,7 @@ no_first : (k : Kind) (bytes : List ℕ) (at : ℕ) → at < length bytes → ((
 no_first k bytes at more none [] h = omega (arith, more, h)
 no_first k bytes at more none (w ∷ ws) h = none h.0 h.1 h.2
 
--- no further elements follow the only one there
+-- if no elements follow the only one there, the bytes are no elements
 no_rest : Law → (k : Kind) (bytes : List ℕ) (at : ℕ) (p : Payload) (next : ℕ) → at < length bytes → PayloadAt bytes at (wire_type_of k) p next
     → ((ws : List ℕ) → AreElements k bytes next ws → ⊥) → (ws : List ℕ) → AreElements k bytes at ws → ⊥
 no_rest law k bytes at p next more here none [] h = omega (arith, more, h)

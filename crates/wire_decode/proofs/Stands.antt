@@ -47,7 +47,7 @@ stands-slice bytes at piece end e h =
     ∙ ap (take n) (drop_at h.before (piece ++ h.after) at (sym h.place))
     ∙ take_at piece h.after n refl
 
--- bytes that are cut after them
+-- bytes that are cut after the piece
 pub stands-cut : (bytes : List ℕ) (at : ℕ) (piece : List ℕ) (end : ℕ) → end ≡ at + length piece → Stands bytes at piece → Stands (take end bytes) at piece
 stands-cut bytes at piece end e h =
     let front = h.before ++ piece in

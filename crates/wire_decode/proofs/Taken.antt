@@ -1,4 +1,4 @@
--- The message of contents, where each field removes the contents of its number: in a table whose fields ascend this is
+-- The message of contents, where each field removes the contents of its number. In a table whose fields ascend this is
 -- `merged`, and in any other the first field of a number gets its contents.
 use Rattle.std.proofs.Common.{◌≡◌, ◌≢◌, ℕ, zero, suc, List, [], ◌∷◌, Some, None, refl, ap, sym, subst, ◌∙◌, arith, ⊎_elim}
 use Rattle.std.proofs.Math.Path.{fun_ext}

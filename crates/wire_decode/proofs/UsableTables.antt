@@ -1,4 +1,4 @@
--- The facts of a valid table that the meaning of bytes needs: in each message the numbers ascend from 1 to below 2^29,
+-- The facts of a valid table that the meaning of bytes needs. In each message the numbers ascend from 1 to below 2^29,
 -- no key is a message, and what is packed is a number.
 use Rattle.std.proofs.Common.{◌≡◌, ℕ, zero, suc, ◌^◌, ◌<◌, ◌≤◌, List, [], ◌∷◌, length, get_or, All, Some, None, true}
 use Rattle.std.proofs.Common.{false, refl, subst, ◌∙◌, arith, slice_get, option_map, unwrap_or}

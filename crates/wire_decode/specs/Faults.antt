@@ -1,4 +1,4 @@
--- The first fault of a byte string that isn't a message of the table: valid records follow each other up to an offset,
+-- The first fault of a byte string that isn't a message of the table. Valid records follow each other up to an offset,
 -- and there is no record there, or the payload of a known field is at fault.
 use Rattle.std.specs.Prelude.{◌-◌, ◌≡◌, ℕ, suc, ◌<◌, true, false, List, [], ◌∷◌, length, take, Some, slice_range}
 use Rattle.std.specs.Str.{IsUtf8}
@@ -44,8 +44,8 @@ pub record HasPayload (fields : List Field) (bytes : List ℕ) (at : ℕ) (f : F
   pub known : field_at fields number ≡ Some f
 
 mutual
-  -- the first fault after an offset, of the bytes as a message of these fields; messages may nest `room` more levels
-  -- deep inside
+  -- the first fault at or after an offset, of the bytes as a message of these fields; messages may nest `room` more
+  -- levels deep inside
   pub data FirstFault (T : Table) : ℕ → List Field → List ℕ → ℕ → DecodeReason → ℕ → Type 0 where
     first_fault : {room : ℕ} {fields : List Field} {bytes : List ℕ} {from : ℕ} {reason : DecodeReason} {place : ℕ}
         (before : List Record) (at : ℕ) → AreSound T room fields bytes from before at

@@ -23,8 +23,8 @@ pub record HasOneMore (form : Form) (old : Node) (number : ℕ) (content : Conte
   pub rise : NumbersRise old → NumbersAreAtMost number old → NumbersRise new
   pub most : (limit : ℕ) → number ≤ limit → NumbersAreAtMost limit old → NumbersAreAtMost limit new
 
--- The combined contents are the raw ones, combined: their numbers ascend, none is above the greatest raw one, and each
--- field has the same final content from its combined content as from its raw ones, whatever follows.
+-- The held contents are the raw ones, combined. Their numbers ascend, and none is above the greatest raw one. Each
+-- field has the same final content from its held content as from its raw ones, whatever follows.
 pub record IsGathered (fields : List Field) (raw held : Node) : Type 0 where
   pub rise : NumbersRise held
   pub most : (limit : ℕ) → NumbersAreAtMost limit raw → NumbersAreAtMost limit held

@@ -23,8 +23,8 @@ use Rattle.wire_decode.specs.Contents.{default_of, some_items, some_pairs, with_
 use Rattle.wire_decode.specs.Oneofs.{are_rivals}
 use Rattle.wire_decode.specs.Contents.{single_content}
 
--- the value in a record of a field: a number, the numbers of a packed payload, or the bytes of a string, of bytes, of a
--- message or of an entry
+-- the value in a record of a field: a number, the numbers of a packed payload, or the bytes of a string, bytes, message
+-- or entry
 pub data Value : Type 0 where
   single : ℕ → Value
   packed : List ℕ → Value

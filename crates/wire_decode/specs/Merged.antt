@@ -1,4 +1,4 @@
--- The message that the contents of records, in the order of the bytes, represent: each field gets its value from the
+-- The message that the contents of records, in the order of the bytes, represent. Each field gets its value from the
 -- records of its number alone (Protocol Buffers, "Encoding": "Last One Wins", "Oneofs", "Maps").
 use Rattle.std.specs.Prelude.{◌==◌, ◌||◌, ℕ, zero, suc, Bool, false, List, [], ◌∷◌, ◌++◌, map, Option, Some, None, unwrap_or, if◌then◌else◌}
 use Rattle.mrpc_table.specs.Node.{Node, no_fields, field, Content, one, many, pairs, Item, number, run, node, Items, no_items, item}
@@ -88,8 +88,8 @@ abbrev pub is_overtaken : List Field → ℕ → Node → Bool
 is_overtaken fs n no_fields = false
 is_overtaken fs n (field m c t) = are_rivals fs n m || is_overtaken fs n t
 
--- the records that count: of a oneof, those without a later record of another member, which are the longest suffix of
--- the oneof's records that are all of the last member
+-- The records that count. Of a oneof these are the ones without a later record of another member: the longest suffix of
+-- the oneof's records that are all of the last member.
 abbrev pub counted : List Field → Node → Node
 counted fs no_fields = no_fields
 counted fs (field n c t) = if is_overtaken fs n t then counted fs t else field n c (counted fs t)

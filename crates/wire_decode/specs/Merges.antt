@@ -1,5 +1,5 @@
--- The message that the records of a byte string are merged to, as the reader does it: first the contents of the
--- records, each read by itself, then each field's own contents merged.
+-- The message that the records of a byte string are merged to, as the reader does it. It first reads the contents of
+-- the records, each by itself, and then merges each field's own contents.
 use Rattle.std.specs.Prelude.{◌-◌, ◌≡◌, ℕ, List}
 use Rattle.mrpc_table.specs.Node.{Node}
 use Rattle.mrpc_table.specs.Normal.{fields_of}

@@ -1,18 +1,18 @@
 //! The decoder: the message that Protocol Buffers bytes mean, or their first fault.
 //!
 //! The format is that of the Protocol Buffers encoding guide. If the records come in the order of the fields, as
-//! encoders write them, they are read straight into the tree, in vectors of earlier trees if the pool has some (`Spare`
-//! of `wire_decode`). Otherwise they are read in one pass into the contents of their records, in order. Then each field
-//! gets its value from its own records, and the tree its fields by ascending number. This takes time linear in the
-//! bytes, except for sorting records and the entries of maps. `specs/Meaning.antt` defines what bytes mean, rule by
-//! rule, and `specs/Faults.antt` the first fault. This crate depends on `mrpc_table` and `wire_base`.
-//! The layers above use one contract: the result is the meaning, or the first fault exactly if there is no meaning.
+//! encoders write them, they are read straight into the tree. Otherwise they are read in one pass into the contents of
+//! their records, in order. Then each field gets its value from its own records, and the tree its fields by ascending
+//! number. Both ways take time linear in the bytes, except for sorting records and the entries of maps.
+//! `specs/Meaning.antt` defines what bytes mean, rule by rule, and `specs/Faults.antt` the first fault.
 //!
-//! A pool of vectors from trees that are no longer needed, for trees that are read later.
+//! A [`Spare`] is a pool of vectors from trees that are no longer needed. It takes trees back, and gives their emptied
+//! vectors to code that builds other trees. [`decode_with`] uses it for records that come in order.
 //!
-//! A [`Spare`] takes trees back, and gives their emptied vectors to code that builds other trees. It depends on
-//! `mrpc_table`, whose trees these are. The layers above use one contract: each vector is empty, a run has the
-//! requested bytes, and no more is ever kept than `specs/Kept.antt` allows, whatever was taken back.
+//! This crate depends on `mrpc_table`, whose trees these are, and on `wire_base`. The layers above use two contracts.
+//! The result of decoding is the meaning, or the first fault exactly if there is no meaning. A vector from the pool is
+//! empty, a run has the requested bytes, and no more is ever kept than `specs/Kept.antt` allows, whatever was taken
+//! back.
 #![tactic(auto)]
 
 mod fault;

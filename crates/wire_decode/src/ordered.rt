@@ -324,7 +324,8 @@ fn ordered_values(
 }
 
 // Reserves capacity in a new vector, for the value of this record and those of the later ones; `again` is where the tag
-// of the next one ends. Mostly there is none, and the bytes aren't looked at. A reused vector grows as needed.
+// of the next record ends, if it is the same tag. Mostly there is no such record, and the bytes aren't looked at. A
+// reused vector grows as needed.
 #[inline(always)]
 fn room_ahead<T>(vector: &mut Vec<T>, bytes: &[u8], again: Option<usize>, tag: u32) -> Option<()>
     requires { IfSome again (λ first. first ≤ length bytes.now) }

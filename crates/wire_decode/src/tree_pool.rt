@@ -53,10 +53,10 @@ impl Spare {
         }
     }
 
-    /// Recycles a tree that is no longer needed: keeps the vectors of its fields, lists and maps, emptied, those of its
-    /// runs, whose bytes stay until they are reused, and those of the messages in it. A vector above the limits is
-    /// dropped, and so is one that can't be kept because it is out of memory. Takes time linear in the parts of the
-    /// tree.
+    /// Recycles a tree that is no longer needed. It keeps the vectors of its fields, lists and maps, emptied, and those
+    /// of the messages in it. It also keeps those of its runs, whose bytes stay until they are reused. A vector above
+    /// the limits is dropped, and so is one that can't be kept because it is out of memory. Takes time linear in the
+    /// parts of the tree.
     #[cycle(take_back)]
     pub fn take_back(&mut self, tree: Tree)
         ensures { IsBounded self.new }

@@ -4,7 +4,7 @@ use Rattle.std.specs.Borrow.{MutBor}
 use Rattle.worker_pool.specs.declared.visited.Visit.{Visit}
 use Rattle.worker_pool.specs.declared.visited.Visit.TheVariants.{Over}
 
--- whatever state the item was later than, it still is; and if the visit returned `Over`, the item is finished
+-- the item is still later than each state that it was later than; and if the visit returned `Over`, it is finished
 pub record Leaves {T : Type 0} (since : T → T → Type 0) (over : T → Type 0) (old : T) (came : Visit) (new : T) : Type 0
   where
     pub same_item : (first : T) → since first old → since first new

@@ -30,7 +30,7 @@ pub struct Ran<T> {
     pub stopped: bool,
 }
 
-/// Visits items with up to `workers` workers, until all are finished or the stop flag is set, and returns them. A
+/// Visits items with `workers` workers, until all are finished or the stop flag is set, and returns them. A
 /// visit does what can be done now, and may block only if the item's own handle allows it. Items are numbered by
 /// their indices in the list. If no thread can be started, the workers run one after another.
 ///
@@ -115,7 +115,7 @@ fn enter<R: Wait, T: Visited>(rt: &R, line: &Line<T>, pass: &mut LinePass<T>, nu
     }
 }
 
-// The workers, each with one part and with room for every item.
+// `workers` workers, each with one part and with room for every item.
 fn start<T: Visited + Drop>(
     alloc: Global,
     line: &Line<T>,

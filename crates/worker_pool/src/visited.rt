@@ -12,11 +12,11 @@ pub enum Visit {
 }
 
 /// An item of a pool: a connection with everything that belongs to it. One worker at a time holds it by value; each
-/// time it may be a different one. A visit is a closure that a run is given, so it can use whatever its types let
-/// threads share.
+/// time it may be a different one. What a visit does isn't part of the trait but a closure that a run is given. So it
+/// may call functions that require types which threads can share.
 pub trait Visited {
     /// `since first later`: `later` is a later state of the item `first`. Every visit preserves it. It defines which
-    /// parts of an item are constant, such as what its references view, and how the others may change.
+    /// parts of an item are constant, what its references show included, and how the others may change.
     ghost since: { Self → Self → Type 0 };
 
     /// The item is finished.

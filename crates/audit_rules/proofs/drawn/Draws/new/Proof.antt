@@ -1,4 +1,4 @@
--- A value of no bytes, whose ghost field is the empty list.
+-- A zero-sized value whose ghost field is the empty list.
 use mathlib.Core.Path.{refl}
 use mathlib.Core.List.{[], ◌∷◌}
 use seplogic.Ra.Ura.{Ura}

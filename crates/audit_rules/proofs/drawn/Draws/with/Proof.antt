@@ -1,4 +1,4 @@
--- A value of no bytes, whose ghost field is the list with one more draw.
+-- A zero-sized value whose ghost field is the list with one more draw.
 use mathlib.Core.Path.{refl}
 use mathlib.Core.List.{[], ◌∷◌}
 use seplogic.Ra.Ura.{Ura}

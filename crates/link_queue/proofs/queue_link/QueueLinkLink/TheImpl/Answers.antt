@@ -1,4 +1,4 @@
--- No call changes the two queues or the most frames in the queue.
+-- No call changes the two queues or their capacity for frames.
 use Rattle.std.proofs.Common.{ap, refl, Some, ◌∙◌}
 use Rattle.link_queue.proofs.queue_link.QueueLinkLink.TheImpl.Goals as goal
 
